@@ -1,0 +1,10 @@
+pub mod Examples
+pub mod ListLemmas
+pub mod ReadyLemmas
+pub mod RunnableLemmas
+pub mod StepLemmas
+pub mod KeptLemmas
+pub mod RulesLemmas
+pub mod FairLemmas
+pub mod FitsLemmas
+pub mod LinkedLemmas

@@ -1,0 +1,7 @@
+use Rattle.std.proofs.Common.{take}
+use Rattle.std.specs.List.{AllByRecursion}
+use Rattle.actor_turn.specs.Fits.{RuleFits}
+use Rattle.actor_turn.proofs.texts.rule_texts.Given as goal
+
+abbrev pub invariant-loop-rule : goal.invariant-loop-rule
+invariant-loop-rule l = AllByRecursion RuleFits (take l.rule-index l.rule-items)

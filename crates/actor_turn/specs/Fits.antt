@@ -1,0 +1,113 @@
+-- A run that fits a plan: what its types allow and a log of it can say.
+use Rattle.std.specs.Prelude.{◌≡◌, ℕ, ◌+◌, ◌-◌, ◌^◌, ◌<◌, ◌≤◌, length, map, true, IfSome, FitsSigned}
+use Rattle.std.specs.Int.{w64}
+use Rattle.std.specs.List.{AllByRecursion}
+use Rattle.std.specs.List.Sorted.{IsStrictlyIncreasing}
+use Rattle.join_base.specs.Text.{IsText}
+use Rattle.join_base.specs.declared.message.Value.{Value}
+use Rattle.join_base.specs.declared.message.Value.TheVariants.{Int, Words}
+use Rattle.join_base.specs.declared.message.Message.{Message}
+use Rattle.join_base.specs.declared.message.Source.{Source}
+use Rattle.join_base.specs.declared.message.Source.TheVariants.{Feed, Actor}
+use Rattle.guard_eval.specs.declared.term.WordsLeaf.{WordsLeaf}
+use Rattle.guard_eval.specs.declared.term.WordsLeaf.TheVariants as words
+use Rattle.guard_eval.specs.declared.term.Operand.{Operand}
+use Rattle.guard_eval.specs.declared.term.Operand.TheVariants as operand
+use Rattle.script_types.specs.declared.plan.Item.{Item}
+use Rattle.script_types.specs.declared.plan.Item.TheVariants as item
+use Rattle.script_types.specs.declared.plan.Statement.{Statement}
+use Rattle.script_types.specs.declared.plan.Statement.TheVariants as statement
+use Rattle.script_types.specs.declared.plan.Rule.{Rule}
+use Rattle.script_types.specs.declared.plan.Plan.{Plan}
+use Rattle.actor_turn.specs.declared.run.Effect.{Effect}
+use Rattle.actor_turn.specs.declared.run.Effect.TheVariants as effect
+use Rattle.actor_turn.specs.declared.run.Firing.{Firing}
+use Rattle.actor_turn.specs.declared.run.Entry.{Entry}
+use Rattle.actor_turn.specs.declared.run.ActorRun.{ActorRun}
+use Rattle.actor_turn.specs.declared.run.Run.{Run}
+use Rattle.actor_turn.specs.Step.{fits}
+use Rattle.actor_turn.specs.Fair.{sorts_of}
+
+-- a 64-bit integer, or UTF-8 of at most 120 bytes
+abbrev pub ValueFits : Value → Type 0
+ValueFits (Int n) = FitsSigned w64 n
+ValueFits (Words bytes) = IsText 120 bytes
+
+pub record MessageFits (plan : Plan) (message : Message) : Type 0 where
+  pub kind : fits (sorts_of plan.kinds) message ≡ true
+  pub values : AllByRecursion ValueFits message.fields
+
+-- a message for an actor of the plan
+pub record PostFits (plan : Plan) (post : ℕ × Message) : Type 0 where
+  pub actor : post.0 < length plan.actors
+  pub message : MessageFits plan post.1
+
+abbrev pub SourceFits : Plan → ℕ → Source → Type 0
+SourceFits plan feeds (Feed k) = (1 ≤ k) × (k ≤ feeds)
+SourceFits plan feeds (Actor a) = a < length plan.actors
+
+abbrev pub EffectFits : Plan → Effect → Type 0
+EffectFits plan (effect.Print line) = IsText 1920 line
+EffectFits plan (effect.Post target message) = (target < length plan.actors) × MessageFits plan message
+
+pub record FiringFits (plan : Plan) (firing : Firing) : Type 0 where
+  pub rule : firing.rule < 2 ^ 32
+  pub some : 1 ≤ length firing.taken
+  pub few : length firing.taken ≤ 8
+  pub numbers : AllByRecursion (λ n. n < 2 ^ 32) firing.taken
+  pub effects : AllByRecursion (EffectFits plan) firing.effects
+
+pub record EntryFits (plan : Plan) (feeds : ℕ) (entry : Entry) : Type 0 where
+  pub number : entry.number < 2 ^ 32
+  pub source : SourceFits plan feeds entry.source
+  pub message : MessageFits plan entry.message
+  pub firing : IfSome entry.firing (FiringFits plan)
+
+-- a rule whose fixed texts are texts
+abbrev pub WordsFit : WordsLeaf → Type 0
+WordsFit (words.Fixed bytes) = IsText 120 bytes
+WordsFit (words.Field place) = Unit {0}
+
+abbrev pub ItemFits : Item → Type 0
+ItemFits (item.Words leaf) = WordsFit leaf
+ItemFits (item.Plain place) = Unit {0}
+ItemFits (item.Sum term) = Unit {0}
+
+abbrev pub OperandFits : Operand → Type 0
+OperandFits (operand.Sum term) = Unit {0}
+OperandFits (operand.Words leaf) = WordsFit leaf
+
+abbrev pub StatementFits : Statement → Type 0
+StatementFits (statement.Print items) = AllByRecursion ItemFits items
+StatementFits (statement.Post target kind operands) = AllByRecursion OperandFits operands
+StatementFits statement.Stop = Unit {0}
+
+abbrev pub RuleFits : Rule → Type 0
+RuleFits rule = AllByRecursion StatementFits rule.body
+
+-- where a source stands among all: the feeds first
+abbrev pub source_place : ℕ → Source → ℕ
+source_place feeds (Feed k) = k - 1
+source_place feeds (Actor a) = feeds + a
+
+pub record LateFits (plan : Plan) (feeds : ℕ) (late : Source × ℕ) : Type 0 where
+  pub source : SourceFits plan feeds late.0
+  pub above_zero : 0 < late.1
+  pub small : late.1 < 2 ^ 64
+
+pub record ActorRunFits (plan : Plan) (feeds : ℕ) (run : ActorRun) : Type 0 where
+  pub entries : AllByRecursion (EntryFits plan feeds) run.entries
+  pub late : AllByRecursion (LateFits plan feeds) run.late
+  pub in_order : IsStrictlyIncreasing (map (λ (l : Source × ℕ). source_place feeds l.0) run.late)
+  pub left : AllByRecursion (λ n. n < 2 ^ 32) run.left
+  pub partials : run.partials < 2 ^ 64
+
+abbrev pub IsFrom1To : ℕ → ℕ → Type 0
+IsFrom1To most n = (1 ≤ n) × (n ≤ most)
+
+pub record RunFits (plan : Plan) (run : Run) : Type 0 where
+  pub arrivals : IsFrom1To 1000000 run.limits.arrivals
+  pub partials : IsFrom1To 1000000 run.limits.partials
+  pub feeds : IsFrom1To 16 run.feeds
+  pub actors : length run.actors ≡ length plan.actors
+  pub each : AllByRecursion (ActorRunFits plan run.feeds) run.actors

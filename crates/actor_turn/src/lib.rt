@@ -1,0 +1,16 @@
+//! One actor: its fair steps, and the run that it shows.
+#![tactic(auto)]
+
+mod actor;
+mod body;
+mod choose;
+mod conclude;
+mod opening;
+mod run;
+mod texts;
+
+pub use actor::Actor;
+pub use run::{ActorRun, Effect, Ending, Entry, Firing, Limits, Outcome, Run};
+
+#[cfg(test)]
+mod tests;

@@ -1,0 +1,80 @@
+//! What the types of a plan say of its texts. These calls only tell it to their callers.
+ghost use Rattle.std.specs.List.{AllByRecursion};
+ghost use Rattle.actor_turn.specs.Fits.{ItemFits, OperandFits, RuleFits, StatementFits, WordsFit};
+
+use guard_eval::{Operand, WordsLeaf};
+use join_base::Items;
+use script_types::{Item, Rule, Statement};
+
+fn leaf_text(leaf: &WordsLeaf)
+    ensures { WordsFit leaf.now }
+{
+    match leaf {
+        WordsLeaf::Fixed(text) => {
+            let _ = text.bytes();
+        }
+        WordsLeaf::Field(_) => {}
+    }
+}
+
+fn item_text(item: &Item)
+    ensures { ItemFits item.now }
+{
+    match item {
+        Item::Words(leaf) => leaf_text(leaf),
+        Item::Plain(_) => {}
+        Item::Sum(_) => {}
+    }
+}
+
+fn operand_text(operand: &Operand)
+    ensures { OperandFits operand.now }
+{
+    match operand {
+        Operand::Sum(_) => {}
+        Operand::Words(leaf) => leaf_text(leaf),
+    }
+}
+
+fn item_texts(items: &Items<Item>)
+    ensures { AllByRecursion ItemFits items.now }
+{
+    for item in items.as_slice() {
+        item_text(item);
+    }
+}
+
+fn operand_texts(operands: &Items<Operand>)
+    ensures { AllByRecursion OperandFits operands.now }
+{
+    for operand in operands.as_slice() {
+        operand_text(operand);
+    }
+}
+
+fn statement_texts(statement: &Statement)
+    ensures { StatementFits statement.now }
+{
+    match statement {
+        Statement::Print(items) => item_texts(items),
+        Statement::Post { operands, .. } => operand_texts(operands),
+        Statement::Stop => {}
+    }
+}
+
+fn body_texts(body: &Items<Statement>)
+    ensures { AllByRecursion StatementFits body.now }
+{
+    for statement in body.as_slice() {
+        statement_texts(statement);
+    }
+}
+
+/// Every fixed text of the rules is UTF-8 of at most 120 bytes.
+pub fn rule_texts(rules: &Items<Rule>)
+    ensures { AllByRecursion RuleFits rules.now }
+{
+    for rule in rules.as_slice() {
+        body_texts(&rule.body);
+    }
+}

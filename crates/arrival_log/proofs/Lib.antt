@@ -1,0 +1,5 @@
+pub mod CommaLemmas
+pub mod Examples
+pub mod HeadLemmas
+pub mod SampleRuns
+pub mod SectionLemmas

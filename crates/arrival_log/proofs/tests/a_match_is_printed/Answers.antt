@@ -1,0 +1,12 @@
+use Rattle.std.proofs.Common.{sym, subst}
+use Rattle.script_types.specs.declared.plan.Plan.{Plan}
+use Rattle.actor_turn.specs.declared.run.Run.{Run}
+use Rattle.actor_turn.specs.Fits.{RunFits}
+use Rattle.arrival_log.specs.Samples.{hit_plan}
+use Rattle.arrival_log.proofs.SampleRuns.{hit_fits}
+use Rattle.arrival_log.proofs.tests.a_match_is_printed.Goals as goal
+
+pub print_log-requires : goal.print_log-requires
+print_log-requires g c = record {
+  fits = subst (λ (p : Plan). RunFits p c.in_ok-run.run') (sym c.in_ok-plan.ensures) (subst (λ (r : Run). RunFits hit_plan r) (sym c.in_ok-run.ensures) hit_fits);
+}

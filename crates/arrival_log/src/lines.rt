@@ -1,0 +1,140 @@
+//! The lines of a log. Each function appends what its name says, and without memory some of it may stay appended.
+ghost use Rattle.std.specs.Prelude.{◌≡◌, ◌++◌, OnOk};
+ghost use Rattle.std.specs.List.{flat_map};
+ghost use Rattle.arrival_log.specs.LogText.{actor_lines, arrival_line, effect_line, end_line, entry_lines, fire_line, firing_lines, head_line, late_line};
+
+use crate::parts::{
+    write_actor_name, write_count, write_ending, write_labelled, write_left, write_message,
+    write_numbers, write_source,
+};
+use actor_turn::{ActorRun, Effect, Entry, Firing, Run};
+use join_base::{Bytes, NoMemory, Source, write_quoted};
+use script_types::{ActorPlan, Plan};
+
+// The first line.
+pub(crate) fn write_head(text: &mut Bytes, run: &Run) -> Result<(), NoMemory>
+    ensures { OnOk result (text.new ≡ text.old ++ head_line run.now) }
+{
+    write_labelled(text, b"joinlog 1 arrivals ", u64::from(run.limits.arrivals))?;
+    write_labelled(text, b" partials ", run.limits.partials)?;
+    write_labelled(text, b" feeds ", u64::from(run.feeds))?;
+    text.push_all(b"\n")
+}
+
+fn write_effect(text: &mut Bytes, plan: &Plan, effect: &Effect) -> Result<(), NoMemory>
+    ensures { OnOk result (text.new ≡ text.old ++ effect_line plan.now effect.now) }
+{
+    match effect {
+        Effect::Print(printed) => {
+            text.push_all(b"print ")?;
+            write_quoted(text, printed.bytes())?;
+            text.push_all(b"\n")
+        }
+        Effect::Post { target, message } => {
+            text.push_all(b"post ")?;
+            write_actor_name(text, plan, *target)?;
+            text.push_all(b" ")?;
+            write_message(text, plan, message)?;
+            text.push_all(b"\n")
+        }
+    }
+}
+
+fn write_effects(text: &mut Bytes, plan: &Plan, effects: &[Effect]) -> Result<(), NoMemory>
+    ensures { OnOk result (text.new ≡ text.old ++ flat_map (effect_line plan.now) effects.now) }
+{
+    for effect in effects {
+        write_effect(text, plan, effect)?;
+    }
+    Ok(())
+}
+
+fn write_fire(text: &mut Bytes, firing: &Firing) -> Result<(), NoMemory>
+    ensures { OnOk result (text.new ≡ text.old ++ fire_line firing.now) }
+{
+    write_labelled(text, b"fire rule ", u64::from(firing.rule))?;
+    text.push_all(b" take ")?;
+    write_numbers(text, firing.taken.as_slice())?;
+    text.push_all(b"\n")
+}
+
+// The line of a firing and those of its effects, or nothing where there is no firing.
+fn write_firing(text: &mut Bytes, plan: &Plan, firing: &Option<Firing>) -> Result<(), NoMemory>
+    ensures { OnOk result (text.new ≡ text.old ++ firing_lines plan.now firing.now) }
+{
+    match firing {
+        Some(firing) => {
+            write_fire(text, firing)?;
+            write_effects(text, plan, firing.effects.as_slice())
+        }
+        None => Ok(()),
+    }
+}
+
+fn write_arrival(text: &mut Bytes, plan: &Plan, entry: &Entry) -> Result<(), NoMemory>
+    ensures { OnOk result (text.new ≡ text.old ++ arrival_line plan.now entry.now) }
+{
+    write_count(text, u64::from(entry.number))?;
+    text.push_all(b" from ")?;
+    write_source(text, plan, entry.source)?;
+    text.push_all(b" ")?;
+    write_message(text, plan, &entry.message)?;
+    text.push_all(b"\n")
+}
+
+fn write_entries(text: &mut Bytes, plan: &Plan, entries: &[Entry]) -> Result<(), NoMemory>
+    ensures { OnOk result (text.new ≡ text.old ++ flat_map (entry_lines plan.now) entries.now) }
+{
+    for entry in entries {
+        write_arrival(text, plan, entry)?;
+        write_firing(text, plan, &entry.firing)?;
+    }
+    Ok(())
+}
+
+fn write_late(text: &mut Bytes, plan: &Plan, source: Source, count: u64) -> Result<(), NoMemory>
+    ensures { OnOk result (text.new ≡ text.old ++ late_line plan.now (source, count)) }
+{
+    text.push_all(b"late ")?;
+    write_source(text, plan, source)?;
+    text.push_all(b" ")?;
+    write_count(text, count)?;
+    text.push_all(b"\n")
+}
+
+fn write_lates(text: &mut Bytes, plan: &Plan, late: &[(Source, u64)]) -> Result<(), NoMemory>
+    ensures { OnOk result (text.new ≡ text.old ++ flat_map (late_line plan.now) late.now) }
+{
+    for (source, count) in late {
+        write_late(text, plan, *source, *count)?;
+    }
+    Ok(())
+}
+
+fn write_end(text: &mut Bytes, run: &ActorRun) -> Result<(), NoMemory>
+    ensures { OnOk result (text.new ≡ text.old ++ end_line run.now) }
+{
+    text.push_all(b"end ")?;
+    write_ending(text, run.ending)?;
+    text.push_all(b" left ")?;
+    write_left(text, run.left.as_slice())?;
+    write_labelled(text, b" partials ", run.partials)?;
+    text.push_all(b"\n")
+}
+
+// The lines of an actor.
+pub(crate) fn write_actor(
+    text: &mut Bytes,
+    plan: &Plan,
+    actor: &ActorPlan,
+    run: &ActorRun,
+) -> Result<(), NoMemory>
+    ensures { OnOk result (text.new ≡ text.old ++ actor_lines plan.now actor.now run.now) }
+{
+    text.push_all(b"actor ")?;
+    text.push_all(actor.name.bytes())?;
+    text.push_all(b"\n")?;
+    write_entries(text, plan, run.entries.as_slice())?;
+    write_lates(text, plan, run.late.as_slice())?;
+    write_end(text, run)
+}

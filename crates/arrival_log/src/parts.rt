@@ -1,0 +1,133 @@
+//! The parts of a line. Each function appends one part, and without memory some of it may stay appended.
+ghost use Rattle.std.specs.Prelude.{◌≡◌, ◌++◌, map, OnOk};
+ghost use Rattle.std.specs.Fmt.{decimal};
+ghost use Rattle.arrival_log.specs.Commas.{comma_before};
+ghost use Rattle.arrival_log.specs.LogText.{comma_joined, left_text, ending_text, message_text, name_of_actor, name_of_kind, source_text, value_text};
+
+use actor_turn::Ending;
+use join_base::{Bytes, Message, NoMemory, Source, Value, write_number, write_quoted};
+use script_types::Plan;
+
+pub(crate) fn write_count(text: &mut Bytes, count: u64) -> Result<(), NoMemory>
+    ensures { OnOk result (text.new ≡ text.old ++ decimal count) }
+{
+    write_number(text, i128::from(count))
+}
+
+// The words before a number, and the number.
+pub(crate) fn write_labelled(text: &mut Bytes, label: &[u8], number: u64) -> Result<(), NoMemory>
+    ensures { OnOk result (text.new ≡ text.old ++ (label.now ++ decimal number)) }
+{
+    text.push_all(label)?;
+    write_count(text, number)
+}
+
+pub(crate) fn write_actor_name(text: &mut Bytes, plan: &Plan, actor: u32) -> Result<(), NoMemory>
+    ensures { OnOk result (text.new ≡ text.old ++ name_of_actor plan.now actor) }
+{
+    match plan.actors.as_slice().get(actor as usize) {
+        Some(actor) => text.push_all(actor.name.bytes()),
+        None => Ok(()),
+    }
+}
+
+fn write_kind_name(text: &mut Bytes, plan: &Plan, kind: u32) -> Result<(), NoMemory>
+    ensures { OnOk result (text.new ≡ text.old ++ name_of_kind plan.now kind) }
+{
+    match plan.kinds.as_slice().get(kind as usize) {
+        Some(kind) => text.push_all(kind.name.bytes()),
+        None => Ok(()),
+    }
+}
+
+// `feed K` or `actor NAME`.
+pub(crate) fn write_source(text: &mut Bytes, plan: &Plan, source: Source) -> Result<(), NoMemory>
+    ensures { OnOk result (text.new ≡ text.old ++ source_text plan.now source) }
+{
+    match source {
+        Source::Feed(feed) => {
+            text.push_all(b"feed ")?;
+            write_count(text, u64::from(feed))
+        }
+        Source::Actor(actor) => {
+            text.push_all(b"actor ")?;
+            write_actor_name(text, plan, actor)
+        }
+    }
+}
+
+// The comma before the item at a place, which the first lacks.
+fn write_comma(text: &mut Bytes, place: usize) -> Result<(), NoMemory>
+    ensures { OnOk result (text.new ≡ text.old ++ comma_before place) }
+{
+    if place > 0 {
+        text.push_all(b",")
+    } else {
+        Ok(())
+    }
+}
+
+fn write_value(text: &mut Bytes, value: &Value) -> Result<(), NoMemory>
+    ensures { OnOk result (text.new ≡ text.old ++ value_text value.now) }
+{
+    match value {
+        Value::Int(number) => write_number(text, i128::from(*number)),
+        Value::Words(words) => write_quoted(text, words.bytes()),
+    }
+}
+
+fn write_values(text: &mut Bytes, values: &[Value]) -> Result<(), NoMemory>
+    ensures { OnOk result (text.new ≡ text.old ++ comma_joined (map value_text values.now)) }
+{
+    for (place, value) in values.iter().enumerate() {
+        write_comma(text, place)?;
+        write_value(text, value)?;
+    }
+    Ok(())
+}
+
+// `KIND(VALUES)`.
+pub(crate) fn write_message(
+    text: &mut Bytes,
+    plan: &Plan,
+    message: &Message,
+) -> Result<(), NoMemory>
+    ensures { OnOk result (text.new ≡ text.old ++ message_text plan.now message.now) }
+{
+    write_kind_name(text, plan, message.kind)?;
+    text.push_all(b"(")?;
+    write_values(text, message.fields.as_slice())?;
+    text.push_all(b")")
+}
+
+pub(crate) fn write_numbers(text: &mut Bytes, numbers: &[u32]) -> Result<(), NoMemory>
+    ensures { OnOk result (text.new ≡ text.old ++ comma_joined (map (λ n. decimal n) numbers.now)) }
+{
+    for (place, number) in numbers.iter().enumerate() {
+        write_comma(text, place)?;
+        write_count(text, u64::from(*number))?;
+    }
+    Ok(())
+}
+
+// The numbers, or `-` where there is none.
+pub(crate) fn write_left(text: &mut Bytes, left: &[u32]) -> Result<(), NoMemory>
+    ensures { OnOk result (text.new ≡ text.old ++ left_text left.now) }
+{
+    if left.is_empty() {
+        text.push_all(b"-")
+    } else {
+        write_numbers(text, left)
+    }
+}
+
+pub(crate) fn write_ending(text: &mut Bytes, ending: Ending) -> Result<(), NoMemory>
+    ensures { OnOk result (text.new ≡ text.old ++ ending_text ending) }
+{
+    match ending {
+        Ending::Running => text.push_all(b"running"),
+        Ending::Stopped => text.push_all(b"stopped"),
+        Ending::Jammed => text.push_all(b"jammed"),
+        Ending::Spent => text.push_all(b"spent"),
+    }
+}

@@ -1,0 +1,38 @@
+//! A run as the text of its log.
+ghost use Rattle.std.specs.Prelude.{◌≡◌, ◌++◌, length, OnOk, OnErr};
+ghost use Rattle.actor_turn.specs.Fits.{RunFits};
+ghost use Rattle.arrival_log.specs.LogText.{log_text, sections};
+
+use crate::lines::{write_actor, write_head};
+use actor_turn::{ActorRun, Run};
+use join_base::{Bytes, NoMemory};
+use script_types::Plan;
+use std::alloc::Global;
+
+// The lines of each actor, in order.
+fn write_sections(text: &mut Bytes, plan: &Plan, runs: &[ActorRun]) -> Result<(), NoMemory>
+    requires { length runs.now ≡ length plan.now.actors }
+    ensures { OnOk result (text.new ≡ text.old ++ sections plan.now plan.now.actors runs.now) }
+{
+    for (place, run) in runs.iter().enumerate() {
+        write_actor(text, plan, plan.actors.at(place), run)?;
+    }
+    Ok(())
+}
+
+/// Appends the log of a run as text: a first line with its limits and its number of feeds, and then for each actor
+/// the messages that it recorded, each with what it fired, the counts of late messages, and how the actor ended.
+/// Each fact is a line of words and numbers. So people can read a run and compare two, and a program can check it.
+/// The form is this project's own.
+///
+/// The run has to be one of the plan. After `NoMemory` nothing was appended.
+pub fn print_log(alloc: Global, plan: &Plan, run: &Run, out: &mut Bytes) -> Result<(), NoMemory>
+    requires fits { RunFits plan.now run.now }
+    ensures ok { OnOk result (out.new ≡ out.old ++ log_text plan.now run.now) }
+    ensures err { OnErr result (out.new ≡ out.old) }
+{
+    let mut text = Bytes::new(alloc);
+    write_head(&mut text, run)?;
+    write_sections(&mut text, plan, run.actors.as_slice())?;
+    out.push_all(text.bytes())
+}

@@ -1,0 +1,6 @@
+use Rattle.std.proofs.Common.{◌≡◌, ℕ, List, ◌++◌, take, drop, map, Option}
+use Rattle.first_form.specs.FirstPlan.{variables_of}
+use Rattle.first_form.proofs.plan.all_variables.Given as goal
+
+abbrev pub invariant-loop-pattern : goal.invariant-loop-pattern
+invariant-loop-pattern l = l.all ≡ map variables_of (take l.pattern-index l.patterns)

@@ -1,0 +1,76 @@
+-- The posts of a feed of the first form: at most 1,000 lines, each ended by LF, each an actor's name, a kind's name and its integers, with commas between them.
+use Rattle.std.specs.Prelude.{ℕ, List, [], ◌∷◌, Bool, true, false, ◌&&◌, ◌==◌, nat_le, length, map, slice_get, Option, None, Some, ℤ}
+use Rattle.std.specs.List.{slice_split}
+use Rattle.std.specs.Option.{option_map, option_and_then}
+use Rattle.join_base.specs.Integer.{integer_of}
+use Rattle.join_base.specs.declared.message.Value.{Value}
+use Rattle.join_base.specs.declared.message.Value.TheVariants as value
+use Rattle.join_base.specs.declared.message.Message.{Message}
+use Rattle.script_types.specs.declared.plan.Plan.{Plan}
+use Rattle.script_types.specs.declared.plan.Kind.{Kind}
+use Rattle.script_types.specs.declared.plan.ActorPlan.{ActorPlan}
+use Rattle.first_form.specs.Whole.{both, where_true, all_of}
+use Rattle.first_form.specs.Names.{number_of}
+use Rattle.first_form.specs.FirstPlan.{name_of_kind, of_count}
+
+-- a message for an actor
+abbrev pub Post : Type 0
+Post = ℕ × Message
+
+abbrev pub name_of_actor : ActorPlan → List ℕ
+name_of_actor actor = actor.name
+
+abbrev pub is_line_end : ℕ → Bool
+is_line_end b = b == 10
+
+abbrev pub is_comma : ℕ → Bool
+is_comma b = b == 44
+
+-- nothing stands behind the last line end
+abbrev pub after_last : List ℕ → Option (List (List ℕ))
+after_last [] = Some []
+after_last (b ∷ bs) = None
+
+abbrev pub with_line : List ℕ → List (List ℕ) → List (List ℕ)
+with_line line lines = line ∷ lines
+
+-- the lines of a text that was cut at each line end, where each of them is ended
+abbrev pub ended_lines : List (List ℕ) → Option (List (List ℕ))
+ended_lines [] = None
+ended_lines (part ∷ []) = after_last part
+ended_lines (part ∷ other ∷ parts) = option_map (with_line part) (ended_lines (other ∷ parts))
+
+abbrev pub int_value : List ℕ → Option Value
+int_value bytes = option_map (λ n. value.Int n) (integer_of bytes)
+
+abbrev pub message_with : ℕ → List Value → Message
+message_with kind values = record { kind = kind; fields = values }
+
+-- as many integers as the kind has fields
+abbrev pub message_of : List Kind → List ℕ → List (List ℕ) → Option Message
+message_of kinds name values =
+    both message_with (option_and_then (of_count kinds (length values)) (number_of name_of_kind kinds name)) (all_of int_value values)
+
+-- a kind's name and its values
+abbrev pub message_of_parts : List Kind → List (List ℕ) → Option Message
+message_of_parts kinds [] = None
+message_of_parts kinds (name ∷ values) = message_of kinds name values
+
+abbrev pub post_with : ℕ → Message → Post
+post_with actor message = (actor, message)
+
+-- the post that the parts of a line give: an actor's name, and a message
+abbrev pub post_of : Plan → List (List ℕ) → Option Post
+post_of plan [] = None
+post_of plan (actor ∷ parts) = both post_with (number_of name_of_actor plan.actors actor) (message_of_parts plan.kinds parts)
+
+abbrev pub line_post : Plan → List ℕ → Option Post
+line_post plan line = post_of plan (slice_split is_comma line)
+
+-- at most 1,000 lines
+abbrev pub posts_of_lines : Plan → List (List ℕ) → Option (List Post)
+posts_of_lines plan lines = where_true (nat_le (length lines) 1000) (all_of (line_post plan) lines)
+
+-- the posts of a feed, or none
+abbrev pub feed_of : Plan → List ℕ → Option (List Post)
+feed_of plan bytes = option_and_then (posts_of_lines plan) (ended_lines (slice_split is_line_end bytes))

@@ -1,0 +1,73 @@
+use crate::{Atom, Conjunct, ConjunctList, Leaf, Operand, Place, Signed, Term, WordsLeaf};
+use join_base::{Items, NoMemory, Relation, Text};
+use std::alloc::Global;
+use std::test::Fail;
+
+// x - 3
+fn difference(alloc: Global) -> Result<Term, NoMemory> {
+    let mut leaves = Items::new(alloc);
+    leaves.push(Signed {
+        minus: false,
+        leaf: Leaf::Field(Place {
+            pattern: 1,
+            field: 2,
+        }),
+    })?;
+    leaves.push(Signed {
+        minus: true,
+        leaf: Leaf::Number(3),
+    })?;
+    Ok(Term::new(leaves))
+}
+
+// x - 3 < x - 3
+fn comparison(alloc: Global) -> Result<Atom, NoMemory> {
+    Ok(Atom::Compare {
+        left: Operand::Sum(difference(alloc)?),
+        relation: Relation::Less,
+        right: Operand::Sum(difference(alloc)?),
+    })
+}
+
+// !(x - 3 < x - 3) || x - 3 < x - 3
+fn conjunct(alloc: Global) -> Result<Conjunct, NoMemory> {
+    let mut inner = Conjunct::new(alloc);
+    inner.push(comparison(alloc)?)?;
+    let group = Box::new(alloc, Atom::Group(inner))?;
+    let mut outer = Conjunct::new(alloc);
+    outer.push(Atom::Not(group))?;
+    outer.push(comparison(alloc)?)?;
+    Ok(outer)
+}
+
+#[test]
+fn a_term_is_copied(rt: HostRuntime) -> Result<(), Fail> {
+    let term = difference(rt.alloc())?;
+    let copied = term.copy(rt.alloc())?;
+    assert_eq!(rt; copied.leaves(), term.leaves());
+    assert_eq!(rt; copied.leaves().len(), 2);
+    Ok(())
+}
+
+#[test]
+fn operands_are_copied(rt: HostRuntime) -> Result<(), Fail> {
+    let sum = Operand::Sum(difference(rt.alloc())?);
+    assert!(rt; sum.copy(rt.alloc()).is_ok());
+    let fixed = WordsLeaf::Fixed(Text::from_bytes(rt.alloc(), b"open")?);
+    assert!(rt; fixed.copy(rt.alloc()).is_ok());
+    assert!(rt; Operand::Words(fixed).copy(rt.alloc()).is_ok());
+    Ok(())
+}
+
+#[test]
+fn conjuncts_are_copied(rt: HostRuntime) -> Result<(), Fail> {
+    assert!(rt; comparison(rt.alloc())?.copy(rt.alloc()).is_ok());
+    let one = conjunct(rt.alloc())?;
+    assert!(rt; one.copy(rt.alloc()).is_ok());
+    let mut list = ConjunctList::new(rt.alloc());
+    list.push(one)?;
+    list.push(conjunct(rt.alloc())?)?;
+    let copied = list.copy(rt.alloc())?;
+    assert_eq!(rt; copied.as_slice().len(), 2);
+    Ok(())
+}

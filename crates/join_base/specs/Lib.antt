@@ -1,0 +1,9 @@
+pub mod Fields
+pub mod Integer
+pub mod Lending
+pub mod Memory
+pub mod Numbers
+pub mod Outside
+pub mod Quoted
+pub mod Text
+pub mod Unquoted

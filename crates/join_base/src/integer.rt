@@ -1,0 +1,78 @@
+//! Integers, written and read.
+ghost use Rattle.std.specs.Prelude.{◌≡◌, ◌++◌, ◌≤◌, ◌+◌, ◌*◌, ◌^◌, min, OnOk, OnErr, length, true};
+ghost use Rattle.std.specs.Fmt.{signed_decimal};
+ghost use Rattle.std.specs.List.{list_all};
+ghost use Rattle.std.specs.Char.{is_ascii_digit};
+ghost use Rattle.join_base.specs.Integer.{are_digits, value_of, natural_of, integer_of};
+
+use crate::items::NoMemory;
+use crate::text::Bytes;
+use itoa::Buffer;
+
+/// Appends the decimal form of a number. Without memory the bytes are as they were.
+pub fn write_number(out: &mut Bytes, value: i128) -> Result<(), NoMemory>
+    ensures ok { OnOk result (out.new ≡ out.old ++ signed_decimal value) }
+    ensures err { OnErr result (out.new ≡ out.old) }
+{
+    let mut buffer = Buffer::new();
+    out.push_all(buffer.format(value).as_bytes())
+}
+
+fn all_digits(text: &[u8]) -> bool
+    ensures { result ≡ list_all is_ascii_digit text.now }
+{
+    text.iter().all(|byte| byte.is_ascii_digit())
+}
+
+fn are_digits(text: &[u8]) -> bool
+    ensures { result ≡ are_digits text.now }
+{
+    !text.is_empty() && all_digits(text)
+}
+
+// The number that digits stand for, or one past the greatest that is wanted.
+fn value_up_to(digits: &[u8], max: u64) -> u64
+    requires digits { are_digits digits.now ≡ true }
+    requires small { max ≤ 2 ^ 63 }
+    ensures { result ≡ min (value_of digits.now) (max + 1) }
+{
+    let mut value: u64 = 0;
+    for digit in digits {
+        let next = u128::from(value) * 10 + u128::from(*digit - b'0');
+        value = if next <= u128::from(max) {
+            next as u64
+        } else {
+            max + 1
+        };
+    }
+    value
+}
+
+// The number that one or more digits stand for, where it is at most `max`.
+fn natural_of(text: &[u8], max: u64) -> Option<u64>
+    requires small { max ≤ 2 ^ 63 }
+    ensures { result ≡ natural_of max text.now }
+{
+    if !are_digits(text) {
+        return None;
+    }
+    let value = value_up_to(text, max);
+    if value <= max { Some(value) } else { None }
+}
+
+/// The integer that an optional `-` and one or more digits stand for. `None` exactly where the bytes are none of
+/// these, or the value has more than 64 bits.
+pub fn read_integer(bytes: &[u8]) -> Option<i64>
+    ensures { result ≡ integer_of bytes.now }
+{
+    match bytes {
+        [b'-', digits @ ..] => {
+            let size = natural_of(digits, 1 << 63)?;
+            Some((-i128::from(size)) as i64)
+        }
+        _ => {
+            let size = natural_of(bytes, (1 << 63) - 1)?;
+            Some(size as i64)
+        }
+    }
+}

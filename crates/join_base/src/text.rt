@@ -1,0 +1,283 @@
+//! Bytes, names, words and texts. Contracts see each of them as a list of bytes.
+ghost use Rattle.std.specs.Prelude.{◌≡◌, [], ◌++◌, ◌<◌, ◌≤◌, length, take, IfOk, OnOk, OnErr, ◌↔◌, Err, true};
+ghost use Rattle.std.specs.Str.{IsUtf8};
+ghost use Rattle.join_base.specs.Text.{IsText, is_name};
+
+use crate::items::{Items, NoMemory};
+use std::alloc::{AllocError, Global};
+use std::marker::Model;
+
+/// Bytes that grow at their end.
+#[derive(Drop)]
+pub struct Bytes {
+    bytes: Vec<u8>,
+}
+
+impl Model for Bytes {
+    ghost use Rattle.std.specs.Prelude.{ℕ, List};
+
+    ghost Value = { List ℕ };
+
+    ghost view = { λ a. a.bytes.items };
+}
+
+impl Bytes {
+    pub fn new(alloc: Global) -> Bytes
+        ensures empty { result ≡ [] }
+    {
+        Bytes {
+            bytes: Vec::new(alloc),
+        }
+    }
+
+    /// These bytes. It takes no memory.
+    pub fn from_vec(bytes: Vec<u8>) -> Bytes
+        ensures same { result ≡ bytes.items }
+    {
+        Bytes { bytes }
+    }
+
+    pub fn bytes(&self) -> &[u8]
+        ensures same { result.now ≡ self.now }
+    {
+        self.bytes.as_slice()
+    }
+
+    /// Keeps the first bytes, as many as `count`.
+    pub fn truncate(&mut self, count: usize)
+        ensures { self.new ≡ take count self.old }
+    {
+        self.bytes.truncate(count);
+    }
+
+    pub fn copy(&self, alloc: Global) -> Result<Bytes, NoMemory>
+        ensures equal { IfOk result (λ b. b ≡ self.now) }
+    {
+        let bytes = self.bytes.as_slice().to_vec(alloc)?;
+        Ok(Bytes { bytes })
+    }
+
+    /// Appends the piece. Without memory the bytes are as they were.
+    pub fn push_all(&mut self, piece: &[u8]) -> Result<(), NoMemory>
+        ensures ok { OnOk result (self.new ≡ self.old ++ piece.now) }
+        ensures err { OnErr result (self.new ≡ self.old) }
+    {
+        self.bytes.extend_from_slice(piece)?;
+        Ok(())
+    }
+}
+
+/// Why bytes are no text of a kind.
+#[derive(Clone, Copy, PartialEq, Eq, Debug)]
+pub enum TextFault {
+    /// They are not UTF-8.
+    NotText,
+    /// They are UTF-8, and too many.
+    TooLong,
+    NoMemory,
+}
+
+impl From<AllocError> for TextFault {
+    ghost use Rattle.std.specs.Prelude.{◌≡◌};
+    ghost use Rattle.join_base.specs.declared.text.TextFault.TheVariants.{NoMemory};
+
+    ghost from_gives = { λ _ e. e ≡ NoMemory };
+
+    fn from(_: AllocError) -> TextFault {
+        TextFault::NoMemory
+    }
+}
+
+// The bytes, where they are UTF-8 and at most as many.
+fn text_of(alloc: Global, bytes: &[u8], max: usize) -> Result<Vec<u8>, TextFault>
+    ensures ok { IfOk result (λ v. (v.items ≡ bytes.now) × IsText max bytes.now) }
+    ensures not_text { (result ≡ Err TextFault.NotText) ↔ (¬ IsUtf8 bytes.now) }
+    ensures too_long { (result ≡ Err TextFault.TooLong) ↔ (IsUtf8 bytes.now × (max < length bytes.now)) }
+{
+    match std::str::from_utf8(bytes) {
+        Err(_) => Err(TextFault::NotText),
+        Ok(_) => {
+            if bytes.len() > max {
+                return Err(TextFault::TooLong);
+            }
+            let own = bytes.to_vec(alloc)?;
+            Ok(own)
+        }
+    }
+}
+
+/// UTF-8 of at most 120 bytes: the value of a text field, or a text of a script.
+#[derive(Drop)]
+pub struct Text {
+    bytes: Vec<u8>,
+}
+
+impl Model for Text {
+    ghost use Rattle.std.specs.Prelude.{ℕ, List};
+    ghost use Rattle.join_base.specs.Text.{IsText};
+
+    ghost Value = { List ℕ };
+
+    ghost view = { λ a. a.bytes.items };
+
+    ghost invariant = { λ a. IsText 120 a.bytes.items };
+}
+
+impl Text {
+    /// The most bytes of a text.
+    pub const MAX: usize = 120;
+
+    pub fn from_bytes(alloc: Global, bytes: &[u8]) -> Result<Text, TextFault>
+        ensures ok { IfOk result (λ t. t ≡ bytes.now) }
+        ensures not_text { (result ≡ Err TextFault.NotText) ↔ (¬ IsUtf8 bytes.now) }
+        ensures too_long { (result ≡ Err TextFault.TooLong) ↔ (IsUtf8 bytes.now × (120 < length bytes.now)) }
+    {
+        match text_of(alloc, bytes, 120) {
+            Ok(bytes) => Ok(Text { bytes }),
+            Err(fault) => Err(fault),
+        }
+    }
+
+    /// The text of these bytes. It takes no memory.
+    pub fn from_vec(bytes: Vec<u8>) -> Text
+        requires is_text { IsText 120 bytes.items }
+        ensures same { result ≡ bytes.items }
+    {
+        Text { bytes }
+    }
+
+    pub fn bytes(&self) -> &[u8]
+        ensures same { result.now ≡ self.now }
+        ensures is_text { IsText 120 self.now }
+    {
+        self.bytes.as_slice()
+    }
+
+    pub fn copy(&self, alloc: Global) -> Result<Text, NoMemory>
+        ensures equal { IfOk result (λ t. t ≡ self.now) }
+    {
+        let bytes = self.bytes.as_slice().to_vec(alloc)?;
+        Ok(Text { bytes })
+    }
+}
+
+/// UTF-8 of at most 1,920 bytes: what a body prints.
+#[derive(Drop)]
+pub struct Line {
+    bytes: Vec<u8>,
+}
+
+impl Model for Line {
+    ghost use Rattle.std.specs.Prelude.{ℕ, List};
+    ghost use Rattle.join_base.specs.Text.{IsText};
+
+    ghost Value = { List ℕ };
+
+    ghost view = { λ a. a.bytes.items };
+
+    ghost invariant = { λ a. IsText 1920 a.bytes.items };
+}
+
+impl Line {
+    /// The most bytes of a line.
+    pub const MAX: usize = 1920;
+
+    pub fn from_bytes(alloc: Global, bytes: &[u8]) -> Result<Line, TextFault>
+        ensures ok { IfOk result (λ t. t ≡ bytes.now) }
+        ensures not_text { (result ≡ Err TextFault.NotText) ↔ (¬ IsUtf8 bytes.now) }
+        ensures too_long { (result ≡ Err TextFault.TooLong) ↔ (IsUtf8 bytes.now × (1920 < length bytes.now)) }
+    {
+        match text_of(alloc, bytes, 1920) {
+            Ok(bytes) => Ok(Line { bytes }),
+            Err(fault) => Err(fault),
+        }
+    }
+
+    /// The line of these bytes. It takes no memory.
+    pub fn from_vec(bytes: Vec<u8>) -> Line
+        requires is_text { IsText 1920 bytes.items }
+        ensures same { result ≡ bytes.items }
+    {
+        Line { bytes }
+    }
+
+    pub fn bytes(&self) -> &[u8]
+        ensures same { result.now ≡ self.now }
+        ensures is_text { IsText 1920 self.now }
+    {
+        self.bytes.as_slice()
+    }
+}
+
+/// The name of an actor, a kind, a field or a variable: 1 to 64 ASCII letters, digits and `_`, the first no digit.
+#[derive(Drop)]
+pub struct Name {
+    bytes: Vec<u8>,
+}
+
+impl Model for Name {
+    ghost use Rattle.std.specs.Prelude.{◌≡◌, ℕ, List, true};
+    ghost use Rattle.join_base.specs.Text.{is_name};
+
+    ghost Value = { List ℕ };
+
+    ghost view = { λ a. a.bytes.items };
+
+    ghost invariant = { λ a. is_name a.bytes.items ≡ true };
+}
+
+impl Name {
+    pub fn from_bytes(alloc: Global, bytes: &[u8]) -> Result<Name, NoMemory>
+        requires is_name { is_name bytes.now ≡ true }
+        ensures same { IfOk result (λ n. n ≡ bytes.now) }
+    {
+        let bytes = bytes.to_vec(alloc)?;
+        Ok(Name { bytes })
+    }
+
+    pub fn bytes(&self) -> &[u8]
+        ensures same { result.now ≡ self.now }
+        ensures is_name { is_name self.now ≡ true }
+    {
+        self.bytes.as_slice()
+    }
+
+    pub fn copy(&self, alloc: Global) -> Result<Name, NoMemory>
+        ensures equal { IfOk result (λ n. n ≡ self.now) }
+    {
+        let bytes = self.bytes.as_slice().to_vec(alloc)?;
+        Ok(Name { bytes })
+    }
+}
+
+/// A word of the command line: UTF-8 of any length.
+#[derive(Drop)]
+pub struct Word {
+    text: String,
+}
+
+impl Model for Word {
+    ghost use Rattle.std.specs.Prelude.{ℕ, List, string_bytes};
+
+    ghost Value = { List ℕ };
+
+    ghost view = { λ a. string_bytes a.text };
+}
+
+impl Word {
+    pub fn from_text(alloc: Global, text: &str) -> Result<Word, NoMemory>
+        ensures same { IfOk result (λ w. w ≡ text.now) }
+    {
+        let text = String::from_str(alloc, text)?;
+        Ok(Word { text })
+    }
+
+    pub fn as_str(&self) -> &str
+        ensures same { result.now ≡ self.now }
+    {
+        self.text.as_str()
+    }
+}
+
+/// The words of a command line.
+pub type WordList = Items<Word>;

@@ -1,0 +1,5 @@
+pub mod LoadLemmas
+pub mod ReplyLemmas
+pub mod RunLemmas
+pub mod WriteLemmas
+pub mod TopLemmas

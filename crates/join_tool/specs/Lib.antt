@@ -1,0 +1,9 @@
+pub mod Command
+pub mod Verdict
+pub mod Output
+pub mod Loading
+pub mod Replying
+pub mod Sent
+pub mod Writing
+pub mod Top
+pub mod Answer

@@ -1,0 +1,9 @@
+-- What the only feed sends.
+use Rattle.std.specs.Prelude.{ℕ, List, map}
+use Rattle.join_base.specs.declared.message.Message.{Message}
+use Rattle.join_base.specs.declared.message.Source.TheVariants.{Feed}
+use Rattle.actor_turn.specs.Fair.{Sent}
+
+-- the messages of the posts, each from feed 1
+abbrev pub sent_of : List (ℕ × Message) → List Sent
+sent_of posts = map (λ (post : ℕ × Message). (Feed 1, post.1)) posts

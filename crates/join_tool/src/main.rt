@@ -1,0 +1,58 @@
+//! Runs a script of one actor with join patterns on a feed, and prints the log of the run.
+#![tactic(auto)]
+
+mod command;
+mod files;
+mod gate;
+mod load;
+mod output;
+mod reply;
+mod run;
+mod status;
+mod top;
+
+use crate::files::{FileInputs, OutSink};
+use crate::gate::FreeGate;
+use crate::status::Status;
+use crate::top::join_main;
+use join_base::{NoMemory, Word, WordList};
+use std::alloc::Global;
+use std::env;
+use std::io::ErrorKind;
+use std::process::ExitCode;
+
+// The words after the program's name.
+fn words_of(alloc: Global, args: env::Args) -> Result<WordList, NoMemory> {
+    let mut words = WordList::new(alloc);
+    for arg in args.skip(1) {
+        let word = Word::from_text(alloc, arg.as_str())?;
+        words.push(word)?;
+    }
+    Ok(words)
+}
+
+// The words of the command line. Where one of them is not UTF-8 there are none, which is no command.
+fn command_line(rt: &HostRuntime) -> Result<WordList, NoMemory> {
+    match env::args(rt) {
+        Ok(args) => words_of(rt.alloc(), args),
+        Err(error) => {
+            if error.kind() == ErrorKind::InvalidData {
+                Ok(WordList::new(rt.alloc()))
+            } else {
+                Err(NoMemory)
+            }
+        }
+    }
+}
+
+fn main(rt: HostRuntime) -> ExitCode {
+    let status = match command_line(&rt) {
+        Ok(words) => {
+            let mut inputs = FileInputs::new(&rt);
+            let mut out = OutSink::new(rt.stdout());
+            join_main(&rt, rt.alloc(), &words, &mut inputs, &mut out, &FreeGate)
+        }
+        Err(NoMemory) => Status::NoMemory,
+    };
+    ExitCode::from(status.number())
+}

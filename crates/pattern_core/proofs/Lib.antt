@@ -1,0 +1,10 @@
+pub mod Examples
+pub mod MembersLemmas
+pub mod ChoiceLemmas
+pub mod AssignsLemmas
+pub mod BestLemmas
+pub mod ListingLemmas
+pub mod LawLemmas
+pub mod SuitsLemmas
+pub mod CountLemmas
+pub mod DefinitionsLemmas

@@ -1,0 +1,12 @@
+pub mod ReaderLemmas
+pub mod RepeatLemmas
+pub mod ParseLemmas
+pub mod MarkLemmas
+pub mod RuleLemmas
+pub mod AtomLemmas
+pub mod StatementLemmas
+pub mod ScriptLemmas
+pub mod LoopLemmas
+pub mod GroupLemmas
+pub mod DeclarationLemmas
+pub mod RefusalLemmas

@@ -1,0 +1,3 @@
+pub mod ListLemmas
+pub mod TokenLemmas
+pub mod WordLemmas
