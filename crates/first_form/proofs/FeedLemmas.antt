@@ -1,8 +1,8 @@
 -- Reading a feed line by line.
-use Rattle.std.proofs.Common.{◌≡◌, ℕ, ◌+◌, ◌<◌, ◌≤◌, Bool, true, false, cond, List, [], ◌∷◌, ◌++◌, length, Option, None, Some, refl, sym, ap, ◌∙◌, append_assoc, subst, arith, length-append}
+use Rattle.std.proofs.Common.{◌≡◌, ℕ, ◌+◌, ◌<◌, ◌≤◌, Bool, true, false, List, [], ◌∷◌, ◌++◌, length, Option, None, Some, refl, sym, ap, ◌∙◌, append_assoc, arith, length-append}
 use Rattle.std.proofs.lemmas.List.Splits.{length-slice_split}
 use Rattle.std.proofs.lemmas.Bool.Decides.{nat_tests}
-use Rattle.std.specs.Prelude.{nat_le, if◌then◌else◌}
+use Rattle.std.specs.Prelude.{nat_le}
 use Rattle.std.specs.List.{slice_split}
 use Rattle.std.specs.Option.{option_map, option_and_then}
 use Rattle.script_types.specs.declared.plan.Plan.{Plan}
@@ -10,7 +10,7 @@ use Rattle.first_form.specs.declared.refusal.Refusal.{Refusal}
 use Rattle.first_form.specs.declared.refusal.Refusal.TheVariants.{NotBuilt, NoMemory}
 use Rattle.first_form.specs.Gives.{IsRefusal}
 use Rattle.first_form.specs.Whole.{both, where_true, all_of, behind}
-use Rattle.first_form.specs.FirstFeed.{Post, with_line, ended_lines, is_line_end, line_post, posts_of_lines, feed_of}
+use Rattle.first_form.specs.FirstFeed.{Post, with_line, ended_lines, is_line_end, line_post}
 
 -- the posts of further lines behind posts that were read, at most 1,000 in all
 abbrev pub posts_behind : Plan → List Post → List (List ℕ) → Option (List Post)
@@ -55,13 +55,13 @@ module _ (plan : Plan) (posts : List Post) (line : List ℕ) where
   no_line None is = refl
   no_line (Some lines) is =
       where_true-None (nat_le (length posts + length (line ∷ lines)) 1000) (behind posts (all_of (line_post plan) (line ∷ lines)))
-          (ap (λ v. behind posts (both (λ a as'. a ∷ as') v (all_of (line_post plan) lines))) is)
+      (ap (λ v. behind posts (both (λ a as'. a ∷ as') v (all_of (line_post plan) lines))) is)
 
   too_many : (lines : Option (List (List ℕ))) → 1000 ≤ length posts → option_and_then (posts_behind plan posts) (option_map (with_line line) lines) ≡ None
   too_many None full = refl
   too_many (Some lines) full =
       where_false (nat_le (length posts + length (line ∷ lines)) 1000) (behind posts (all_of (line_post plan) (line ∷ lines)))
-          (nat_le-false (length posts + length (line ∷ lines)) 1000 (omega arith))
+      (nat_le-false (length posts + length (line ∷ lines)) 1000 (omega arith))
 
   module _ (parts rest : List (List ℕ)) (total : Option (List Post)) (some : 0 < length rest) (cut : parts ≡ line ∷ rest) where
     here : rest_posts plan posts parts ≡ option_and_then (posts_behind plan posts) (option_map (with_line line) (ended_lines rest))

@@ -1,10 +1,10 @@
 -- A plan of the first form has its sizes, and its rules can run.
-use Rattle.std.proofs.Common.{◌≡◌, ℕ, ◌+◌, ◌≤◌, Bool, true, List, [], ◌∷◌, length, slice_get, Option, None, Some, refl, sym, ap, ◌∙◌, subst, arith}
-use Rattle.std.specs.Prelude.{nat_le, ◌&&◌, Result, Ok, Err, IfOk}
+use Rattle.std.proofs.Common.{◌≡◌, ◌≤◌, List, [], ◌∷◌, length, Some, refl, sym, ap, subst, arith}
+use Rattle.std.specs.Prelude.{nat_le, Result, Ok, Err, IfOk}
 use Rattle.first_form.specs.Gives.{Gives}
 use Rattle.first_form.specs.declared.refusal.Refusal.{Refusal}
 use Rattle.std.specs.List.{AllByRecursion}
-use Rattle.std.specs.Option.{option_map, option_and_then}
+use Rattle.std.specs.Option.{option_map}
 use Rattle.join_base.specs.declared.message.Sort.{Sort}
 use Rattle.join_base.specs.declared.message.Sort.TheVariants as sort
 use Rattle.script_grammar.specs.declared.tree.FieldDecl.{FieldDecl}
@@ -12,12 +12,11 @@ use Rattle.script_grammar.specs.declared.tree.MessageDecl.{MessageDecl}
 use Rattle.script_grammar.specs.declared.tree.ActorDecl.{ActorDecl}
 use Rattle.script_grammar.specs.declared.tree.Tree.{Tree}
 use Rattle.script_types.specs.declared.plan.Kind.{Kind}
-use Rattle.script_types.specs.declared.plan.Rule.{Rule}
 use Rattle.script_types.specs.declared.plan.ActorPlan.{ActorPlan}
 use Rattle.script_types.specs.declared.plan.Plan.{Plan}
 use Rattle.actor_turn.specs.Fair.{sorts_of}
 use Rattle.actor_turn.specs.Runnable.{AreRunnable, IsRunnable}
-use Rattle.first_form.specs.Whole.{where_true, all_of}
+use Rattle.first_form.specs.Whole.{all_of}
 use Rattle.first_form.specs.Names.{are_distinct}
 use Rattle.first_form.specs.FirstForm.{IsFirstPlan, IsIntKind}
 use Rattle.first_form.specs.FirstPlan.{Field, Name, actor_of, actor_with, are_fields, are_kinds, field_of, int_field, kind_of, kind_with, kinds_of, lawful_kinds, name_of_field, name_of_kind, plan_from, plan_of, plan_with, rule_of}

@@ -1,10 +1,10 @@
 -- The posts of a feed of the first form fit the plan.
-use Rattle.std.proofs.Common.{◌≡◌, ℕ, zero, suc, ◌+◌, ◌-◌, ◌^◌, ◌<◌, ◌≤◌, Bool, true, false, List, [], ◌∷◌, length, map, slice_get, Option, None, Some, refl, sym, ap, ◌∙◌, subst, arith, pos, negsuc}
+use Rattle.std.proofs.Common.{◌≡◌, ℕ, zero, suc, ◌-◌, ◌^◌, ◌≤◌, Bool, true, false, List, [], ◌∷◌, length, map, slice_get, Option, None, Some, refl, ap, ◌∙◌, subst, arith, pos}
 use Rattle.std.specs.Prelude.{ℤ, neg_ℤ, FitsSigned, nat_le, ◌&&◌, ◌==◌, slice_index, drop, if◌then◌else◌, Result, Ok, Err, IfOk}
 use Rattle.first_form.specs.Gives.{Gives}
 use Rattle.first_form.specs.declared.refusal.Refusal.{Refusal}
 use Rattle.std.specs.Int.{w64}
-use Rattle.std.specs.List.{AllByRecursion, slice_split, position}
+use Rattle.std.specs.List.{AllByRecursion, slice_split}
 use Rattle.std.specs.Option.{option_map, option_and_then}
 use Rattle.std.proofs.lemmas.Option.{slice_get-map}
 use Rattle.join_base.specs.Integer.{are_digits, integer_of, natural_of, negative, positive, value_of}
@@ -23,7 +23,7 @@ use Rattle.first_form.specs.Whole.{all_of}
 use Rattle.first_form.specs.Names.{number_of}
 use Rattle.first_form.specs.FirstForm.{AreFirstPosts, IsFirstPlan, IsIntKind}
 use Rattle.first_form.specs.FirstPlan.{name_of_kind, of_count}
-use Rattle.first_form.specs.FirstFeed.{Post, ended_lines, feed_of, int_value, is_comma, is_line_end, line_post, message_of, message_of_parts, message_with, name_of_actor, post_of, post_with, posts_of_lines}
+use Rattle.first_form.specs.FirstFeed.{Post, ended_lines, feed_of, int_value, is_comma, is_line_end, line_post, message_of_parts, message_with, name_of_actor, post_of, post_with, posts_of_lines}
 use Rattle.first_form.proofs.OptionLemmas.{all_of-each, all_of-length, and-right, both_value, map_value, then_value, where_value}
 use Rattle.first_form.proofs.RuleLemmas.{counted_kind, le_true, position_within}
 
@@ -92,7 +92,7 @@ module _ (plan : Plan) (first : IsFirstPlan plan) where
       let count : length b.second ≡ length values = all_of-length int_value values b.second b.other in
       let kind : IsIntKind k.kind = each_at IsIntKind plan.kinds b.first k.kind k.kind_is first.kinds in
       let sorts : slice_get (sorts_of plan.kinds) b.first ≡ Some (map (λ (field : List ℕ × Sort). field.1) k.kind.fields) =
-          slice_get-map (λ (kind : Kind). map (λ (field : List ℕ × Sort). field.1) kind.fields) plan.kinds b.first ∙ ap (option_map (λ (kind : Kind). map (λ (field : List ℕ × Sort). field.1) kind.fields)) k.kind_is in
+      slice_get-map (λ (kind : Kind). map (λ (field : List ℕ × Sort). field.1) kind.fields) plan.kinds b.first ∙ ap (option_map (λ (kind : Kind). map (λ (field : List ℕ × Sort). field.1) kind.fields)) k.kind_is in
       let Fits : Message → Type 0 = MessageFits plan in
       subst Fits b.result (record {
         kind = ap (λ (s : Option (List Sort)). fits_sorts s b.second) sorts ∙ ints_of_sorts k.kind.fields b.second kind.ints ints (omega (arith, count, k.count_is));

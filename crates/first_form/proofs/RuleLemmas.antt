@@ -1,6 +1,6 @@
 -- The rules of a plan of the first form can run.
 use Rattle.std.proofs.Common.{◌≡◌, ℕ, zero, suc, ◌+◌, ◌<◌, ◌≤◌, Bool, true, false, cond, List, [], ◌∷◌, length, map, slice_get, Option, None, Some, refl, sym, ap, ◌∙◌, subst, arith}
-use Rattle.std.specs.Prelude.{nat_le, nat_lt, ◌&&◌, ◌==◌}
+use Rattle.std.specs.Prelude.{nat_le, nat_lt, ◌&&◌}
 use Rattle.std.specs.List.{AllByRecursion, list_all, position, position_or_len}
 use Rattle.std.specs.Option.{option_map, option_and_then, option_or}
 use Rattle.std.proofs.lemmas.List.{length-map}
@@ -26,11 +26,16 @@ use Rattle.script_types.specs.declared.plan.Rule.{Rule}
 use Rattle.actor_turn.specs.Fair.{sorts_of}
 use Rattle.actor_turn.specs.Runnable.{IsRunnable, ItemRunnable, PlaceTyped, StatementRunnable}
 use Rattle.actor_turn.proofs.ListLemmas.{each_at}
-use Rattle.first_form.specs.Whole.{both, where_true, all_of}
+use Rattle.first_form.specs.Whole.{both, all_of}
 use Rattle.first_form.specs.Names.{are_distinct, number_of}
 use Rattle.first_form.specs.FirstForm.{IsIntKind}
-use Rattle.first_form.specs.FirstPlan.{Name, Variables, are_patterns, are_variables, has_fields, is_named, is_plain, item_of, name_of_kind, names_of, of_count, own_name, pattern_of, place_from, place_in, plain_item, print_with, rule_from, rule_of, rule_with, statement_of, variables_of}
+use Rattle.first_form.specs.FirstPlan.{Name, Variables, are_items, are_patterns, are_variables, has_fields, is_named, is_plain, item_of, name_of_kind, names_of, of_count, own_name, pattern_of, place_from, place_in, plain_item, print_with, rule_from, rule_of, rule_with, statement_of, variables_of}
 use Rattle.first_form.proofs.OptionLemmas.{all_of-each, all_of-length, and-left, and-right, both_value, map_value, then_value, where_value}
+
+-- ---- a test of numbers
+
+pub le_true : (m n : ℕ) → nat_le m n ≡ true → m ≤ n
+le_true m n is = grind (arith, nat_tests)
 
 -- ---- the place of a variable
 
@@ -106,8 +111,8 @@ module _ (kinds : List Kind) (name : Name) where
   find_place (d ∷ ds) patterns offset place all is =
       let b = both_value (λ (n : ℕ) (ns : List ℕ). n ∷ ns) (pattern_of kinds d) (all_of (pattern_of kinds) ds) patterns all in
       subst (λ (ns : List ℕ). IsPlaceOf kinds ns offset place) b.result
-          (place_here d b.first b.second offset place (place_from (offset + 1) (map variables_of ds) name) b.one
-              (λ later. find_place ds b.second (offset + 1) place b.other later) (position (is_named name) (variables_of d)) refl is)
+      (place_here d b.first b.second offset place (place_from (offset + 1) (map variables_of ds) name) b.one
+      (λ later. find_place ds b.second (offset + 1) place b.other later) (position (is_named name) (variables_of d)) refl is)
 
 -- ---- bodies
 
@@ -143,24 +148,22 @@ module _ (kinds : List Kind) (ints : AllByRecursion IsIntKind kinds) (decls : Li
   statement_runs : (decl : StatementDecl) (made : Statement) → statement_of variables decl ≡ Some made → StatementRunnable (sorts_of kinds) patterns made
   statement_runs (s.Print place items) made is =
       let t = then_value print_with (all_of (item_of variables) items) made is in
-      let w = where_value (nat_le (length t.first) 16) (Some (statement.Print t.first)) made t.result in
+      let w = where_value (are_items t.first) (Some (statement.Print t.first)) made t.result in
       let e : statement.Print t.first ≡ made = let v = w.value in cc in
       subst (StatementRunnable (sorts_of kinds) patterns) e
-          (all_of-each (item_of variables) (ItemRunnable (sorts_of kinds) patterns) item_runs items t.first t.value, grind (arith, nat_tests))
+      (all_of-each (item_of variables) (ItemRunnable (sorts_of kinds) patterns) item_runs items t.first t.value, le_true (length t.first) 16 (and-right (nat_le 1 (length t.first)) (nat_le (length t.first) 16) w.test))
   statement_runs (s.Post place target kind operands) made is = absurd cc
   statement_runs (s.Stop place) made is = absurd cc
 
 -- ---- rules
 
-pub le_true : (m n : ℕ) → nat_le m n ≡ true → m ≤ n
-le_true m n is = grind (arith, nat_tests)
-
 one_or_two : (variables : List Variables) → are_variables variables ≡ true → (1 ≤ length variables) × (length variables ≤ 2)
 one_or_two variables is =
     let patterns = and-left (are_patterns variables) (are_distinct own_name (names_of variables)) is in
-    let sizes = and-left (nat_le 1 (length variables) && nat_le (length variables) 2) (list_all (λ (pattern : Variables). nat_le (length pattern) 8) variables) patterns in
-    (le_true 1 (length variables) (and-left (nat_le 1 (length variables)) (nat_le (length variables) 2) sizes),
-        le_true (length variables) 2 (and-right (nat_le 1 (length variables)) (nat_le (length variables) 2) sizes))
+    let sizes = and-left (nat_le 1 (length variables) && nat_le (length variables) 2) (list_all (λ (pattern : Variables). nat_le (length pattern) 8) variables) patterns in (
+      le_true 1 (length variables) (and-left (nat_le 1 (length variables)) (nat_le (length variables) 2) sizes),
+      le_true (length variables) 2 (and-right (nat_le 1 (length variables)) (nat_le (length variables) 2) sizes),
+    )
 
 pub rule_runs : (kinds : List Kind) → AllByRecursion IsIntKind kinds → (decl : RuleDecl) (rule : Rule) → rule_of kinds decl ≡ Some rule → IsRunnable (sorts_of kinds) rule
 unfolding rule_of

@@ -1,5 +1,5 @@
 -- The posts of a feed of the first form: at most 1,000 lines, each ended by LF, each an actor's name, a kind's name and its integers, with commas between them.
-use Rattle.std.specs.Prelude.{ℕ, List, [], ◌∷◌, Bool, true, false, ◌&&◌, ◌==◌, nat_le, length, map, slice_get, Option, None, Some, ℤ}
+use Rattle.std.specs.Prelude.{ℕ, List, [], ◌∷◌, Bool, ◌==◌, nat_le, length, Option, None, Some}
 use Rattle.std.specs.List.{slice_split}
 use Rattle.std.specs.Option.{option_map, option_and_then}
 use Rattle.join_base.specs.Integer.{integer_of}
@@ -13,16 +13,19 @@ use Rattle.first_form.specs.Whole.{both, where_true, all_of}
 use Rattle.first_form.specs.Names.{number_of}
 use Rattle.first_form.specs.FirstPlan.{name_of_kind, of_count}
 
--- a message for an actor
+-- a message for the actor of a number, counted from 0
 abbrev pub Post : Type 0
 Post = ℕ × Message
 
+-- the name by which a line calls an actor
 abbrev pub name_of_actor : ActorPlan → List ℕ
 name_of_actor actor = actor.name
 
+-- LF
 abbrev pub is_line_end : ℕ → Bool
 is_line_end b = b == 10
 
+-- a comma
 abbrev pub is_comma : ℕ → Bool
 is_comma b = b == 44
 
@@ -31,22 +34,25 @@ abbrev pub after_last : List ℕ → Option (List (List ℕ))
 after_last [] = Some []
 after_last (b ∷ bs) = None
 
+-- the lines, with one more in front
 abbrev pub with_line : List ℕ → List (List ℕ) → List (List ℕ)
 with_line line lines = line ∷ lines
 
--- the lines of a text that was cut at each line end, where each of them is ended
+-- The lines of a text that was cut at each LF, where each of them is ended. What stands behind the last LF is the last part.
 abbrev pub ended_lines : List (List ℕ) → Option (List (List ℕ))
 ended_lines [] = None
 ended_lines (part ∷ []) = after_last part
 ended_lines (part ∷ other ∷ parts) = option_map (with_line part) (ended_lines (other ∷ parts))
 
+-- the integer that the bytes spell: an optional `-` and digits, of 64 bits
 abbrev pub int_value : List ℕ → Option Value
 int_value bytes = option_map (λ n. value.Int n) (integer_of bytes)
 
+-- the message of the kind of this number with these values
 abbrev pub message_with : ℕ → List Value → Message
 message_with kind values = record { kind = kind; fields = values }
 
--- as many integers as the kind has fields
+-- the message of a named kind, with as many integers as the kind has fields
 abbrev pub message_of : List Kind → List ℕ → List (List ℕ) → Option Message
 message_of kinds name values =
     both message_with (option_and_then (of_count kinds (length values)) (number_of name_of_kind kinds name)) (all_of int_value values)
@@ -56,6 +62,7 @@ abbrev pub message_of_parts : List Kind → List (List ℕ) → Option Message
 message_of_parts kinds [] = None
 message_of_parts kinds (name ∷ values) = message_of kinds name values
 
+-- the message for the actor of this number
 abbrev pub post_with : ℕ → Message → Post
 post_with actor message = (actor, message)
 
@@ -64,10 +71,11 @@ abbrev pub post_of : Plan → List (List ℕ) → Option Post
 post_of plan [] = None
 post_of plan (actor ∷ parts) = both post_with (number_of name_of_actor plan.actors actor) (message_of_parts plan.kinds parts)
 
+-- the post of a line, which commas part
 abbrev pub line_post : Plan → List ℕ → Option Post
 line_post plan line = post_of plan (slice_split is_comma line)
 
--- at most 1,000 lines
+-- the posts of at most 1,000 lines, in order
 abbrev pub posts_of_lines : Plan → List (List ℕ) → Option (List Post)
 posts_of_lines plan lines = where_true (nat_le (length lines) 1000) (all_of (line_post plan) lines)
 

@@ -3,7 +3,7 @@ use Rattle.std.specs.Prelude.{◌≡◌, Option, None, Some, Result, Ok, Err}
 use Rattle.first_form.specs.declared.refusal.Refusal.{Refusal}
 use Rattle.first_form.specs.declared.refusal.Refusal.TheVariants.{NotBuilt, NoMemory}
 
--- it is refused exactly where there is none
+-- `NotBuilt` comes only where there is none, and `NoMemory` may come wherever
 abbrev pub IsRefusal : {X : Type 0} → Refusal → Option X → Type 0
 IsRefusal NotBuilt value = value ≡ None
 IsRefusal NoMemory value = Unit {0}

@@ -86,12 +86,7 @@ fn values_of(alloc: Global, text: &[u8]) -> Result<Fields, Refusal>
 }
 
 // The message of a kind whose values stand in this text.
-fn message_of(
-    alloc: Global,
-    kinds: &[Kind],
-    name: &[u8],
-    values: &[u8],
-) -> Result<Message, Refusal>
+fn message_of(alloc: Global, kinds: &[Kind], name: &[u8], values: &[u8]) -> Result<Message, Refusal>
     requires few { length kinds.now ≤ 64 }
     requires kinds { AllByRecursion IsIntKind kinds.now }
     ensures message { Gives result (message_of kinds.now name.now (slice_split is_comma values.now)) }

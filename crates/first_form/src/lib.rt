@@ -9,3 +9,6 @@ mod refusal;
 pub use feed::feed_of;
 pub use plan::plan_of;
 pub use refusal::Refusal;
+
+#[cfg(test)]
+mod tests;

@@ -6,7 +6,7 @@ ghost use Rattle.first_form.specs.Gives.{Gives};
 ghost use Rattle.first_form.specs.Names.{number_of};
 ghost use Rattle.first_form.specs.Whole.{all_of};
 ghost use Rattle.first_form.specs.FirstForm.{IsFirstPlan};
-ghost use Rattle.first_form.specs.FirstPlan.{actor_of, are_fields, are_kinds, are_patterns, are_variables, field_of, is_named, is_plain, is_unguarded, item_of, kind_of, kinds_of, name_of_kind, names_of, of_count, pattern_of, place_from, place_in, plan_from, plan_of, rule_from, rule_of, statement_of, variables_of};
+ghost use Rattle.first_form.specs.FirstPlan.{actor_of, are_fields, are_items, are_kinds, are_patterns, are_variables, field_of, is_named, is_plain, is_unguarded, item_of, kind_of, kinds_of, name_of_kind, names_of, of_count, pattern_of, place_from, place_in, plan_from, plan_of, rule_from, rule_of, statement_of, variables_of};
 
 use crate::names::{are_distinct, number_of};
 use crate::refusal::Refusal;
@@ -110,11 +110,7 @@ fn pattern_of(kinds: &[Kind], pattern: &PatternDecl) -> Result<u32, Refusal>
     }
 }
 
-fn patterns_of(
-    alloc: Global,
-    kinds: &[Kind],
-    decls: &[PatternDecl],
-) -> Result<Items<u32>, Refusal>
+fn patterns_of(alloc: Global, kinds: &[Kind], decls: &[PatternDecl]) -> Result<Items<u32>, Refusal>
     requires { length kinds.now ≤ 64 }
     ensures { Gives result (all_of (pattern_of kinds.now) decls.now) }
 {
@@ -272,6 +268,13 @@ fn items_of(
     Ok(items)
 }
 
+// A print writes 1 to 16 items.
+fn are_items(items: &[Item]) -> bool
+    ensures { result ≡ are_items items.now }
+{
+    items.len() >= 1 && items.len() <= 16
+}
+
 fn statement_of(
     alloc: Global,
     variables: &[Items<Option<Name>>],
@@ -284,10 +287,11 @@ fn statement_of(
     match decl {
         StatementDecl::Print { items, .. } => {
             let items = items_of(alloc, variables, items.as_slice())?;
-            if items.len() > 16 {
-                return Err(Refusal::NotBuilt);
+            if are_items(items.as_slice()) {
+                Ok(Statement::Print(items))
+            } else {
+                Err(Refusal::NotBuilt)
             }
-            Ok(Statement::Print(items))
         }
         StatementDecl::Post { .. } => Err(Refusal::NotBuilt),
         StatementDecl::Stop { .. } => Err(Refusal::NotBuilt),
@@ -420,8 +424,10 @@ fn tree_plan(alloc: Global, tree: &Tree) -> Result<Plan, Refusal>
 }
 
 /// The plan of a script of the first form: one actor, fields of type `int`, definitions of one or two patterns
-/// without a guard, and bodies that print texts and variables. `NotBuilt` exactly where the tree is not of this
-/// form, or a name or a number in it is at fault.
+/// without a guard, and bodies that print texts and variables. It has at most 64 messages of at most 8 fields,
+/// 16 definitions, 16 statements in a body and 16 items in a print. `NotBuilt` comes exactly where the tree is not
+/// of this form, where two messages, two fields of a message or two variables of a definition have one name, where
+/// a pattern's kind or a print's variable is not declared, and where a pattern has not a variable for each field.
 pub fn plan_of(alloc: Global, tree: &Tree) -> Result<Plan, Refusal>
     ensures plan { Gives result (plan_of tree.now) }
     ensures first { IfOk result IsFirstPlan }

@@ -2,10 +2,12 @@
 use join_base::NoMemory;
 use std::alloc::{AllocError, AllocFailed};
 
-/// The bytes are not of the first form, or there was no memory.
+/// Why a script has no plan, or a feed no posts.
 #[derive(Clone, Copy, PartialEq, Eq, Debug)]
 pub enum Refusal {
+    /// The bytes or the tree are not of the first form.
     NotBuilt,
+    /// There was no memory. Nothing is said of the bytes.
     NoMemory,
 }
 

@@ -4,10 +4,12 @@
 mod conjunct;
 mod sums;
 mod term;
+mod truth;
 
 pub use conjunct::{Atom, Conjunct, ConjunctList};
 pub use sums::sum;
 pub use term::{Leaf, Operand, Place, Signed, Term, WordsLeaf};
+pub use truth::holds;
 
 #[cfg(test)]
 mod tests;

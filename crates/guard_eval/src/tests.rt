@@ -1,5 +1,7 @@
-use crate::{Atom, Conjunct, ConjunctList, Leaf, Operand, Place, Signed, Term, WordsLeaf};
-use join_base::{Items, NoMemory, Relation, Text};
+ghost use Rattle.std.specs.Prelude.{◌≡◌, ◌∷◌, [], false, IfOk};
+
+use crate::{Atom, Conjunct, ConjunctList, Leaf, Operand, Place, Signed, Term, WordsLeaf, holds};
+use join_base::{Items, Letters, NoMemory, Relation, Slots, Text};
 use std::alloc::Global;
 use std::test::Fail;
 
@@ -69,5 +71,47 @@ fn conjuncts_are_copied(rt: HostRuntime) -> Result<(), Fail> {
     list.push(conjunct(rt.alloc())?)?;
     let copied = list.copy(rt.alloc())?;
     assert_eq!(rt; copied.as_slice().len(), 2);
+    Ok(())
+}
+
+fn number(alloc: Global, value: i64) -> Result<Operand, NoMemory>
+    ensures { IfOk result (λ o. o ≡ Operand.Sum (record { minus = false; leaf = Leaf.Number value } ∷ [])) }
+{
+    let mut leaves = Items::new(alloc);
+    leaves.push(Signed {
+        minus: false,
+        leaf: Leaf::Number(value),
+    })?;
+    Ok(Operand::Sum(Term::new(leaves)))
+}
+
+// Whether two numbers compare so.
+fn compare(alloc: Global, left: i64, relation: Relation, right: i64) -> Result<bool, NoMemory> {
+    let mut conjunct = Conjunct::new(alloc);
+    let left = number(alloc, left)?;
+    let right = number(alloc, right)?;
+    conjunct.push(Atom::Compare {
+        left,
+        relation,
+        right,
+    })?;
+    Ok(holds(&conjunct, &Slots::new(1), &Letters::new(alloc)))
+}
+
+#[test]
+fn each_relation_at_its_edge(rt: HostRuntime) -> Result<(), Fail> {
+    let table = [
+        (Relation::Equal, false, true, false),
+        (Relation::NotEqual, true, false, true),
+        (Relation::Less, true, false, false),
+        (Relation::LessEqual, true, true, false),
+        (Relation::Greater, false, false, true),
+        (Relation::GreaterEqual, false, true, true),
+    ];
+    for (relation, below, same, above) in table {
+        assert_eq!(rt; compare(rt.alloc(), 6, relation, 7)?, below);
+        assert_eq!(rt; compare(rt.alloc(), 7, relation, 7)?, same);
+        assert_eq!(rt; compare(rt.alloc(), 8, relation, 7)?, above);
+    }
     Ok(())
 }

@@ -1,7 +1,10 @@
 -- What the inputs and the sink in memory hold.
-use Rattle.std.specs.Prelude.{ℕ, ◌+◌, ◌-◌, ◌^◌, List, [], ◌∷◌, ◌++◌, min, Bool, ◌==◌}
+use Rattle.std.specs.Prelude.{◌≡◌, ◌⊎◌, ℕ, ◌+◌, ◌-◌, ◌^◌, ◌≤◌, List, [], ◌∷◌, ◌++◌, length, take, min, Bool, true, false, ◌==◌, Option, None, Result, Ok, Err}
 use Rattle.std.specs.List.{list_any}
-use Rattle.join_base.specs.Outside.{Files, Told}
+use Rattle.join_base.specs.declared.outside.Failed.{Failed as Fault}
+use Rattle.join_base.specs.declared.outside.FetchFault.{FetchFault}
+use Rattle.join_base.specs.declared.outside.FetchFault.TheVariants.{Failed, TooLong, NoMemory}
+use Rattle.join_base.specs.Outside.{Files, Told, content_of}
 
 -- the files, the newest first; the names asked; the numbers of the calls that fail, counted from 1; the calls and the faults so far
 pub record InputsHeld : Type 0 where
@@ -45,3 +48,41 @@ is_among calls call = list_any (λ other. other == call) calls
 -- one more, up to the last 64-bit number
 abbrev pub one_more : ℕ → ℕ
 one_more count = min (count + 1) (2 ^ 64 - 1)
+
+-- the name was asked, and the call counted
+abbrev pub after_fetch : InputsHeld → List ℕ → InputsHeld
+after_fetch held name = record held { asked = held.asked ++ name ∷ []; calls = one_more held.calls }
+
+abbrev pub with_fetch_fault : InputsHeld → InputsHeld
+with_fetch_fault held = record held { faults = one_more held.faults }
+
+-- the call that comes next was to fail
+abbrev pub fetch_is_to_fail : InputsHeld → Bool
+fetch_is_to_fail held = is_among held.failing (one_more held.calls)
+
+-- what a fetch leaves: it fails at a call that was to fail and at a name without bytes, and there alone
+abbrev pub FetchLeaves : InputsHeld → InputsHeld → List ℕ → Result (List ℕ) FetchFault → Type 0
+FetchLeaves before now name (Ok bytes) = (now ≡ after_fetch before name) × (fetch_is_to_fail before ≡ false)
+FetchLeaves before now name (Err Failed) =
+    (now ≡ with_fetch_fault (after_fetch before name)) × ((fetch_is_to_fail before ≡ true) ⊎ (content_of before.files name ≡ None))
+FetchLeaves before now name (Err TooLong) = (now ≡ after_fetch before name) × (fetch_is_to_fail before ≡ false)
+FetchLeaves before now name (Err NoMemory) = (now ≡ before) ⊎ (now ≡ after_fetch before name)
+
+abbrev pub after_write : SinkHeld → List ℕ → SinkHeld
+after_write held written = record held { taken = held.taken ++ written; calls = one_more held.calls }
+
+abbrev pub with_write_fault : SinkHeld → SinkHeld
+with_write_fault held = record held { faults = one_more held.faults }
+
+abbrev pub write_is_to_fail : SinkHeld → Bool
+write_is_to_fail held = is_among held.failing (one_more held.calls)
+
+-- how many bytes of a piece a write takes
+abbrev pub write_size : SinkHeld → List ℕ → ℕ
+write_size held piece = min (min (held.room - length held.taken) held.most) (length piece)
+
+-- what a write leaves: it fails at a call that was to fail and where no room is left, and there alone
+abbrev pub WriteLeaves : SinkHeld → SinkHeld → List ℕ → Result ℕ Fault → Type 0
+WriteLeaves before now piece (Ok count) = (count ≡ write_size before piece) × (now ≡ after_write before (take count piece)) × (write_is_to_fail before ≡ false)
+WriteLeaves before now piece (Err fault) =
+    (now ≡ with_write_fault (after_write before [])) × ((write_is_to_fail before ≡ true) ⊎ (before.room ≤ length before.taken))

@@ -98,7 +98,7 @@ impl MemoryInputs {
 }
 
 impl Inputs for MemoryInputs {
-    ghost use Rattle.join_base.specs.Memory.{told_by};
+    ghost use Rattle.join_base.specs.Memory.{told_by, FetchLeaves};
 
     ghost tells = { λ s. Some (told_by s) };
 
@@ -108,8 +108,7 @@ impl Inputs for MemoryInputs {
         ensures within { IfOk result (λ bytes. length bytes ≤ max) }
         ensures told { FetchTells (Some (told_by self.old)) (Some (told_by self.new)) name.now max result }
         ensures cause { FetchCause self.old.faults self.new.faults result }
-        // It fails only at a call that was to fail, and at a name that has no bytes.
-        ensures failed { result ≡ Err FetchFault.Failed → (is_among self.old.failing (one_more self.old.calls) ≡ true) ⊎ (content_of self.old.files name.now ≡ None) }
+        ensures leaves { FetchLeaves self.old self.new name.now result }
     {
         let asked = Word::from_text(alloc, name)?;
         self.asked.push(asked)?;
@@ -195,6 +194,8 @@ impl MemorySink {
 }
 
 impl Sink for MemorySink {
+    ghost use Rattle.join_base.specs.Memory.{WriteLeaves};
+
     ghost taken = { λ s. Some s.taken };
 
     ghost faults = { λ s. s.faults };
@@ -204,8 +205,7 @@ impl Sink for MemorySink {
         ensures count { IfOk result (IsCount piece.now) }
         ensures told { WriteTells (Some self.old.taken) (Some self.new.taken) piece.now result }
         ensures cause { WriteCause self.old.faults self.new.faults result }
-        // It fails only at a call that was to fail, and where no room is left.
-        ensures failed { OnErr result ((is_among self.old.failing (one_more self.old.calls) ≡ true) ⊎ (self.old.room ≤ length self.old.taken)) }
+        ensures leaves { WriteLeaves self.old self.new piece.now result }
     {
         self.calls = self.calls.saturating_add(1);
         let left = self.room - self.taken.len();

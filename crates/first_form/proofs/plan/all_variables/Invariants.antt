@@ -1,4 +1,4 @@
-use Rattle.std.proofs.Common.{◌≡◌, ℕ, List, ◌++◌, take, drop, map, Option}
+use Rattle.std.proofs.Common.{◌≡◌, take, map}
 use Rattle.first_form.specs.FirstPlan.{variables_of}
 use Rattle.first_form.proofs.plan.all_variables.Given as goal
 

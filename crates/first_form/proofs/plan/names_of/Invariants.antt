@@ -1,4 +1,4 @@
-use Rattle.std.proofs.Common.{◌≡◌, ℕ, List, ◌++◌, take, drop, map, Option}
+use Rattle.std.proofs.Common.{◌≡◌, take}
 use Rattle.first_form.specs.FirstPlan.{names_of}
 use Rattle.first_form.proofs.plan.names_of.Given as goal
 

@@ -1,4 +1,4 @@
-use Rattle.std.proofs.Common.{◌≡◌, ℕ, List, ◌++◌, take, drop, map, Option}
+use Rattle.std.proofs.Common.{◌≡◌, drop}
 use Rattle.first_form.specs.FirstPlan.{place_from}
 use Rattle.first_form.proofs.plan.place_of.Given as goal
 

@@ -1,4 +1,4 @@
-use Rattle.std.proofs.Common.{◌≡◌, ℕ, List, ◌++◌, take, drop, map, Option}
+use Rattle.std.proofs.Common.{◌≡◌, ℕ, List, take, map, Option}
 use Rattle.first_form.proofs.plan.variables_of.Given as goal
 
 abbrev pub invariant-loop-name : goal.invariant-loop-name

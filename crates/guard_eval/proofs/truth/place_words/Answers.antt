@@ -1,0 +1,12 @@
+use Rattle.std.proofs.Common.{◌≡◌, ◌∙◌, ◌≤◌, ap, sym, arith, rules}
+use Rattle.guard_eval.specs.Meaning.{words_of}
+use Rattle.guard_eval.proofs.ReadyLemmas.{value_at_parts}
+use Rattle.guard_eval.proofs.truth.place_words.Goals as goal
+
+pub returns-in-Some : goal.returns-in-Some
+returns-in-Some c =
+    let here = c.in-Some.ensures.place in
+    let same : c.requires.number ≡ c.in-Some.number = cc in
+    let above : 1 ≤ c.in-Some.number = omega (arith, same, c.requires.above_zero) in
+    c.words_of.ensures
+    ∙ ap words_of (sym (value_at_parts c.args.letters.now c.args.slots.now c.args.place c.in-Some.number c.at-message.result.now c.at.result.now here above c.at-message.ensures.item c.at.ensures.item))

@@ -1,0 +1,127 @@
+//! Whether a conjunct is decided at an assignment, and whether it is true there.
+ghost use Rattle.std.specs.Prelude.{◌≡◌, ◌++◌, ◌<◌, Some, length};
+ghost use Rattle.std.specs.List.{AllByRecursion};
+ghost use Rattle.guard_eval.specs.Meaning.{compares, int_relation, is_true, needs_of, operand_needs, words_needs, words_of, words_relation, words_value, value_at};
+ghost use Rattle.guard_eval.specs.Ready.{AreReady, IsWordsReady};
+ghost use Rattle.guard_eval.specs.Shape.{atom_condition, conjunct_condition};
+
+use crate::conjunct::{Atom, Conjunct};
+use crate::sums::sum;
+use crate::term::{Operand, Place, WordsLeaf};
+use join_base::{Letters, Relation, Slots, Value};
+
+fn int_relation(relation: Relation, left: i128, right: i128) -> bool
+    ensures { result ≡ int_relation relation left right }
+{
+    match relation {
+        Relation::Equal => left == right,
+        Relation::NotEqual => left != right,
+        Relation::Less => left < right,
+        Relation::LessEqual => left <= right,
+        Relation::Greater => left > right,
+        Relation::GreaterEqual => left >= right,
+    }
+}
+
+// Texts are compared for equality alone.
+fn words_relation(relation: Relation, text: &[u8], other: &[u8]) -> bool
+    ensures { result ≡ words_relation relation text.now other.now }
+{
+    match relation {
+        Relation::Equal => text == other,
+        Relation::NotEqual => text != other,
+        _ => false,
+    }
+}
+
+// The text of a value, and the empty one of an integer.
+fn words_of(value: &Value) -> &[u8]
+    ensures { result.now ≡ words_of (Some value.now) }
+{
+    match value {
+        Value::Int(_) => &[],
+        Value::Words(text) => text.bytes(),
+    }
+}
+
+// The text that a variable has.
+fn place_words<'a>(place: Place, slots: &Slots, letters: &'a Letters) -> &'a [u8]
+    requires { IsWordsReady letters.now slots.now place }
+    ensures { result.now ≡ words_of (value_at letters.now slots.now place) }
+{
+    match slots.get(place.pattern) {
+        Some(number) => {
+            let message = letters.at((number - 1) as usize);
+            words_of(message.fields.at(place.field as usize))
+        }
+        None => &[],
+    }
+}
+
+fn leaf_words<'a>(leaf: &'a WordsLeaf, slots: &Slots, letters: &'a Letters) -> &'a [u8]
+    requires { AreReady letters.now slots.now (words_needs leaf.now) }
+    ensures { result.now ≡ words_value letters.now slots.now leaf.now }
+{
+    match leaf {
+        WordsLeaf::Fixed(text) => text.bytes(),
+        WordsLeaf::Field(place) => place_words(*place, slots, letters),
+    }
+}
+
+// How a comparison of two operands comes out.
+fn compares(
+    left: &Operand,
+    relation: Relation,
+    right: &Operand,
+    slots: &Slots,
+    letters: &Letters,
+) -> bool
+    requires left { AreReady letters.now slots.now (operand_needs left.now) }
+    requires right { AreReady letters.now slots.now (operand_needs right.now) }
+    ensures { result ≡ compares letters.now slots.now left.now relation right.now }
+{
+    match (left, right) {
+        (Operand::Sum(left), Operand::Sum(right)) => int_relation(
+            relation,
+            sum(left, slots, letters),
+            sum(right, slots, letters),
+        ),
+        (Operand::Words(left), Operand::Words(right)) => words_relation(
+            relation,
+            leaf_words(left, slots, letters),
+            leaf_words(right, slots, letters),
+        ),
+        _ => false,
+    }
+}
+
+#[cycle(holds)]
+fn atom_holds(atom: &Atom, slots: &Slots, letters: &Letters) -> bool
+    requires ready { AreReady letters.now slots.now (needs_of (atom_condition atom.now)) }
+    ensures { result ≡ is_true letters.now slots.now (atom_condition atom.now) }
+{
+    match atom {
+        Atom::Compare {
+            left,
+            relation,
+            right,
+        } => compares(left, *relation, right, slots, letters),
+        Atom::Not(inner) => !atom_holds(inner, slots, letters),
+        Atom::Group(inner) => holds(inner, slots, letters),
+    }
+}
+
+/// Whether a conjunct is true at an assignment: one of its atoms is. The patterns of its variables are filled with
+/// numbers of recorded messages, whose fields have the types that the conjunct needs.
+#[cycle(holds)]
+pub fn holds(conjunct: &Conjunct, slots: &Slots, letters: &Letters) -> bool
+    requires ready { AreReady letters.now slots.now (needs_of (conjunct_condition conjunct.now)) }
+    ensures { result ≡ is_true letters.now slots.now (conjunct_condition conjunct.now) }
+{
+    for atom in &conjunct.atoms {
+        if atom_holds(atom, slots, letters) {
+            return true;
+        }
+    }
+    false
+}
