@@ -45,4 +45,4 @@ pub run_is_linked : (plan : Plan) (posts : List Post) (run : ActorRun) (actors :
 run_is_linked plan posts run actors first fits texts is all =
     let P : List ActorRun → Type 0 = λ (a : List ActorRun). IsLinked plan default_limits (posts ∷ []) (record { limits = default_limits; feeds = 1; actors = a }) in
     subst P (sym (all ∙ ap (λ (r : ActorRun). r ∷ []) is))
-        (linked_one plan default_limits first.one_actor first.runnable texts (omega arith) (omega arith) posts fits.each fits.few (omega arith, omega arith) (omega arith, omega arith))
+    (linked_one plan default_limits first.one_actor first.runnable texts (omega arith) (omega arith) posts fits.each fits.few (omega arith, omega arith) (omega arith, omega arith))

@@ -1,4 +1,5 @@
 pub mod Command
+pub mod Numbers
 pub mod Verdict
 pub mod Output
 pub mod Loading

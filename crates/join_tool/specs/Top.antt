@@ -1,5 +1,5 @@
 -- The clauses of the top call.
-use Rattle.std.specs.Prelude.{◌≡◌, ◌⊎◌, ℕ, ◌≤◌, List, ◌++◌, Option, None, Some, Result, Ok, Err}
+use Rattle.std.specs.Prelude.{◌≡◌, ◌≢◌, ◌⊎◌, ℕ, ◌≤◌, List, ◌++◌, Option, None, Some, Result, Ok, Err}
 use Rattle.join_base.specs.Outside.{Files, Told, Rose}
 use Rattle.script_types.specs.declared.plan.Plan.{Plan}
 use Rattle.actor_turn.specs.declared.run.Limits.{Limits}
@@ -35,6 +35,12 @@ pub record Prepares (words : Words) (before now : Told) (result : Result (Status
   pub are_asked : AreAsked words before.files asked
   pub output : PreparesOutput words before.files result
 
+-- the same of the fetching alone
+pub record FetchesInOrder (words : Words) (before now : Told) : Type 0 where
+  pub asked : List (List ℕ)
+  pub told_is : now ≡ record { files = before.files; asked = before.asked ++ asked }
+  pub are_asked : AreAsked words before.files asked
+
 -- the count of faults never falls, and a file could not be read only where it rose
 pub record PrepareCause (before now : ℕ) (result : Result (Status × List ℕ) Unanswered) : Type 0 where
   pub later : before ≤ now
@@ -65,6 +71,10 @@ abbrev pub AnswersWhereTold : Words → Option Told → Option (List ℕ) → Op
 AnswersWhereTold words None taken told_now taken_now answer = Unit {0}
 AnswersWhereTold words (Some told) None told_now taken_now answer = Unit {0}
 AnswersWhereTold words (Some told) (Some taken) told_now taken_now answer = Answers words told taken told_now taken_now answer
+
+-- a limit can't be met and a log can't be refused by the commands so far
+abbrev pub IsBuilt : Status → Type 0
+IsBuilt answer = (answer ≢ status.Limits) × (answer ≢ status.LogRefused)
 
 -- each count of faults never falls, and a fault is answered only where its count rose
 pub record HasCauses (read_before read_now write_before write_now : ℕ) (answer : Status) : Type 0 where

@@ -57,11 +57,7 @@ fn read_plan(alloc: Global, bytes: &[u8]) -> Result<Plan, LoadFault>
 }
 
 /// Fetches a script and reads its plan.
-pub fn load_script<I: Inputs>(
-    alloc: Global,
-    inputs: &mut I,
-    name: &Word,
-) -> Result<Plan, LoadFault>
+pub fn load_script<I: Inputs>(alloc: Global, inputs: &mut I, name: &Word) -> Result<Plan, LoadFault>
     ensures told { Tells (I.tells inputs.old) (I.tells inputs.new) (λ before now. LoadsScript before now name.now result) }
     ensures cause { LoadCause (I.faults inputs.old) (I.faults inputs.new) result }
     ensures first { IfOk result IsFirstPlan }

@@ -9,6 +9,8 @@ mod output;
 mod reply;
 mod run;
 mod status;
+#[cfg(test)]
+mod tests;
 mod top;
 
 use crate::files::{FileInputs, OutSink};

@@ -1,4 +1,6 @@
 //! How the program ends.
+ghost use Rattle.std.specs.Prelude.{◌≡◌};
+ghost use Rattle.join_tool.specs.Numbers.{number_of};
 
 /// The status of a call, whose number is the exit status of the program.
 #[derive(Clone, Copy, PartialEq, Eq, Debug)]
@@ -27,7 +29,9 @@ pub enum Status {
 
 impl Status {
     /// The exit status: 0 for `Done`, and so on in their order to 9 for `TooLong`.
-    pub fn number(self) -> u8 {
+    pub fn number(self) -> u8
+        ensures number { result ≡ number_of self }
+    {
         self as u8
     }
 }

@@ -2,7 +2,7 @@
 ghost use Rattle.std.specs.Prelude.{◌≡◌, ◌≢◌, ◌⊎◌, None, Err, IfOk};
 ghost use Rattle.join_tool.specs.Command.{command_of};
 ghost use Rattle.join_tool.specs.Loading.{Tells};
-ghost use Rattle.join_tool.specs.Top.{AnswersWhereTold, CompletesWhereTold, HasCauses, IsSettled, PrepareCause, Prepares, RefusesWords, TestsWords};
+ghost use Rattle.join_tool.specs.Top.{AnswersWhereTold, CompletesWhereTold, FetchesInOrder, HasCauses, IsBuilt, IsSettled, PrepareCause, Prepares, RefusesWords, TestsWords};
 
 use crate::gate::Gate;
 use crate::output::{output_of, write_all};
@@ -18,6 +18,7 @@ fn prepare<I: Inputs>(
     inputs: &mut I,
 ) -> Result<(Status, Bytes), Unanswered>
     ensures told { Tells (I.tells inputs.old) (I.tells inputs.new) (λ before now. Prepares words.now before now result) }
+    ensures fetches { Tells (I.tells inputs.old) (I.tells inputs.new) (λ before now. FetchesInOrder words.now before now) }
     ensures cause { PrepareCause (I.faults inputs.old) (I.faults inputs.new) result }
     ensures settled { IfOk result (λ p. IsSettled p.0) }
     ensures words { IfOk result (λ p. TestsWords words.now p.0) }
@@ -51,6 +52,9 @@ pub fn join_main<R, I: Inputs, S: Sink, G: Gate>(
     // of a run that is linked to the posts of the feed.
     ensures answer { AnswersWhereTold words.now (I.tells inputs.old) (S.taken out.old) (I.tells inputs.new) (S.taken out.new) result }
 
+    // Inputs that tell were asked only for names that the order fetches, whatever the sink tells.
+    ensures fetches { Tells (I.tells inputs.old) (I.tells inputs.new) (λ before now. FetchesInOrder words.now before now) }
+
     // A fault is answered only where its count rose in this call.
     ensures causes { HasCauses (I.faults inputs.old) (I.faults inputs.new) (S.faults out.old) (S.faults out.new) result }
 
@@ -59,8 +63,9 @@ pub fn join_main<R, I: Inputs, S: Sink, G: Gate>(
 
     ensures words_refused { RefusesWords words.now result }
     ensures usage_only { result ≡ Status.Usage → command_of words.now ≡ None }
-    ensures silent { (result ≡ Status.ReadFault) ⊎ (result ≡ Status.NoMemory) → S.taken out.new ≡ S.taken out.old }
-    ensures no_limit { result ≢ Status.Limits }
+    // The sink was not touched.
+    ensures silent { (result ≡ Status.ReadFault) ⊎ (result ≡ Status.NoMemory) → out.new ≡ out.old }
+    ensures built { IsBuilt result }
 {
     // A script spells one tree: it costs nothing, and completeness rests on it.
     script_reader::one_answer();
