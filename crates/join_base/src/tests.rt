@@ -180,3 +180,48 @@ fn messages_have_at_most_eight_values(rt: HostRuntime) {
         Err(_) => assert!(rt; false),
     }
 }
+
+fn fetched(inputs: &mut MemoryInputs, alloc: Global, name: &str, max: u64) -> Result<Bytes, Fail> {
+    match inputs.fetch(alloc, name, max) {
+        Ok(bytes) => Ok(bytes),
+        Err(fault) => Err(Fail::from(fault)),
+    }
+}
+
+#[test]
+fn inputs_in_memory_fail_where_they_are_told_to(rt: HostRuntime) -> Result<(), Fail> {
+    let alloc = rt.alloc();
+    let mut inputs = MemoryInputs::new(alloc);
+    for text in [b"one", b"two"] {
+        let mut bytes = Bytes::new(alloc);
+        bytes.push_all(text)?;
+        inputs.put(alloc, "a", bytes)?;
+    }
+    inputs.fail(2)?;
+    let first = fetched(&mut inputs, alloc, "a", 3)?;
+    assert_eq!(rt; first.bytes(), b"two".as_slice());
+    let faults = [
+        inputs.fetch(alloc, "a", 3).err(),
+        inputs.fetch(alloc, "a", 2).err(),
+        inputs.fetch(alloc, "b", 3).err(),
+    ];
+    assert_eq!(rt; faults[0], Some(FetchFault::Failed));
+    assert_eq!(rt; faults[1], Some(FetchFault::TooLong));
+    assert_eq!(rt; faults[2], Some(FetchFault::Failed));
+    let last = fetched(&mut inputs, alloc, "a", 3)?;
+    assert_eq!(rt; last.bytes(), b"two".as_slice());
+    Ok(())
+}
+
+#[test]
+fn a_sink_in_memory_takes_some_bytes_up_to_its_room(rt: HostRuntime) -> Result<(), Fail> {
+    let mut out = MemorySink::new(rt.alloc(), 5, 2)?;
+    out.fail(2)?;
+    assert_eq!(rt; out.write(b"abc").ok(), Some(2));
+    assert_eq!(rt; out.write(b"c").ok(), None);
+    assert_eq!(rt; out.write(b"c").ok(), Some(1));
+    assert_eq!(rt; out.write(b"defg").ok(), Some(2));
+    assert_eq!(rt; out.write(b"fg").ok(), None);
+    assert_eq!(rt; out.bytes(), b"abcde".as_slice());
+    Ok(())
+}

@@ -5,7 +5,7 @@ ghost use Rattle.join_base.specs.Outside.{FetchCause, FetchTells, IsCount, Write
 use join_base::{Bytes, Failed, FetchFault, Inputs, Sink};
 use std::alloc::Global;
 use std::fs;
-use std::io::{ErrorKind, Read, Write};
+use std::io::{self, ErrorKind, Read, Write};
 use std::rt::Files;
 
 // Reads to the end, or one byte past `max`.
@@ -20,12 +20,16 @@ fn read_up_to<F: Read + Drop>(alloc: Global, file: F, max: u64) -> Result<Bytes,
             }
             Ok(Bytes::from_vec(bytes))
         }
-        Err(error) => {
-            if error.kind() == ErrorKind::OutOfMemory {
-                return Err(FetchFault::NoMemory);
-            }
-            Err(FetchFault::Failed)
-        }
+        Err(error) => Err(fault_of(&error)),
+    }
+}
+
+// Want of memory is no fault of the file.
+fn fault_of(error: &io::Error) -> FetchFault {
+    if error.kind() == ErrorKind::OutOfMemory {
+        FetchFault::NoMemory
+    } else {
+        FetchFault::Failed
     }
 }
 
@@ -37,7 +41,9 @@ pub struct FileInputs<'a, R: Files> {
 }
 
 impl<'a, R: Files> FileInputs<'a, R> {
-    pub fn new(rt: &'a R) -> FileInputs<'a, R> {
+    pub fn new(rt: &'a R) -> FileInputs<'a, R>
+        ensures no_fault { result.faults ≡ 0 }
+    {
         FileInputs { rt, faults: 0 }
     }
 }
@@ -48,7 +54,7 @@ fn read_file<R: Files>(rt: &R, alloc: Global, name: &str, max: u64) -> Result<By
 {
     match fs::open(rt, name) {
         Ok(file) => read_up_to(alloc, file, max),
-        Err(_) => Err(FetchFault::Failed),
+        Err(error) => Err(fault_of(&error)),
     }
 }
 
@@ -76,7 +82,9 @@ pub struct OutSink<W: Write + Drop> {
 }
 
 impl<W: Write + Drop> OutSink<W> {
-    pub fn new(writer: W) -> OutSink<W> {
+    pub fn new(writer: W) -> OutSink<W>
+        ensures no_fault { result.faults ≡ 0 }
+    {
         OutSink { writer, faults: 0 }
     }
 }
