@@ -1,5 +1,5 @@
 //! The numbers of names.
-ghost use Rattle.std.specs.Prelude.{◌≡◌, ◌∷◌, [], ◌++◌, ◌<◌, length, IfSome, OnOk, OnErr};
+ghost use Rattle.std.specs.Prelude.{◌≡◌, ◌∷◌, [], ◌++◌, ◌<◌, length, map, IfSome, OnOk, OnErr};
 ghost use Rattle.script_names.specs.Names.{item_of, names_of, number_of};
 
 use indexmap::IndexMap;
@@ -46,6 +46,15 @@ impl<'a, T> NameTable<'a, T> {
             Some(number) => Some(*number),
             None => None,
         }
+    }
+}
+
+impl<'a, T> NameTable<'a, T> {
+    /// The names with their items, in order.
+    pub fn rows(&self) -> &[(&'a [u8], T)]
+        ensures { map (λ r. (r.0.now, r.1)) result.now ≡ self.now }
+    {
+        self.rows.as_slice()
     }
 }
 
