@@ -10,3 +10,4 @@ pub mod LoopLemmas
 pub mod GroupLemmas
 pub mod DeclarationLemmas
 pub mod RefusalLemmas
+pub mod FilledLemmas

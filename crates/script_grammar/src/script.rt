@@ -4,6 +4,7 @@ ghost use Rattle.script_grammar.specs.Reading.{repeated};
 ghost use Rattle.script_grammar.specs.ScriptReading.{next_is, begins_declaration, declaration_read, tree_with, no_tree, script_read};
 ghost use Rattle.script_grammar.specs.Gives.{Gives, GivesAll};
 ghost use Rattle.script_grammar.specs.Refusal.{Answers, OneTree, OneRefusal, RefusalStays};
+ghost use Rattle.script_grammar.specs.Filled.{ScriptsAreFilled};
 
 use crate::actor::actor_at;
 use crate::message::message_at;
@@ -58,4 +59,10 @@ pub fn one_answer()
     ensures tree { OneTree }
     ensures refusal { OneRefusal }
     ensures stays { RefusalStays }
+{}
+
+/// The tree of a script has no gaps: an actor at least, a pattern in each definition, a leaf in each term, and an item in
+/// each print.
+pub fn filled_law()
+    ensures { ScriptsAreFilled }
 {}

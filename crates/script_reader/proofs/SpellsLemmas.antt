@@ -1,18 +1,20 @@
 -- Bytes spell one tree or have one fault.
 use Rattle.std.proofs.Common.{Bool, true, false, ◌≡◌, ℕ, ◌<◌, ◌≤◌, ◌⊎◌, inl, inr, ⊎_elim, ◌++◌, List, [], ◌∷◌, length, refl, sym, ap, subst, ◌∙◌, arith}
-use Rattle.std.specs.Prelude.{if◌then◌else◌}
+use Rattle.std.specs.Prelude.{if◌then◌else◌, Result, Ok, Err, IfOk}
 use Rattle.std.specs.Str.{IsUtf8, IsValidUpTo}
 use Rattle.script_tokens.specs.declared.token.Token.{Token}
 use Rattle.script_tokens.specs.Tokens.{AreTokens, AreFront}
 use Rattle.script_tokens.specs.Tokens as tokens_of
 use Rattle.script_grammar.specs.declared.tree.Tree.{Tree}
 use Rattle.script_grammar.specs.Grammar.{IsScript}
+use Rattle.script_grammar.specs.Filled.{IsFilled, ScriptsAreFilled}
 use Rattle.script_grammar.specs.Refusal.{Refuses}
 use Rattle.script_grammar.specs.Refusal as refusal
 use Rattle.script_reader.specs.declared.fault.ScriptCause.{ScriptCause}
 use Rattle.script_reader.specs.declared.fault.ScriptCause.TheVariants.{NotText, BadToken, BadSyntax, TooMany, TwiceDeclared, UnknownMessage, UnknownActor, UnknownName, WrongCount, WrongType, StopNotLast}
+use Rattle.script_reader.specs.declared.fault.ScriptFault.{ScriptFault}
 use Rattle.script_reader.specs.declared.fault.ScriptFault.TheVariants.{Bad}
-use Rattle.script_reader.specs.Spells.{Spells, IsNoText, IsRefused, IsFault, FaultIs, place_of, cause_of, OneTree, NoBoth, OneFault}
+use Rattle.script_reader.specs.Spells.{Spells, IsNoText, IsRefused, IsFault, FaultIs, Reads, place_of, cause_of, OneTree, NoBoth, OneFault}
 
 -- a fault of reading is no text, or a refusal
 fault_sort : (bytes : List ℕ) (place : ℕ) (cause : ScriptCause) → IsFault bytes place cause → ((cause ≡ NotText) × IsNoText bytes place) ⊎ IsRefused bytes place cause
@@ -79,3 +81,9 @@ front_refused some stays bytes left tokens [] text front within refused more = a
 front_refused some stays bytes left tokens (t ∷ ts) text front within refused more =
     let others = some (length bytes) left within in
     refused_is bytes (tokens ++ others.0) (t ∷ ts ++ others.0) text (front others.0 others.1) (stays tokens ts others.0 t refused)
+
+-- ---- a tree that was read has no gaps
+
+pub reads_filled : ScriptsAreFilled → (bytes : List ℕ) (result : Result Tree ScriptFault) → Reads bytes result → IfOk result IsFilled
+reads_filled filled bytes (Ok tree) h = filled tree h.tokens h.script
+reads_filled filled bytes (Err fault) h = tt

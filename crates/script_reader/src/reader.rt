@@ -1,7 +1,8 @@
 //! Reading a script.
-ghost use Rattle.std.specs.Prelude.{◌≡◌, ◌≤◌, length, IfSome};
+ghost use Rattle.std.specs.Prelude.{◌≡◌, ◌≤◌, length, IfSome, IfOk};
 ghost use Rattle.std.specs.Str.{IsUtf8};
 ghost use Rattle.script_tokens.specs.Tokens.{AreTokens, AreFront};
+ghost use Rattle.script_grammar.specs.Filled.{IsFilled};
 ghost use Rattle.script_reader.specs.Spells.{Reads, FaultIs, OneTree, NoBoth, OneFault, place_of, cause_of};
 ghost use Rattle.script_reader.specs.declared.fault.ScriptFault.TheVariants.{Bad};
 
@@ -91,9 +92,12 @@ fn read_text(alloc: Global, bytes: &[u8]) -> Result<Tree, ScriptFault>
 
 /// The tree that the bytes spell. Otherwise `NotText` behind the longest UTF-8 front where they are no text, and else the
 /// first token at which no continuation is a script: `BadToken` where no token begins there, and `BadSyntax` otherwise.
+/// The tree has no gaps.
 pub fn read_script(alloc: Global, bytes: &[u8]) -> Result<Tree, ScriptFault>
-    ensures { Reads bytes.now result }
+    ensures reads { Reads bytes.now result }
+    ensures filled { IfOk result IsFilled }
 {
+    script_grammar::filled_law();
     match std::str::from_utf8(bytes) {
         Ok(_) => read_text(alloc, bytes),
         Err(e) => Err(ScriptFault::Bad {
