@@ -12,7 +12,7 @@ use std::marker::Model;
 #[cycle(guard)]
 #[derive(Drop)]
 pub struct Conjunct {
-    pub(crate) atoms: Vec<Atom>,
+    pub atoms: Vec<Atom>,
 }
 
 /// A test of a guard. Contracts see the tree `atom_condition`.

@@ -1,0 +1,3 @@
+pub mod GuardText
+pub mod PlanNames
+pub mod PlanText
