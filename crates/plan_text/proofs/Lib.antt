@@ -1,3 +1,4 @@
+pub mod Examples
 pub mod GuardLemmas
 pub mod PatternLemmas
 pub mod RestLemmas

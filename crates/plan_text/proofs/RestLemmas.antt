@@ -1,5 +1,5 @@
 -- A list as its first item and the rest.
-use Rattle.std.proofs.Common.{◌≡◌, ◌∙◌, ℕ, ◌-◌, ◌≤◌, List, [], ◌∷◌, arith, ap, drop, get_or, length, refl, sym, take}
+use Rattle.std.proofs.Common.{◌≡◌, ◌∙◌, ℕ, ◌-◌, ◌≤◌, List, [], ◌∷◌, arith, ap, drop, get_or, length, sym, take}
 use Rattle.std.proofs.lemmas.List.{take_all}
 
 -- the items behind the first, as `[first, rest @ ..]` has them

@@ -2,7 +2,6 @@
 use Rattle.std.specs.Prelude.{ℕ, List, [], ◌∷◌, ◌++◌, Option, None, Some, codes}
 use Rattle.std.specs.List.{flat_map, join_by}
 use Rattle.join_base.specs.declared.message.Sort.{Sort}
-use Rattle.guard_eval.specs.declared.term.Operand.{Operand}
 use Rattle.script_types.specs.declared.plan.Plan.{Plan}
 use Rattle.script_types.specs.declared.plan.Kind.{Kind}
 use Rattle.script_types.specs.declared.plan.ActorPlan.{ActorPlan}
