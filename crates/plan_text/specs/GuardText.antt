@@ -15,7 +15,7 @@ use Rattle.guard_eval.specs.declared.term.Operand.TheVariants as operand
 use Rattle.guard_eval.specs.Condition.{Condition, Never, Compares, Negated, Grouped, Either}
 use Rattle.plan_text.specs.PlanNames.{Variables, variable_name}
 
--- a number in decimal, or a variable's name
+-- a number in decimal, or a variable's name; a number of a checked plan is not negative, since the sign is the leaf's
 abbrev pub leaf_text : Variables → Leaf → List ℕ
 leaf_text variables (leaf.Number n) = signed_decimal n
 leaf_text variables (leaf.Field place) = variable_name variables place

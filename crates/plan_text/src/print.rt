@@ -60,8 +60,8 @@ fn write_actors(text: &mut Bytes, plan: &Plan, actors: &[ActorPlan]) -> Result<(
     Ok(())
 }
 
-/// Appends a plan as the text of a script: its messages and then its actors, each with its definitions. So people can
-/// read what a plan says, and reading the text as a script gives the plan again.
+/// Appends a plan as text, in the form of a script: its messages and then its actors, each with its definitions. So
+/// people can read what a plan says.
 ///
 /// Each number of a kind or an actor, and each place of a variable, is written as its name, and as nothing where the
 /// plan has none. After `NoMemory` nothing was appended.
