@@ -1,0 +1,1 @@
+use crate::plan_of;
