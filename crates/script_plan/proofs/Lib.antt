@@ -1,2 +1,4 @@
+mod Examples
 pub mod GuardLemmas
 pub mod SmallLemmas
+pub mod TestLemmas

@@ -1,2 +1,3 @@
 pub mod PlanOf
 pub mod Small
+pub mod SmallTest

@@ -1,0 +1,109 @@
+-- A script and its plan, computed by the definitions.
+use Rattle.std.proofs.Common.{◌≡◌, refl, ℕ, List, [], ◌∷◌, Some, None, Option, Bool, true, false, pos}
+use Rattle.std.specs.Prelude.{codes}
+use Rattle.join_base.specs.declared.message.Relation.TheVariants.{Equal, LessEqual}
+use Rattle.join_base.specs.declared.message.Sort.{Sort}
+use Rattle.join_base.specs.declared.message.Sort.TheVariants.{Int, Words}
+use Rattle.guard_eval.specs.Condition.{Condition, Compares, Either, Grouped, Negated, Never}
+use Rattle.guard_eval.specs.declared.term.Leaf.{Leaf}
+use Rattle.guard_eval.specs.declared.term.Leaf.TheVariants as leaf
+use Rattle.guard_eval.specs.declared.term.Signed.{Signed}
+use Rattle.guard_eval.specs.declared.term.Operand.TheVariants as operand
+use Rattle.guard_eval.specs.declared.term.WordsLeaf.TheVariants as words
+use Rattle.script_grammar.specs.Atoms.{Atoms, compares, either, grouped, negated, no_atoms}
+use Rattle.script_grammar.specs.declared.tree.FieldDecl.{FieldDecl}
+use Rattle.script_grammar.specs.declared.tree.ItemDecl.TheVariants as i
+use Rattle.script_grammar.specs.declared.tree.LeafDecl.{LeafDecl}
+use Rattle.script_grammar.specs.declared.tree.MessageDecl.{MessageDecl}
+use Rattle.script_grammar.specs.declared.tree.OperandDecl.{OperandDecl}
+use Rattle.script_grammar.specs.declared.tree.OperandDecl.TheVariants as o
+use Rattle.script_grammar.specs.declared.tree.Part.TheVariants as part
+use Rattle.script_grammar.specs.declared.tree.PatternDecl.{PatternDecl}
+use Rattle.script_grammar.specs.declared.tree.RuleDecl.{RuleDecl}
+use Rattle.script_grammar.specs.declared.tree.Spelt.{Spelt}
+use Rattle.script_grammar.specs.declared.tree.StatementDecl.TheVariants as s
+use Rattle.script_grammar.specs.declared.tree.Tree.{Tree}
+use Rattle.script_types.specs.declared.plan.Item.TheVariants as item
+use Rattle.script_types.specs.declared.plan.Plan.{Plan}
+use Rattle.script_types.specs.declared.plan.Rule.{Rule}
+use Rattle.script_types.specs.declared.plan.Statement.TheVariants as statement
+use Rattle.script_plan.specs.PlanOf.{plan_of, rule_of}
+
+abbrev spelt : List ℕ → Spelt
+spelt name = record { name = name; place = 0 }
+
+abbrev field : List ℕ → Sort → FieldDecl
+field name sort = record { name = spelt name; sort = sort }
+
+abbrev pattern : List ℕ → List (Option (List ℕ)) → PatternDecl
+pattern kind [] = record { kind = spelt kind; variables = [] }
+pattern kind (v ∷ vs) = record { kind = spelt kind; variables = (0, v) ∷ (pattern kind vs).variables }
+
+abbrev named : Bool → List ℕ → LeafDecl
+named minus name = record { place = 0; minus = minus; part = part.Named name }
+
+abbrev number : ℕ → LeafDecl
+number n = record { place = 0; minus = false; part = part.Number (pos n) }
+
+abbrev sum : List LeafDecl → OperandDecl
+sum leaves = o.Sum 0 leaves
+
+-- message a(x: int, t: text) message b(x: int)
+abbrev messages : List MessageDecl
+messages =
+    record { name = spelt (codes "a"); fields = field (codes "x") Int ∷ field (codes "t") Words ∷ [] }
+    ∷ record { name = spelt (codes "b"); fields = field (codes "x") Int ∷ [] }
+    ∷ []
+
+-- if x - y <= 5 && !(t == "k")
+abbrev guard : List Atoms
+guard =
+    either (compares (sum (named false (codes "x") ∷ named true (codes "y") ∷ [])) LessEqual (sum (number 5 ∷ []))) no_atoms
+    ∷ either (negated (grouped (either (compares (sum (named false (codes "t") ∷ [])) Equal (o.Fixed 0 (codes "k"))) no_atoms))) no_atoms
+    ∷ []
+
+-- when b(y) & a(x, t) if .. { print "k" t x; post n a(-y, t); stop; }
+abbrev rule : RuleDecl
+rule = record {
+  place = 0;
+  patterns = pattern (codes "b") (Some (codes "y") ∷ []) ∷ pattern (codes "a") (Some (codes "x") ∷ Some (codes "t") ∷ []) ∷ [];
+  guard = guard;
+  body =
+    s.Print 0 (i.Fixed 0 (codes "k") ∷ i.Named (spelt (codes "t")) ∷ i.Named (spelt (codes "x")) ∷ [])
+    ∷ s.Post 0 (spelt (codes "n")) (spelt (codes "a")) (sum (named true (codes "y") ∷ []) ∷ sum (named false (codes "t") ∷ []) ∷ [])
+    ∷ s.Stop 0
+    ∷ [];
+}
+
+abbrev tree : Tree
+tree = record { messages = messages; actors = record { name = spelt (codes "m"); rules = rule ∷ [] } ∷ record { name = spelt (codes "n"); rules = [] } ∷ [] }
+
+abbrev leaf_at : Bool → ℕ → ℕ → Signed
+leaf_at minus p f = record { minus = minus; leaf = leaf.Field (record { pattern = p; field = f }) }
+
+abbrev conditions : List Condition
+conditions =
+    Either (Compares (operand.Sum (leaf_at false 1 0 ∷ leaf_at true 0 0 ∷ [])) LessEqual (operand.Sum (record { minus = false; leaf = leaf.Number (pos 5) } ∷ []))) Never
+    ∷ Either (Negated (Grouped (Either (Compares (operand.Words (words.Field (record { pattern = 1; field = 1 }))) Equal (operand.Words (words.Fixed (codes "k")))) Never))) Never
+    ∷ []
+
+abbrev planned : Rule
+planned = record {
+  definition = record { patterns = 1 ∷ 0 ∷ []; conjuncts = conditions };
+  variables = (Some (codes "y") ∷ []) ∷ (Some (codes "x") ∷ Some (codes "t") ∷ []) ∷ [];
+  body =
+    statement.Print (item.Words (words.Fixed (codes "k")) ∷ item.Words (words.Field (record { pattern = 1; field = 1 })) ∷ item.Plain (record { pattern = 1; field = 0 }) ∷ [])
+    ∷ statement.Post 1 0 (operand.Sum (leaf_at true 0 0 ∷ []) ∷ operand.Words (words.Field (record { pattern = 1; field = 1 })) ∷ [])
+    ∷ statement.Stop
+    ∷ [];
+}
+
+plan : plan_of tree ≡ record {
+  kinds =
+    record { name = codes "a"; fields = (codes "x", Int) ∷ (codes "t", Words) ∷ [] }
+    ∷ record { name = codes "b"; fields = (codes "x", Int) ∷ [] }
+    ∷ [];
+  actors = record { name = codes "m"; rules = planned ∷ [] } ∷ record { name = codes "n"; rules = [] } ∷ [];
+}
+unfolding rule_of
+plan = refl
