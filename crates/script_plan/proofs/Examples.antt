@@ -1,11 +1,10 @@
 -- A script and its plan, computed by the definitions.
-use Rattle.std.proofs.Common.{◌≡◌, refl, ℕ, List, [], ◌∷◌, Some, None, Option, Bool, true, false, pos}
+use Rattle.std.proofs.Common.{◌≡◌, refl, ℕ, List, [], ◌∷◌, Some, Option, Bool, true, false, pos}
 use Rattle.std.specs.Prelude.{codes}
 use Rattle.join_base.specs.declared.message.Relation.TheVariants.{Equal, LessEqual}
 use Rattle.join_base.specs.declared.message.Sort.{Sort}
 use Rattle.join_base.specs.declared.message.Sort.TheVariants.{Int, Words}
 use Rattle.guard_eval.specs.Condition.{Condition, Compares, Either, Grouped, Negated, Never}
-use Rattle.guard_eval.specs.declared.term.Leaf.{Leaf}
 use Rattle.guard_eval.specs.declared.term.Leaf.TheVariants as leaf
 use Rattle.guard_eval.specs.declared.term.Signed.{Signed}
 use Rattle.guard_eval.specs.declared.term.Operand.TheVariants as operand
@@ -24,7 +23,6 @@ use Rattle.script_grammar.specs.declared.tree.Spelt.{Spelt}
 use Rattle.script_grammar.specs.declared.tree.StatementDecl.TheVariants as s
 use Rattle.script_grammar.specs.declared.tree.Tree.{Tree}
 use Rattle.script_types.specs.declared.plan.Item.TheVariants as item
-use Rattle.script_types.specs.declared.plan.Plan.{Plan}
 use Rattle.script_types.specs.declared.plan.Rule.{Rule}
 use Rattle.script_types.specs.declared.plan.Statement.TheVariants as statement
 use Rattle.script_plan.specs.PlanOf.{plan_of, rule_of}
@@ -69,10 +67,10 @@ rule = record {
   patterns = pattern (codes "b") (Some (codes "y") ∷ []) ∷ pattern (codes "a") (Some (codes "x") ∷ Some (codes "t") ∷ []) ∷ [];
   guard = guard;
   body =
-    s.Print 0 (i.Fixed 0 (codes "k") ∷ i.Named (spelt (codes "t")) ∷ i.Named (spelt (codes "x")) ∷ [])
-    ∷ s.Post 0 (spelt (codes "n")) (spelt (codes "a")) (sum (named true (codes "y") ∷ []) ∷ sum (named false (codes "t") ∷ []) ∷ [])
-    ∷ s.Stop 0
-    ∷ [];
+      s.Print 0 (i.Fixed 0 (codes "k") ∷ i.Named (spelt (codes "t")) ∷ i.Named (spelt (codes "x")) ∷ [])
+      ∷ s.Post 0 (spelt (codes "n")) (spelt (codes "a")) (sum (named true (codes "y") ∷ []) ∷ sum (named false (codes "t") ∷ []) ∷ [])
+      ∷ s.Stop 0
+      ∷ [];
 }
 
 abbrev tree : Tree
@@ -92,17 +90,17 @@ planned = record {
   definition = record { patterns = 1 ∷ 0 ∷ []; conjuncts = conditions };
   variables = (Some (codes "y") ∷ []) ∷ (Some (codes "x") ∷ Some (codes "t") ∷ []) ∷ [];
   body =
-    statement.Print (item.Words (words.Fixed (codes "k")) ∷ item.Words (words.Field (record { pattern = 1; field = 1 })) ∷ item.Plain (record { pattern = 1; field = 0 }) ∷ [])
-    ∷ statement.Post 1 0 (operand.Sum (leaf_at true 0 0 ∷ []) ∷ operand.Words (words.Field (record { pattern = 1; field = 1 })) ∷ [])
-    ∷ statement.Stop
-    ∷ [];
+      statement.Print (item.Words (words.Fixed (codes "k")) ∷ item.Words (words.Field (record { pattern = 1; field = 1 })) ∷ item.Plain (record { pattern = 1; field = 0 }) ∷ [])
+      ∷ statement.Post 1 0 (operand.Sum (leaf_at true 0 0 ∷ []) ∷ operand.Words (words.Field (record { pattern = 1; field = 1 })) ∷ [])
+      ∷ statement.Stop
+      ∷ [];
 }
 
 plan : plan_of tree ≡ record {
   kinds =
-    record { name = codes "a"; fields = (codes "x", Int) ∷ (codes "t", Words) ∷ [] }
-    ∷ record { name = codes "b"; fields = (codes "x", Int) ∷ [] }
-    ∷ [];
+      record { name = codes "a"; fields = (codes "x", Int) ∷ (codes "t", Words) ∷ [] }
+      ∷ record { name = codes "b"; fields = (codes "x", Int) ∷ [] }
+      ∷ [];
   actors = record { name = codes "m"; rules = planned ∷ [] } ∷ record { name = codes "n"; rules = [] } ∷ [];
 }
 unfolding rule_of

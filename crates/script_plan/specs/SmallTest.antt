@@ -1,5 +1,5 @@
 -- Whether a script is small, as a test.
-use Rattle.std.specs.Prelude.{ℕ, List, length, Bool, true, ◌&&◌, nat_le}
+use Rattle.std.specs.Prelude.{List, length, Bool, true, ◌&&◌, nat_le}
 use Rattle.std.specs.List.{list_all}
 use Rattle.script_grammar.specs.Atoms.{Atom, Atoms, compares, negated, grouped, no_atoms, either}
 use Rattle.script_grammar.specs.declared.tree.PatternDecl.{PatternDecl}

@@ -132,7 +132,11 @@ fn is_small_rule(rule: &RuleDecl) -> bool
 fn is_small_actor(actor: &ActorDecl) -> bool
     ensures { result ≡ is_small_actor actor.now }
 {
-    actor.rules.as_slice().iter().all(|rule| is_small_rule(rule))
+    actor
+        .rules
+        .as_slice()
+        .iter()
+        .all(|rule| is_small_rule(rule))
 }
 
 fn are_small_actors(actors: &[ActorDecl]) -> bool
@@ -145,9 +149,7 @@ fn are_small_actors(actors: &[ActorDecl]) -> bool
 fn has_small_parts(tree: &Tree) -> bool
     ensures { result ≡ is_small tree.now }
 {
-    tree.messages.len() <= 64
-        && tree.actors.len() <= 32
-        && are_small_actors(tree.actors.as_slice())
+    tree.messages.len() <= 64 && tree.actors.len() <= 32 && are_small_actors(tree.actors.as_slice())
 }
 
 /// Whether a script is small enough for a plan. One without a fault is.

@@ -171,7 +171,11 @@ fn prints(rt: HostRuntime) {
         ] => {
             assert!(rt; is_words(text, b"in ") && is_field(room, 0, 1));
             assert!(rt; at.pattern == 0 && at.field == 0);
-            let leaves = [plus(field(0, 0)), plus(Leaf::Number(60)), minus(field(1, 1))];
+            let leaves = [
+                plus(field(0, 0)),
+                plus(Leaf::Number(60)),
+                minus(field(1, 1)),
+            ];
             assert!(rt; sum.leaves() == leaves.as_slice());
         }
         _ => panic!(rt; "other items"),
