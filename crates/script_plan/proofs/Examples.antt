@@ -1,5 +1,5 @@
 -- A script and its plan, computed by the definitions.
-use Rattle.std.proofs.Common.{◌≡◌, refl, ℕ, List, [], ◌∷◌, Some, Option, Bool, true, false, pos}
+use Rattle.std.proofs.Common.{◌≡◌, refl, ℕ, List, [], ◌∷◌, Some, Option, Bool, true, false, pos, arith}
 use Rattle.std.specs.Prelude.{codes}
 use Rattle.join_base.specs.declared.message.Relation.TheVariants.{Equal, LessEqual}
 use Rattle.join_base.specs.declared.message.Sort.{Sort}
@@ -23,9 +23,11 @@ use Rattle.script_grammar.specs.declared.tree.Spelt.{Spelt}
 use Rattle.script_grammar.specs.declared.tree.StatementDecl.TheVariants as s
 use Rattle.script_grammar.specs.declared.tree.Tree.{Tree}
 use Rattle.script_types.specs.declared.plan.Item.TheVariants as item
+use Rattle.script_types.specs.declared.plan.Plan.{Plan}
 use Rattle.script_types.specs.declared.plan.Rule.{Rule}
 use Rattle.script_types.specs.declared.plan.Statement.TheVariants as statement
 use Rattle.script_plan.specs.PlanOf.{plan_of, rule_of}
+use Rattle.script_plan.specs.Typed.{IsTyped, IsTypedLeaf, IsTypedRule, IsTypedTerm, kind_types}
 
 abbrev spelt : List ℕ → Spelt
 spelt name = record { name = name; place = 0 }
@@ -96,12 +98,42 @@ planned = record {
       ∷ [];
 }
 
-plan : plan_of tree ≡ record {
+abbrev expected : Plan
+expected = record {
   kinds =
       record { name = codes "a"; fields = (codes "x", Int) ∷ (codes "t", Words) ∷ [] }
       ∷ record { name = codes "b"; fields = (codes "x", Int) ∷ [] }
       ∷ [];
   actors = record { name = codes "m"; rules = planned ∷ [] } ∷ record { name = codes "n"; rules = [] } ∷ [];
 }
+
+plan : plan_of tree ≡ expected
 unfolding rule_of
 plan = refl
+
+-- ---- it is well typed
+
+one_leaf : (leaf : Signed) → IsTypedLeaf (kind_types expected.kinds) (1 ∷ 0 ∷ []) leaf.leaf → IsTypedTerm (kind_types expected.kinds) (1 ∷ 0 ∷ []) (leaf ∷ [])
+one_leaf leaf typed = record { some = omega arith; few = omega arith; each = (typed, tt) }
+
+typed_rule : IsTypedRule 2 (kind_types expected.kinds) planned
+typed_rule = record {
+  some_patterns = omega arith;
+  few_patterns = omega arith;
+  variables = (refl, (refl, tt));
+  guard = (
+    (record { left_typed = record { some = omega arith; few = omega arith; each = (refl, (refl, tt)) }; right_typed = one_leaf (record { minus = false; leaf = leaf.Number (pos 5) }) tt; one_type = refl; may_compare = tt }, tt),
+    (((record { left_typed = refl; right_typed = tt; one_type = refl; may_compare = tt }, tt), tt), tt),
+  );
+  few_statements = omega arith;
+  body = (record { some = omega arith; few = omega arith; each = (tt, (refl, (refl, tt))) }, (record { to_actor = omega arith; of_kind = refl; each = (one_leaf (leaf_at true 0 0) refl, (refl, tt)) }, (tt, tt)));
+  stop_last = (tt, (tt, tt));
+}
+
+typed : IsTyped expected
+typed = record {
+  few_kinds = omega arith;
+  few_actors = omega arith;
+  kinds = (omega arith, (omega arith, tt));
+  actors = (record { few = omega arith; each = (typed_rule, tt) }, (record { few = omega arith; each = tt }, tt));
+}

@@ -1,3 +1,4 @@
 pub mod PlanOf
 pub mod Small
 pub mod SmallTest
+pub mod Typed

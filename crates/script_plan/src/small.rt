@@ -152,7 +152,8 @@ fn has_small_parts(tree: &Tree) -> bool
     tree.messages.len() <= 64 && tree.actors.len() <= 32 && are_small_actors(tree.actors.as_slice())
 }
 
-/// Whether a script is small enough for a plan. One without a fault is.
+/// Whether a script is small enough for a plan: at most 64 messages and 32 actors, 8 patterns in a definition, 8
+/// variables in a pattern, and 1 to 64 leaves in a term.
 pub fn is_small(tree: &Tree) -> bool
     ensures test { result ≡ is_small tree.now }
     ensures small { result ≡ true → IsSmall tree.now }
