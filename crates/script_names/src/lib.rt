@@ -6,3 +6,6 @@ mod table;
 
 pub use scope::{Messages, Slot, actor_names, field_names, variables_of};
 pub use table::NameTable;
+
+#[cfg(test)]
+mod tests;

@@ -1,0 +1,3 @@
+pub mod LeastLemmas
+pub mod SmallLemmas
+pub mod CheckLemmas

@@ -1,0 +1,32 @@
+//! Checking a script's names and types.
+ghost use Rattle.script_grammar.specs.Filled.{IsFilled};
+ghost use Rattle.script_check.specs.Types.{Checks, NoBoth, OneFault, OnePlan};
+
+use script_faults::first_fault;
+use script_grammar::Tree;
+use script_plan::plan_of;
+use script_reader::ScriptFault;
+use script_types::Plan;
+use std::alloc::Global;
+
+/// The plan of a tree, in which each name is replaced by the number of its declaration. Otherwise the fault of its names
+/// and types at the least place, and of several at that place the first in the order of `ScriptCause`.
+pub fn check_script(alloc: Global, tree: &Tree) -> Result<Plan, ScriptFault>
+    requires filled { IsFilled tree.now }
+    ensures { Checks tree.now result }
+{
+    match first_fault(alloc, tree)? {
+        Some(fault) => Err(ScriptFault::Bad {
+            place: fault.place,
+            cause: fault.cause,
+        }),
+        None => Ok(plan_of(alloc, tree)?),
+    }
+}
+
+/// A tree has one plan or one fault, and never both.
+pub fn one_answer()
+    ensures plan { OnePlan }
+    ensures both { NoBoth }
+    ensures fault { OneFault }
+{}

@@ -1,0 +1,9 @@
+//! Checking a script's names and types.
+#![tactic(auto)]
+
+mod check;
+
+pub use check::{check_script, one_answer};
+
+#[cfg(test)]
+mod tests;
