@@ -1,10 +1,9 @@
 -- A tree has one plan or one fault.
-use Rattle.std.proofs.Common.{◌≡◌, ◌∙◌, ℕ, List, [], false, Option, None, Some, sym, subst, arith}
+use Rattle.std.proofs.Common.{◌≡◌, ◌∙◌, List, [], false, None, Some, sym, subst, arith}
 use Rattle.std.specs.Prelude.{Contains}
 use Rattle.script_grammar.specs.declared.tree.Tree.{Tree}
 use Rattle.script_grammar.specs.Filled.{IsFilled}
 use Rattle.script_types.specs.declared.plan.Plan.{Plan}
-use Rattle.script_reader.specs.declared.fault.ScriptCause.{ScriptCause}
 use Rattle.script_faults.specs.declared.first.Fault.{Fault}
 use Rattle.script_faults.specs.First.{fault, is_before}
 use Rattle.script_faults.specs.Faults.{faults_of, first_fault}
@@ -12,7 +11,9 @@ use Rattle.script_plan.specs.PlanOf.{plan_of}
 use Rattle.script_plan.specs.Small.{IsSmall}
 use Rattle.script_check.specs.Types.{IsFaultOf, NoBoth, OneFault, OnePlan, Types}
 use Rattle.script_check.proofs.LeastLemmas.{at_member, least_first, none_first, one_fault}
+use Rattle.script_plan.specs.Typed.{IsTyped}
 use Rattle.script_check.proofs.SmallLemmas.{small_tree}
+use Rattle.script_check.proofs.PlanLemmas.{plan_typed}
 
 pub small : (tree : Tree) → IsFilled tree → None ≡ first_fault tree → IsSmall tree
 small tree filled none = small_tree tree filled (none_first (faults_of tree) (sym none))
@@ -37,3 +38,6 @@ one_fault_of tree place place' cause cause' f g =
     one_fault (fault cause place) (fault cause' place')
     (at_member (λ (h : Fault). is_before h (fault cause' place') ≡ false) (faults_of tree) (fault cause place) g.least f.stands)
     (at_member (λ (h : Fault). is_before h (fault cause place) ≡ false) (faults_of tree) (fault cause' place') f.least g.stands)
+
+pub typed_plan : (tree : Tree) (plan : Plan) → IsFilled tree → None ≡ first_fault tree → plan ≡ plan_of tree → IsTyped plan
+typed_plan tree plan filled none is = subst IsTyped (sym is) (plan_typed tree filled (none_first (faults_of tree) (sym none)))

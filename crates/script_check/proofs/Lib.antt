@@ -1,3 +1,6 @@
 pub mod LeastLemmas
 pub mod SmallLemmas
 pub mod CheckLemmas
+pub mod VariableLemmas
+pub mod TypedLemmas
+pub mod PlanLemmas

@@ -1,5 +1,5 @@
 -- A tree without gaps and without faults is small.
-use Rattle.std.proofs.Common.{◌≡◌, ◌∙◌, ℕ, zero, suc, ◌≤◌, Bool, true, false, List, [], ◌∷◌, ◌++◌, length, Option, None, Some, refl, sym, ap, subst, arith}
+use Rattle.std.proofs.Common.{◌≡◌, ℕ, zero, suc, ◌≤◌, Bool, true, false, List, [], ◌∷◌, ◌++◌, length, Option, None, Some, refl, subst, arith}
 use Rattle.std.specs.Prelude.{not, ◌&&◌, ◌==◌, slice_get, eqb}
 use Rattle.std.specs.Option.{option_and_then, option_map}
 use Rattle.std.specs.List.{AllByRecursion, flat_map}
@@ -23,43 +23,42 @@ use Rattle.script_grammar.specs.declared.tree.Tree.{Tree}
 use Rattle.script_names.specs.declared.scope.Slot.{Slot}
 use Rattle.script_names.specs.Scope.{Variable, actor_rows, field_rows, message_number, message_of, message_rows, variables_of}
 use Rattle.script_reader.specs.declared.fault.ScriptCause.TheVariants.{WrongCount}
-use Rattle.script_faults.specs.declared.first.Fault.{Fault}
-use Rattle.script_faults.specs.First.{fault, fault_if, too_many}
-use Rattle.script_faults.specs.Faults.{Comparing, actor_faults, atom_comparisons, body_faults, comparison_faults, comparisons, count_faults, faults_of, fields_of, guard_comparisons, guard_faults, is_order, is_same, is_words, item_faults, item_place, leaf_faults, message_faults, operand_faults, operand_place, own_place, pattern_faults, patterns_faults, post_faults, print_faults, rule_faults, statement_faults, statement_place, stop_faults, term_faults, twice_declared}
+use Rattle.script_faults.specs.First.{fault_if, too_many}
+use Rattle.script_faults.specs.Faults.{Comparing, actor_faults, atom_comparisons, body_faults, comparison_faults, comparisons, count_faults, faults_of, guard_comparisons, guard_faults, item_faults, item_place, leaf_faults, message_faults, operand_faults, operand_place, own_place, pattern_faults, patterns_faults, rule_faults, statement_faults, statement_place, stop_faults, term_faults, twice_declared}
 use Rattle.script_plan.specs.Small.{IsSmallTerm, IsSmallOperand, IsSmallAtom, AreSmallAtoms, IsSmallItem, IsSmallStatement, IsSmallPattern, IsSmallRule, IsSmallActor, IsSmall}
 
 -- ---- where a list of faults is empty, so are its parts
 
-left_none : {X : Type 0} (xs ys : List X) → xs ++ ys ≡ [] → xs ≡ []
+pub left_none : {X : Type 0} (xs ys : List X) → xs ++ ys ≡ [] → xs ≡ []
 left_none [] ys is = refl
 left_none (x ∷ xs) ys is = absurd cc
 
-right_none : {X : Type 0} (xs ys : List X) → xs ++ ys ≡ [] → ys ≡ []
+pub right_none : {X : Type 0} (xs ys : List X) → xs ++ ys ≡ [] → ys ≡ []
 right_none [] ys is = is
 right_none (x ∷ xs) ys is = absurd cc
 
-each_none : {X Y : Type 0} (f : X → List Y) (xs : List X) → flat_map f xs ≡ [] → AllByRecursion (λ (x : X). f x ≡ []) xs
+pub each_none : {X Y : Type 0} (f : X → List Y) (xs : List X) → flat_map f xs ≡ [] → AllByRecursion (λ (x : X). f x ≡ []) xs
 each_none f [] is = tt
 each_none f (x ∷ xs) is = (left_none (f x) (flat_map f xs) is, each_none f xs (right_none (f x) (flat_map f xs) is))
 
-few : {X : Type 0} (most : ℕ) (place : X → ℕ) (xs : List X) → too_many most place xs ≡ [] → length xs ≤ most
+pub few : {X : Type 0} (most : ℕ) (place : X → ℕ) (xs : List X) → too_many most place xs ≡ [] → length xs ≤ most
 few most place [] is = omega arith
 few zero place (x ∷ xs) is = absurd cc
 few (suc most) place (x ∷ xs) is = omega (arith, few most place xs is)
 
-each_left : {X : Type 0} (P : X → Type 0) (xs ys : List X) → AllByRecursion P (xs ++ ys) → AllByRecursion P xs
+pub each_left : {X : Type 0} (P : X → Type 0) (xs ys : List X) → AllByRecursion P (xs ++ ys) → AllByRecursion P xs
 each_left P [] ys each = tt
 each_left P (x ∷ xs) ys each = (each.0, each_left P xs ys each.1)
 
-each_right : {X : Type 0} (P : X → Type 0) (xs ys : List X) → AllByRecursion P (xs ++ ys) → AllByRecursion P ys
+pub each_right : {X : Type 0} (P : X → Type 0) (xs ys : List X) → AllByRecursion P (xs ++ ys) → AllByRecursion P ys
 each_right P [] ys each = each
 each_right P (x ∷ xs) ys each = each_right P xs ys each.1
 
-each_both : {X : Type 0} (P Q R : X → Type 0) → ((x : X) → P x → Q x → R x) → (xs : List X) → AllByRecursion P xs → AllByRecursion Q xs → AllByRecursion R xs
+pub each_both : {X : Type 0} (P Q R : X → Type 0) → ((x : X) → P x → Q x → R x) → (xs : List X) → AllByRecursion P xs → AllByRecursion Q xs → AllByRecursion R xs
 each_both P Q R both [] ps qs = tt
 each_both P Q R both (x ∷ xs) ps qs = (both x ps.0 qs.0, each_both P Q R both xs ps.1 qs.1)
 
-each_one : {X : Type 0} (P R : X → Type 0) → ((x : X) → P x → R x) → (xs : List X) → AllByRecursion P xs → AllByRecursion R xs
+pub each_one : {X : Type 0} (P R : X → Type 0) → ((x : X) → P x → R x) → (xs : List X) → AllByRecursion P xs → AllByRecursion R xs
 each_one P R one [] ps = tt
 each_one P R one (x ∷ xs) ps = (one x ps.0, each_one P R one xs ps.1)
 
@@ -126,12 +125,12 @@ module _ (messages : List MessageDecl) (actors : List (List ℕ × ℕ)) (variab
 
 -- ---- patterns
 
-at_number : {X : Type 0} (P : X → Type 0) (xs : List X) (number : ℕ) (x : X) → AllByRecursion P xs → slice_get xs number ≡ Some x → P x
+pub at_number : {X : Type 0} (P : X → Type 0) (xs : List X) (number : ℕ) (x : X) → AllByRecursion P xs → slice_get xs number ≡ Some x → P x
 at_number {X} P [] number x each is = absurd cc
 at_number {X} P (y ∷ ys) zero x each is = let same : y ≡ x = cc in subst P same each.0
 at_number {X} P (y ∷ ys) (suc number) x each is = at_number P ys number x each.1 is
 
-small_fields : (message : MessageDecl) → message_faults message ≡ [] → length message.fields ≤ 8
+pub small_fields : (message : MessageDecl) → message_faults message ≡ [] → length message.fields ≤ 8
 small_fields message none = few 8 (λ (f : FieldDecl). f.name.place) message.fields (left_none (too_many 8 (λ (f : FieldDecl). f.name.place) message.fields) (twice_declared own_place (field_rows message.fields)) none)
 
 -- the message of a name is one of the messages
@@ -140,7 +139,7 @@ found_fields : (messages : List MessageDecl) → AllByRecursion (λ (m : Message
 found_fields messages each None message is = absurd cc
 found_fields messages each (Some number) message is = small_fields message (at_number (λ (m : MessageDecl). message_faults m ≡ []) messages number message each is)
 
-right_count : (fields count place : ℕ) (b : Bool) → eqb fields count ≡ b → fault_if (not b) WrongCount place ≡ [] → fields ≡ count
+pub right_count : (fields count place : ℕ) (b : Bool) → eqb fields count ≡ b → fault_if (not b) WrongCount place ≡ [] → fields ≡ count
 right_count fields count place true is none = eqb-true fields count is
 right_count fields count place false is none = absurd cc
 

@@ -1,5 +1,5 @@
 -- Which plan a tree has, and the fault of a tree that has none.
-use Rattle.std.specs.Prelude.{◌≡◌, ℕ, List, [], false, Result, Ok, Err, Contains}
+use Rattle.std.specs.Prelude.{◌≡◌, ℕ, [], false, Result, Ok, Err, Contains}
 use Rattle.std.specs.List.{AllByRecursion}
 use Rattle.script_grammar.specs.declared.tree.Tree.{Tree}
 use Rattle.script_reader.specs.declared.fault.ScriptCause.{ScriptCause}

@@ -1,5 +1,7 @@
 //! Checking a script's names and types.
+ghost use Rattle.std.specs.Prelude.{IfOk};
 ghost use Rattle.script_grammar.specs.Filled.{IsFilled};
+ghost use Rattle.script_plan.specs.Typed.{IsTyped};
 ghost use Rattle.script_check.specs.Types.{Checks, NoBoth, OneFault, OnePlan};
 
 use script_faults::first_fault;
@@ -9,11 +11,12 @@ use script_reader::ScriptFault;
 use script_types::Plan;
 use std::alloc::Global;
 
-/// The plan of a tree, in which each name is replaced by the number of its declaration. Otherwise the fault of its names
+/// The plan of a tree, in which each name is replaced by the number of its declaration; it is well typed. Otherwise the fault of its names
 /// and types at the least place, and of several at that place the first in the order of `ScriptCause`.
 pub fn check_script(alloc: Global, tree: &Tree) -> Result<Plan, ScriptFault>
     requires filled { IsFilled tree.now }
-    ensures { Checks tree.now result }
+    ensures checks { Checks tree.now result }
+    ensures typed { IfOk result IsTyped }
 {
     match first_fault(alloc, tree)? {
         Some(fault) => Err(ScriptFault::Bad {

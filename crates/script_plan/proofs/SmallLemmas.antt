@@ -13,7 +13,7 @@ each_reached_by P f [] i x within is each = absurd (omega arith)
 each_reached_by {X} P f (y ∷ xs) zero x within is each = let Q : X → Type 0 = λ z. P (f z) in subst Q (sym is) each.0
 each_reached_by P f (y ∷ xs) (suc i) x within is each = each_reached_by P f xs i x (omega arith) is each.1
 
-each_append : {X : Type 0} (P : X → Type 0) (xs ys : List X) → AllByRecursion P xs → AllByRecursion P ys → AllByRecursion P (xs ++ ys)
+pub each_append : {X : Type 0} (P : X → Type 0) (xs ys : List X) → AllByRecursion P xs → AllByRecursion P ys → AllByRecursion P (xs ++ ys)
 each_append P [] ys a b = b
 each_append P (x ∷ xs) ys a b = (a.0, each_append P xs ys a.1 b)
 
