@@ -11,7 +11,7 @@ use Rattle.script_plan.specs.PlanOf.{plan_of}
 use Rattle.script_plan.specs.Small.{IsSmall}
 use Rattle.script_check.specs.Types.{IsFaultOf, NoBoth, OneFault, OnePlan, Types}
 use Rattle.script_check.proofs.LeastLemmas.{at_member, least_first, none_first, one_fault}
-use Rattle.script_plan.specs.Typed.{IsTyped}
+use Rattle.script_types.specs.Typed.{IsTyped}
 use Rattle.script_check.proofs.SmallLemmas.{small_tree}
 use Rattle.script_check.proofs.PlanLemmas.{plan_typed}
 

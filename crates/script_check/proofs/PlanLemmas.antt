@@ -25,7 +25,7 @@ use Rattle.script_reader.specs.declared.fault.ScriptCause.TheVariants.{UnknownAc
 use Rattle.script_faults.specs.First.{fault_if, too_many}
 use Rattle.script_faults.specs.Faults.{Comparing, actor_faults, body_faults, comparison_faults, count_faults, faults_of, fields_of, fields_or_none, guard_comparisons, guard_faults, item_faults, item_place, message_faults, operand_faults, operand_place, own_place, pattern_faults, patterns_faults, post_faults, rule_faults, statement_faults, statement_place, stop_fault, stop_faults, twice_declared, type_faults, wrong_type}
 use Rattle.script_plan.specs.PlanOf.{actor_of, field_of, kind_of, kind_number, names_in, operand_of, or_zero, pattern_of, plan_of, print_item, rule_of, statement_of, target_number}
-use Rattle.script_plan.specs.Typed.{IsNoStop, IsTyped, IsTypedActor, IsTypedItem, IsTypedKind, IsTypedOperand, IsTypedPost, IsTypedRule, IsTypedStatement, StopsLast, TakeFields, TakesFields, type_of}
+use Rattle.script_types.specs.Typed.{IsNoStop, IsTyped, IsTypedActor, IsTypedItem, IsTypedKind, IsTypedOperand, IsTypedPost, IsTypedRule, IsTypedStatement, StopsLast, TakeFields, TakesFields, type_of}
 use Rattle.script_check.proofs.SmallLemmas.{each_none, each_one, few, left_none, right_count, right_none, small_fields}
 use Rattle.script_check.proofs.VariableLemmas.{HasFields, all_fields, field_types-of, sorts_by}
 use Rattle.script_check.proofs.TypedLemmas.{AreFields, operand_type, same_of, typed_guard, typed_item, typed_operand}

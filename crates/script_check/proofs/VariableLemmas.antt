@@ -15,7 +15,7 @@ use Rattle.script_names.specs.Scope.{Variable, field_sorts, message_number, sort
 use Rattle.script_plan.specs.PlanOf.{field_of, kind_of, or_zero, pattern_of, slot_place}
 use Rattle.script_plan.proofs.SmallLemmas.{each_append}
 use Rattle.script_check.proofs.SmallLemmas.{at_number, each_one}
-use Rattle.script_plan.specs.Typed.{HasType, Sorts, kind_types}
+use Rattle.script_types.specs.Typed.{HasType, Sorts, kind_types}
 
 -- ---- the fields of a kind
 

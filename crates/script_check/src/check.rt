@@ -1,7 +1,7 @@
 //! Checking a script's names and types.
 ghost use Rattle.std.specs.Prelude.{IfOk};
 ghost use Rattle.script_grammar.specs.Filled.{IsFilled};
-ghost use Rattle.script_plan.specs.Typed.{IsTyped};
+ghost use Rattle.script_types.specs.Typed.{IsTyped};
 ghost use Rattle.script_check.specs.Types.{Checks, NoBoth, OneFault, OnePlan};
 
 use script_faults::first_fault;

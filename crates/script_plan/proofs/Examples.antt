@@ -27,7 +27,7 @@ use Rattle.script_types.specs.declared.plan.Plan.{Plan}
 use Rattle.script_types.specs.declared.plan.Rule.{Rule}
 use Rattle.script_types.specs.declared.plan.Statement.TheVariants as statement
 use Rattle.script_plan.specs.PlanOf.{plan_of, rule_of}
-use Rattle.script_plan.specs.Typed.{IsTyped, IsTypedLeaf, IsTypedRule, IsTypedTerm, kind_types}
+use Rattle.script_types.specs.Typed.{IsTyped, IsTypedLeaf, IsTypedRule, IsTypedTerm, kind_types}
 
 abbrev spelt : List ℕ → Spelt
 spelt name = record { name = name; place = 0 }

@@ -1,4 +1,3 @@
 pub mod PlanOf
 pub mod Small
 pub mod SmallTest
-pub mod Typed
