@@ -1,6 +1,6 @@
 pub mod OptionLemmas
 pub mod CutLemmas
 pub mod FeedLemmas
-pub mod RuleLemmas
-pub mod FormLemmas
+pub mod KindLemmas
+pub mod RunsLemmas
 pub mod PostLemmas

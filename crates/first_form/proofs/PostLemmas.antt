@@ -22,10 +22,9 @@ use Rattle.actor_turn.proofs.ListLemmas.{each_at}
 use Rattle.first_form.specs.Whole.{all_of}
 use Rattle.first_form.specs.Names.{number_of}
 use Rattle.first_form.specs.FirstForm.{AreFirstPosts, IsFirstPlan, IsIntKind}
-use Rattle.first_form.specs.FirstPlan.{name_of_kind, of_count}
-use Rattle.first_form.specs.FirstFeed.{Post, ended_lines, feed_of, int_value, is_comma, is_line_end, line_post, message_of_parts, message_with, name_of_actor, post_of, post_with, posts_of_lines}
+use Rattle.first_form.specs.FirstFeed.{Post, ended_lines, feed_of, int_value, is_comma, is_line_end, line_post, message_of_parts, message_with, name_of_actor, name_of_kind, of_count, post_of, post_with, posts_of_lines}
 use Rattle.first_form.proofs.OptionLemmas.{all_of-each, all_of-length, and-right, both_value, map_value, then_value, where_value}
-use Rattle.first_form.proofs.RuleLemmas.{counted_kind, le_true, position_within}
+use Rattle.first_form.proofs.KindLemmas.{counted_kind, le_true, position_within}
 
 -- ---- integers
 

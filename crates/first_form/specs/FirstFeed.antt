@@ -1,5 +1,5 @@
 -- The posts of a feed of the first form: at most 1,000 lines, each ended by LF, each an actor's name, a kind's name and its integers, with commas between them.
-use Rattle.std.specs.Prelude.{ℕ, List, [], ◌∷◌, Bool, ◌==◌, nat_le, length, Option, None, Some}
+use Rattle.std.specs.Prelude.{ℕ, List, [], ◌∷◌, Bool, false, ◌==◌, nat_le, length, slice_get, Option, None, Some}
 use Rattle.std.specs.List.{slice_split}
 use Rattle.std.specs.Option.{option_map, option_and_then}
 use Rattle.join_base.specs.Integer.{integer_of}
@@ -11,7 +11,6 @@ use Rattle.script_types.specs.declared.plan.Kind.{Kind}
 use Rattle.script_types.specs.declared.plan.ActorPlan.{ActorPlan}
 use Rattle.first_form.specs.Whole.{both, where_true, all_of}
 use Rattle.first_form.specs.Names.{number_of}
-use Rattle.first_form.specs.FirstPlan.{name_of_kind, of_count}
 
 -- a message for the actor of a number, counted from 0
 abbrev pub Post : Type 0
@@ -20,6 +19,19 @@ Post = ℕ × Message
 -- the name by which a line calls an actor
 abbrev pub name_of_actor : ActorPlan → List ℕ
 name_of_actor actor = actor.name
+
+-- the name by which a line calls a kind
+abbrev pub name_of_kind : Kind → List ℕ
+name_of_kind kind = kind.name
+
+-- whether there is a kind, with so many fields
+abbrev pub has_fields : ℕ → Option Kind → Bool
+has_fields count None = false
+has_fields count (Some kind) = length kind.fields == count
+
+-- the number of a kind, where that kind has so many fields
+abbrev pub of_count : List Kind → ℕ → ℕ → Option ℕ
+of_count kinds count number = where_true (has_fields count (slice_get kinds number)) (Some number)
 
 -- LF
 abbrev pub is_line_end : ℕ → Bool

@@ -1,6 +1,6 @@
 pub mod Whole
 pub mod Names
 pub mod Gives
-pub mod FirstPlan
+pub mod Runs
 pub mod FirstFeed
 pub mod FirstForm

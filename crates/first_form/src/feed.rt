@@ -4,11 +4,11 @@ ghost use Rattle.std.specs.List.{AllByRecursion, position, slice_split};
 ghost use Rattle.std.specs.Option.{option_and_then, option_map};
 ghost use Rattle.first_form.specs.Gives.{Gives};
 ghost use Rattle.first_form.specs.Whole.{all_of};
-ghost use Rattle.first_form.specs.FirstFeed.{feed_of, int_value, is_comma, is_line_end, line_post, message_of, message_of_parts};
+ghost use Rattle.first_form.specs.FirstFeed.{feed_of, int_value, is_comma, is_line_end, line_post, message_of, message_of_parts, name_of_kind, of_count};
+ghost use Rattle.first_form.specs.Names.{number_of};
 ghost use Rattle.first_form.specs.FirstForm.{AreFirstPosts, IsFirstPlan, IsIntKind};
 
 use crate::names::number_of;
-use crate::plan::kind_of_count;
 use crate::refusal::Refusal;
 use join_base::{Fields, Message, Posts, PushFault, Value, read_integer};
 use script_types::{Kind, Plan};
@@ -83,6 +83,19 @@ fn values_of(alloc: Global, text: &[u8]) -> Result<Fields, Refusal>
     let value = int_value(rest)?;
     append(&mut values, value)?;
     Ok(values)
+}
+
+// The number of a kind with this name and so many fields.
+fn kind_of_count(kinds: &[Kind], name: &[u8], count: usize) -> Option<u32>
+    requires { length kinds.now ≤ 64 }
+    ensures { result ≡ option_and_then (of_count kinds.now count) (number_of name_of_kind kinds.now name.now) }
+{
+    let number = number_of(kinds, name)?;
+    if kinds[number].fields.len() == count {
+        Some(number as u32)
+    } else {
+        None
+    }
 }
 
 // The message of a kind whose values stand in this text.

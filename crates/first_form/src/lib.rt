@@ -1,14 +1,11 @@
-//! Scripts and feeds of the first form, which the program runs so far.
+//! The plans and feeds of the first form, which the program runs so far.
 #![tactic(auto)]
 
 mod feed;
 mod names;
-mod plan;
 mod refusal;
+mod runs;
 
 pub use feed::feed_of;
-pub use plan::plan_of;
 pub use refusal::Refusal;
-
-#[cfg(test)]
-mod tests;
+pub use runs::can_run;

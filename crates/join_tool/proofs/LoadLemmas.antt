@@ -3,27 +3,11 @@ use Rattle.std.proofs.Common.{◌≡◌, ℕ, ◌≤◌, List, length, Option, N
 use Rattle.std.specs.Prelude.{Result, Ok, Err}
 use Rattle.join_base.specs.declared.message.Message.{Message}
 use Rattle.join_base.specs.Outside.{Files, Told, FetchTells}
-use Rattle.script_grammar.specs.declared.tree.Tree.{Tree}
-use Rattle.script_reader.specs.declared.fault.ScriptCause.{ScriptCause}
-use Rattle.script_reader.specs.Spells.{Spells, IsFault, OneTree, NoBoth}
 use Rattle.script_types.specs.declared.plan.Plan.{Plan}
-use Rattle.first_form.specs.FirstPlan.{plan_of}
-use Rattle.first_form.specs.FirstFeed.{feed_of}
 use Rattle.join_tool.specs.declared.load.LoadFault.{LoadFault}
 use Rattle.join_tool.specs.declared.load.LoadFault.TheVariants as load
-use Rattle.join_tool.specs.Verdict.{GivesPlan, GivesNoPlan, max_file}
+use Rattle.join_tool.specs.Verdict.{max_file}
 use Rattle.join_tool.specs.Loading.{LoadsFeed, LoadsScript, ReadsPlan, ReadsPosts, Tells}
-
--- the only tree has no plan
-pub tree_without_plan : OneTree → (bytes : List ℕ) (tree : Tree) → Spells bytes tree → plan_of tree ≡ None → GivesNoPlan bytes
-tree_without_plan one bytes tree spells none plan gives =
-    let same : gives.0 ≡ tree = one bytes gives.0 tree gives.1 spells in
-    let e : Some plan ≡ None = sym gives.2 ∙ ap plan_of same ∙ none in
-    absurd cc
-
--- there is no tree
-pub fault_without_plan : NoBoth → (bytes : List ℕ) (place : ℕ) (cause : ScriptCause) → IsFault bytes place cause → GivesNoPlan bytes
-fault_without_plan never bytes place cause fault plan gives = never bytes gives.0 place cause gives.1 fault
 
 -- ---- a script and a feed that were fetched
 
@@ -36,8 +20,9 @@ script_loaded (Some before) (Some now) name bytes (Ok plan) told short reads =
     record { asks = told.asked; answer = record { bytes = bytes; holds = record { held = told.fetched; short = short }; gives = reads } }
 script_loaded (Some before) (Some now) name bytes (Err load.Failed) told short reads = absurd reads
 script_loaded (Some before) (Some now) name bytes (Err load.TooLong) told short reads = absurd reads
-script_loaded (Some before) (Some now) name bytes (Err load.Refused) told short reads =
-    record { asks = told.asked; answer = record { bytes = bytes; holds = record { held = told.fetched; short = short }; refused = reads } }
+script_loaded (Some before) (Some now) name bytes (Err (load.Script place cause)) told short reads =
+    record { asks = told.asked; answer = record { bytes = bytes; holds = record { held = told.fetched; short = short }; fault = reads } }
+script_loaded (Some before) (Some now) name bytes (Err load.Feed) told short reads = absurd reads
 script_loaded (Some before) (Some now) name bytes (Err load.NoMemory) told short reads = record { asks = inl told.asked; answer = tt }
 
 pub feed_loaded : (before now : Option Told) (name bytes : List ℕ) (plan : Plan) (result : Result (List (ℕ × Message)) LoadFault)
@@ -49,6 +34,7 @@ feed_loaded (Some before) (Some now) name bytes plan (Ok posts) told short reads
     record { asks = told.asked; answer = record { bytes = bytes; holds = record { held = told.fetched; short = short }; gives = reads } }
 feed_loaded (Some before) (Some now) name bytes plan (Err load.Failed) told short reads = absurd reads
 feed_loaded (Some before) (Some now) name bytes plan (Err load.TooLong) told short reads = absurd reads
-feed_loaded (Some before) (Some now) name bytes plan (Err load.Refused) told short reads =
+feed_loaded (Some before) (Some now) name bytes plan (Err (load.Script place cause)) told short reads = absurd reads
+feed_loaded (Some before) (Some now) name bytes plan (Err load.Feed) told short reads =
     record { asks = told.asked; answer = record { bytes = bytes; holds = record { held = told.fetched; short = short }; gives = reads } }
 feed_loaded (Some before) (Some now) name bytes plan (Err load.NoMemory) told short reads = record { asks = inl told.asked; answer = tt }

@@ -1,5 +1,5 @@
 -- From files that were loaded to the reply.
-use Rattle.std.proofs.Common.{◌≡◌, ◌⊎◌, inl, inr, ℕ, List, [], ◌∷◌, ◌++◌, append_assoc, Option, None, Some, refl, sym, ap, ◌∙◌, subst}
+use Rattle.std.proofs.Common.{◌≡◌, ◌⊎◌, inl, inr, ℕ, List, [], ◌∷◌, ◌++◌, append_assoc, Option, None, Some, true, false, refl, sym, ap, ◌∙◌, subst}
 use Rattle.std.proofs.lemmas.List.{append-nil}
 use Rattle.std.specs.Prelude.{Result, Ok, Err}
 use Rattle.join_base.specs.declared.message.Message.{Message}
@@ -10,10 +10,11 @@ use Rattle.join_tool.specs.declared.load.LoadFault.TheVariants as load
 use Rattle.join_tool.specs.declared.reply.Reply.{Reply}
 use Rattle.join_tool.specs.declared.reply.Reply.TheVariants as reply
 use Rattle.join_tool.specs.declared.reply.Unanswered.{Unanswered}
-use Rattle.join_tool.specs.Command.{Command, command_of}
-use Rattle.join_tool.specs.Verdict.{GivesScript, MayAsk, MayAskBy, OfCommand, OfWords, Words, nothing, script, both}
+use Rattle.first_form.specs.Runs.{can_run}
+use Rattle.join_tool.specs.Command.{Command, Run, Check, command_of}
+use Rattle.join_tool.specs.Verdict.{GivesRunnable, MayAskBy, OfWords, Words, nothing, first, both}
 use Rattle.join_tool.specs.Loading.{LoadsFeed, LoadsScript, Tells}
-use Rattle.join_tool.specs.Replying.{CommandReplies, CommandVerdict, Replies, ReplyVerdict, feed_reply, script_reply, verdict_of}
+use Rattle.join_tool.specs.Replying.{CommandReplies, CommandVerdict, Replies, ReplyVerdict, fault_reply, verdict_of}
 
 -- the names that were asked stand behind the others
 asked_one : (before : Told) (name : List ℕ) → with_asked before name ≡ record { files = before.files; asked = before.asked ++ name ∷ [] }
@@ -22,71 +23,117 @@ asked_one before name = refl
 asked_none : (before : Told) → before ≡ record { files = before.files; asked = before.asked ++ [] }
 asked_none before = λ i. record { files = before.files; asked = sym (append-nil before.asked) i }
 
-asked_two : (before : Told) (first second : List ℕ) → with_asked (with_asked before first) second ≡ record { files = before.files; asked = before.asked ++ first ∷ second ∷ [] }
-asked_two before first second = λ i. record { files = before.files; asked = append_assoc before.asked (first ∷ []) (second ∷ []) i }
+asked_two : (before : Told) (one other : List ℕ) → with_asked (with_asked before one) other ≡ record { files = before.files; asked = before.asked ++ one ∷ other ∷ [] }
+asked_two before one other = λ i. record { files = before.files; asked = append_assoc before.asked (one ∷ []) (other ∷ []) i }
 
-module _ (command : Command) where
-  script_asked : (before now : Told) (result : Result Reply Unanswered) → now ≡ with_asked before command.script → CommandVerdict before command result → CommandReplies command before now result
-  script_asked before now result is verdict = record { asked = command.script ∷ []; told_is = is; may_ask = script; verdict = verdict }
+-- ---- `run`
+
+module _ (script_name feed_name : List ℕ) where
+  abbrev RunReplies : Told → Told → Result Reply Unanswered → Type 0
+  RunReplies before now result = CommandReplies (Run script_name feed_name) before now result
+
+  script_asked : (before now : Told) (result : Result Reply Unanswered) → now ≡ with_asked before script_name → CommandVerdict before (Run script_name feed_name) result → RunReplies before now result
+  script_asked before now result is verdict = record { asked = script_name ∷ []; told_is = is; may_ask = first; verdict = verdict }
 
   -- the script stops it
-  script_stops : (before now : Told) (fault : LoadFault) → LoadsScript before now command.script (Err fault) → CommandReplies command before now (script_reply fault)
-  script_stops before now load.Failed l = script_asked before now (script_reply load.Failed) l.asks tt
-  script_stops before now load.TooLong l = script_asked before now (script_reply load.TooLong) l.asks (inl (refl, l.answer))
-  script_stops before now load.Refused l = script_asked before now (script_reply load.Refused) l.asks l.answer
+  script_stops : (before now : Told) (fault : LoadFault) → LoadsScript before now script_name (Err fault) → RunReplies before now (fault_reply fault 1)
+  script_stops before now load.Failed l = script_asked before now (fault_reply load.Failed 1) l.asks tt
+  script_stops before now load.TooLong l = script_asked before now (fault_reply load.TooLong 1) l.asks (inl (refl, l.answer))
+  script_stops before now (load.Script place cause) l = script_asked before now (fault_reply (load.Script place cause) 1) l.asks l.answer
+  script_stops before now load.Feed l = absurd l.answer
   script_stops before now load.NoMemory l = by_asks l.asks
     where
-      by_asks : (now ≡ with_asked before command.script) ⊎ (now ≡ before) → CommandReplies command before now (script_reply load.NoMemory)
-      by_asks (inl is) = script_asked before now (script_reply load.NoMemory) is tt
+      by_asks : (now ≡ with_asked before script_name) ⊎ (now ≡ before) → RunReplies before now (fault_reply load.NoMemory 1)
+      by_asks (inl is) = script_asked before now (fault_reply load.NoMemory 1) is tt
       by_asks (inr is) = record { asked = []; told_is = is ∙ asked_none before; may_ask = nothing; verdict = tt }
 
-  pub script_stopped : (before now : Option Told) (fault : LoadFault) → Tells before now (λ b n. LoadsScript b n command.script (Err fault))
-      → Tells before now (λ b n. CommandReplies command b n (script_reply fault))
+  pub script_stopped : (before now : Option Told) (fault : LoadFault) → Tells before now (λ b n. LoadsScript b n script_name (Err fault))
+      → Tells before now (λ b n. RunReplies b n (fault_reply fault 1))
   script_stopped None now fault l = tt
   script_stopped (Some before) None fault l = absurd l
   script_stopped (Some before) (Some now) fault l = script_stops before now fault l
 
   module _ (plan : Plan) where
-    both_asked : (before now : Told) (result : Result Reply Unanswered) → GivesScript before.files command.script plan → now ≡ with_asked (with_asked before command.script) command.feed
-        → CommandVerdict before command result → CommandReplies command before now result
+    -- the plan can't run yet
+    pub not_built : (before now : Option Told) → Tells before now (λ b n. LoadsScript b n script_name (Ok plan)) → can_run plan ≡ false → Tells before now (λ b n. RunReplies b n (Ok reply.NotBuilt))
+    not_built None now l stops = tt
+    not_built (Some before) None l stops = absurd l
+    not_built (Some before) (Some now) l stops = script_asked before now (Ok reply.NotBuilt) l.asks (plan, l.answer, stops)
+
+    both_asked : (before now : Told) (result : Result Reply Unanswered) → GivesRunnable before.files script_name plan → now ≡ with_asked (with_asked before script_name) feed_name
+        → CommandVerdict before (Run script_name feed_name) result → RunReplies before now result
     both_asked before now result gives is verdict = record {
-      asked = command.script ∷ command.feed ∷ [];
-      told_is = is ∙ asked_two before command.script command.feed;
+      asked = script_name ∷ feed_name ∷ [];
+      told_is = is ∙ asked_two before script_name feed_name;
       may_ask = both plan gives;
       verdict = verdict;
     }
 
     -- the feed stops it
-    feed_stops : (before now : Told) (fault : LoadFault) → GivesScript before.files command.script plan → LoadsFeed (with_asked before command.script) now command.feed plan (Err fault)
-        → CommandReplies command before now (feed_reply fault)
-    feed_stops before now load.Failed gives l = both_asked before now (feed_reply load.Failed) gives l.asks tt
-    feed_stops before now load.TooLong gives l = both_asked before now (feed_reply load.TooLong) gives l.asks (inr (refl, (plan, gives, l.answer)))
-    feed_stops before now load.Refused gives l = both_asked before now (feed_reply load.Refused) gives l.asks (plan, gives, l.answer)
+    feed_stops : (before now : Told) (fault : LoadFault) → GivesRunnable before.files script_name plan → LoadsFeed (with_asked before script_name) now feed_name plan (Err fault)
+        → RunReplies before now (fault_reply fault 2)
+    feed_stops before now load.Failed gives l = both_asked before now (fault_reply load.Failed 2) gives l.asks tt
+    feed_stops before now load.TooLong gives l = both_asked before now (fault_reply load.TooLong 2) gives l.asks (inr (refl, (plan, gives, l.answer)))
+    feed_stops before now (load.Script place cause) gives l = absurd l.answer
+    feed_stops before now load.Feed gives l = both_asked before now (fault_reply load.Feed 2) gives l.asks (plan, gives, l.answer)
     feed_stops before now load.NoMemory gives l = by_asks l.asks
       where
-        by_asks : (now ≡ with_asked (with_asked before command.script) command.feed) ⊎ (now ≡ with_asked before command.script) → CommandReplies command before now (feed_reply load.NoMemory)
-        by_asks (inl is) = both_asked before now (feed_reply load.NoMemory) gives is tt
-        by_asks (inr is) = script_asked before now (feed_reply load.NoMemory) is tt
+        by_asks : (now ≡ with_asked (with_asked before script_name) feed_name) ⊎ (now ≡ with_asked before script_name) → RunReplies before now (fault_reply load.NoMemory 2)
+        by_asks (inl is) = both_asked before now (fault_reply load.NoMemory 2) gives is tt
+        by_asks (inr is) = script_asked before now (fault_reply load.NoMemory 2) is tt
 
-    pub feed_stopped : (before mid now : Option Told) (fault : LoadFault) → Tells before mid (λ b n. LoadsScript b n command.script (Ok plan))
-        → Tells mid now (λ b n. LoadsFeed b n command.feed plan (Err fault)) → Tells before now (λ b n. CommandReplies command b n (feed_reply fault))
-    feed_stopped None mid now fault first l = tt
-    feed_stopped (Some before) None now fault first l = absurd first
-    feed_stopped (Some before) (Some mid) None fault first l = absurd l
-    feed_stopped (Some before) (Some mid) (Some now) fault first l =
-        let P : Told → Type 0 = λ m. LoadsFeed m now command.feed plan (Err fault) in
-        feed_stops before now fault first.answer (subst P first.asks l)
+    module _ (runs : can_run plan ≡ true) where
+      pub feed_stopped : (before mid now : Option Told) (fault : LoadFault) → Tells before mid (λ b n. LoadsScript b n script_name (Ok plan))
+          → Tells mid now (λ b n. LoadsFeed b n feed_name plan (Err fault)) → Tells before now (λ b n. RunReplies b n (fault_reply fault 2))
+      feed_stopped None mid now fault one l = tt
+      feed_stopped (Some before) None now fault one l = absurd one
+      feed_stopped (Some before) (Some mid) None fault one l = absurd l
+      feed_stopped (Some before) (Some mid) (Some now) fault one l =
+          let P : Told → Type 0 = λ m. LoadsFeed m now feed_name plan (Err fault) in
+          feed_stops before now fault (record { given = one.answer; runs = runs }) (subst P one.asks l)
 
-    -- nothing stops it
-    pub all_loaded : (before mid now : Option Told) (posts : List (ℕ × Message)) → Tells before mid (λ b n. LoadsScript b n command.script (Ok plan))
-        → Tells mid now (λ b n. LoadsFeed b n command.feed plan (Ok posts)) → Tells before now (λ b n. CommandReplies command b n (Ok (reply.Run plan posts)))
-    all_loaded None mid now posts first l = tt
-    all_loaded (Some before) None now posts first l = absurd first
-    all_loaded (Some before) (Some mid) None posts first l = absurd l
-    all_loaded (Some before) (Some mid) (Some now) posts first l =
-        let P : Told → Type 0 = λ m. LoadsFeed m now command.feed plan (Ok posts) in
-        let second = subst P first.asks l in
-        both_asked before now (Ok (reply.Run plan posts)) first.answer second.asks (first.answer, refl, (posts, second.answer, refl))
+      -- nothing stops it
+      pub all_loaded : (before mid now : Option Told) (posts : List (ℕ × Message)) → Tells before mid (λ b n. LoadsScript b n script_name (Ok plan))
+          → Tells mid now (λ b n. LoadsFeed b n feed_name plan (Ok posts)) → Tells before now (λ b n. RunReplies b n (Ok (reply.Run plan posts)))
+      all_loaded None mid now posts one l = tt
+      all_loaded (Some before) None now posts one l = absurd one
+      all_loaded (Some before) (Some mid) None posts one l = absurd l
+      all_loaded (Some before) (Some mid) (Some now) posts one l =
+          let P : Told → Type 0 = λ m. LoadsFeed m now feed_name plan (Ok posts) in
+          let second = subst P one.asks l in
+          let gives : GivesRunnable before.files script_name plan = record { given = one.answer; runs = runs } in
+          both_asked before now (Ok (reply.Run plan posts)) gives second.asks (gives, refl, (posts, second.answer, refl))
+
+-- ---- `check`
+
+module _ (script_name : List ℕ) where
+  abbrev CheckReplies : Told → Told → Result Reply Unanswered → Type 0
+  CheckReplies before now result = CommandReplies (Check script_name) before now result
+
+  checked : (before now : Told) (result : Result Reply Unanswered) → now ≡ with_asked before script_name → CommandVerdict before (Check script_name) result → CheckReplies before now result
+  checked before now result is verdict = record { asked = script_name ∷ []; told_is = is; may_ask = inr refl; verdict = verdict }
+
+  check_stops : (before now : Told) (fault : LoadFault) → LoadsScript before now script_name (Err fault) → CheckReplies before now (fault_reply fault 1)
+  check_stops before now load.Failed l = checked before now (fault_reply load.Failed 1) l.asks tt
+  check_stops before now load.TooLong l = checked before now (fault_reply load.TooLong 1) l.asks (refl, l.answer)
+  check_stops before now (load.Script place cause) l = checked before now (fault_reply (load.Script place cause) 1) l.asks l.answer
+  check_stops before now load.Feed l = absurd l.answer
+  check_stops before now load.NoMemory l = by_asks l.asks
+    where
+      by_asks : (now ≡ with_asked before script_name) ⊎ (now ≡ before) → CheckReplies before now (fault_reply load.NoMemory 1)
+      by_asks (inl is) = checked before now (fault_reply load.NoMemory 1) is tt
+      by_asks (inr is) = record { asked = []; told_is = is ∙ asked_none before; may_ask = inl refl; verdict = tt }
+
+  pub check_stopped : (before now : Option Told) (fault : LoadFault) → Tells before now (λ b n. LoadsScript b n script_name (Err fault))
+      → Tells before now (λ b n. CheckReplies b n (fault_reply fault 1))
+  check_stopped None now fault l = tt
+  check_stopped (Some before) None fault l = absurd l
+  check_stopped (Some before) (Some now) fault l = check_stops before now fault l
+
+  pub plan_checked : (plan : Plan) (before now : Option Told) → Tells before now (λ b n. LoadsScript b n script_name (Ok plan)) → Tells before now (λ b n. CheckReplies b n (Ok (reply.Check plan)))
+  plan_checked plan None now l = tt
+  plan_checked plan (Some before) None l = absurd l
+  plan_checked plan (Some before) (Some now) l = checked before now (Ok (reply.Check plan)) l.asks l.answer
 
 -- ---- from a command to words
 

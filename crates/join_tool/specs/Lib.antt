@@ -1,4 +1,5 @@
 pub mod Command
+pub mod Asked
 pub mod Numbers
 pub mod Verdict
 pub mod Output

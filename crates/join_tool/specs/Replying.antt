@@ -11,35 +11,33 @@ use Rattle.join_tool.specs.declared.reply.Unanswered.TheVariants as unanswered
 use Rattle.join_tool.specs.declared.status.Status.{Status}
 use Rattle.join_tool.specs.declared.status.Status.TheVariants as status
 use Rattle.join_tool.specs.Command.{Command, command_of}
-use Rattle.join_tool.specs.Verdict.{Words, Verdict, Usage, TooLong, ScriptRefused, FeedRefused, Runs, OfCommand, IsVerdict, MayAsk, AreAsked, default_limits}
+use Rattle.join_tool.specs.Verdict.{Words, Verdict, Usage, TooLong, ScriptRefused, NotBuilt, FeedRefused, Checks, Runs, OfCommand, IsVerdict, MayAsk, AreAsked, default_limits}
 
 abbrev pub verdict_of : Reply → Verdict
 verdict_of reply.Usage = Usage
 verdict_of (reply.TooLong place) = TooLong place
-verdict_of reply.ScriptRefused = ScriptRefused
+verdict_of (reply.ScriptRefused place cause) = ScriptRefused place cause
+verdict_of reply.NotBuilt = NotBuilt
 verdict_of reply.FeedRefused = FeedRefused
+verdict_of (reply.Check plan) = Checks plan
 verdict_of (reply.Run plan posts) = Runs plan default_limits (posts ∷ [])
 
--- what a script that was not read comes to
-abbrev pub script_reply : LoadFault → Result Reply Unanswered
-script_reply load.Failed = Err unanswered.ReadFault
-script_reply load.TooLong = Ok (reply.TooLong 1)
-script_reply load.Refused = Ok reply.ScriptRefused
-script_reply load.NoMemory = Err unanswered.NoMemory
-
--- what a feed that was not read comes to
-abbrev pub feed_reply : LoadFault → Result Reply Unanswered
-feed_reply load.Failed = Err unanswered.ReadFault
-feed_reply load.TooLong = Ok (reply.TooLong 2)
-feed_reply load.Refused = Ok reply.FeedRefused
-feed_reply load.NoMemory = Err unanswered.NoMemory
+-- what the file of this number comes to, where it gave nothing
+abbrev pub fault_reply : LoadFault → ℕ → Result Reply Unanswered
+fault_reply load.Failed file = Err unanswered.ReadFault
+fault_reply load.TooLong file = Ok (reply.TooLong file)
+fault_reply (load.Script place cause) file = Ok (reply.ScriptRefused place cause)
+fault_reply load.Feed file = Ok reply.FeedRefused
+fault_reply load.NoMemory file = Err unanswered.NoMemory
 
 -- a plan and posts that can run
 abbrev pub IsRunnableReply : Reply → Type 0
 IsRunnableReply reply.Usage = Unit {0}
-IsRunnableReply (reply.TooLong place) = (place ≡ 1) ⊎ (place ≡ 2)
-IsRunnableReply reply.ScriptRefused = Unit {0}
+IsRunnableReply (reply.TooLong place) = Unit {0}
+IsRunnableReply (reply.ScriptRefused place cause) = Unit {0}
+IsRunnableReply reply.NotBuilt = Unit {0}
 IsRunnableReply reply.FeedRefused = Unit {0}
+IsRunnableReply (reply.Check plan) = Unit {0}
 IsRunnableReply (reply.Run plan posts) = IsFirstPlan plan × AreFirstPosts plan posts
 
 -- the count of faults never falls, and a file could not be read only where it rose
@@ -78,6 +76,8 @@ IsUsageReply words result = (command_of words ≡ None → result ≡ Ok reply.U
 abbrev pub IsReplyStatus : Reply → Status → Type 0
 IsReplyStatus reply.Usage answer = answer ≡ status.Usage
 IsReplyStatus (reply.TooLong place) answer = answer ≡ status.TooLong
-IsReplyStatus reply.ScriptRefused answer = answer ≡ status.ScriptRefused
+IsReplyStatus (reply.ScriptRefused place cause) answer = answer ≡ status.ScriptRefused
+IsReplyStatus reply.NotBuilt answer = answer ≡ status.ScriptRefused
 IsReplyStatus reply.FeedRefused answer = answer ≡ status.FeedRefused
+IsReplyStatus (reply.Check plan) answer = answer ≡ status.Done
 IsReplyStatus (reply.Run plan posts) answer = answer ≡ status.Done

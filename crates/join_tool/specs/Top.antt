@@ -1,8 +1,6 @@
 -- The clauses of the top call.
 use Rattle.std.specs.Prelude.{◌≡◌, ◌≢◌, ◌⊎◌, ℕ, ◌≤◌, List, ◌++◌, Option, None, Some, Result, Ok, Err}
 use Rattle.join_base.specs.Outside.{Files, Told, Rose}
-use Rattle.script_types.specs.declared.plan.Plan.{Plan}
-use Rattle.actor_turn.specs.declared.run.Limits.{Limits}
 use Rattle.join_tool.specs.declared.status.Status.{Status}
 use Rattle.join_tool.specs.declared.status.Status.TheVariants as status
 use Rattle.join_tool.specs.declared.reply.Reply.{Reply}
@@ -10,7 +8,7 @@ use Rattle.join_tool.specs.declared.reply.Reply.TheVariants as reply
 use Rattle.join_tool.specs.declared.reply.Unanswered.{Unanswered}
 use Rattle.join_tool.specs.declared.reply.Unanswered.TheVariants as unanswered
 use Rattle.join_tool.specs.Command.{command_of}
-use Rattle.join_tool.specs.Verdict.{Words, Feeds, AreAsked, IsVerdict, Runs}
+use Rattle.join_tool.specs.Verdict.{Words, AreAsked, IsVerdict, Verdict, Usage, TooLong, ScriptRefused, NotBuilt, FeedRefused, Checks, Runs}
 use Rattle.join_tool.specs.Output.{IsOutput}
 use Rattle.join_tool.specs.Replying.{IsReplyStatus, verdict_of}
 use Rattle.join_tool.specs.Answer.{Answers}
@@ -83,10 +81,20 @@ pub record HasCauses (read_before read_now write_before write_now : ℕ) (answer
   pub read_fault : answer ≡ status.ReadFault → Rose read_before read_now
   pub write_fault : answer ≡ status.WriteFault → Rose write_before write_now
 
--- where the words and the files come to a run and no fault was counted, it is done, or there was no memory
+-- a plan or a run, which nothing refused
+abbrev pub IsGood : Verdict → Type 0
+IsGood Usage = ⊥
+IsGood (TooLong place) = ⊥
+IsGood (ScriptRefused place cause) = ⊥
+IsGood NotBuilt = ⊥
+IsGood FeedRefused = ⊥
+IsGood (Checks plan) = Unit {0}
+IsGood (Runs plan limits feeds) = Unit {0}
+
+-- where the words and the files come to a plan or a run and no fault was counted, it is done, or there was no memory
 abbrev pub Completes : Words → Files → ℕ → ℕ → ℕ → ℕ → Status → Type 0
 Completes words files read_before read_now write_before write_now answer =
-    (plan : Plan) (limits : Limits) (feeds : Feeds) → IsVerdict words files (Runs plan limits feeds)
+    (verdict : Verdict) → IsGood verdict → IsVerdict words files verdict
     → ¬ Rose read_before read_now → ¬ Rose write_before write_now → (answer ≡ status.Done) ⊎ (answer ≡ status.NoMemory)
 
 abbrev pub CompletesWhereTold : Words → Option Told → ℕ → ℕ → ℕ → ℕ → Status → Type 0

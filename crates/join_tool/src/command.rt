@@ -1,7 +1,8 @@
 //! The words of the command line.
 ghost use Rattle.std.specs.Prelude.{◌≡◌, ◌==◌, slice_index, MatchOption, None, Some};
 ghost use Rattle.std.specs.Str.{bytes_eq};
-ghost use Rattle.join_tool.specs.Command.{command_of, is_run, names_file};
+ghost use Rattle.join_tool.specs.Asked.{command_in};
+ghost use Rattle.join_tool.specs.Command.{command_of, is_check, is_run, names_file};
 
 use join_base::{Word, WordList};
 
@@ -34,14 +35,34 @@ fn is_run(verb: &Word, script: &Word, feed: &Word) -> bool
     is_text(verb.as_str().as_bytes(), b"run") && names_file(script) && names_file(feed)
 }
 
-/// The names of the script and of the feed, where the words are `run SCRIPT FEED`.
-pub fn command_of(words: &WordList) -> Option<(&Word, &Word)>
-    ensures command { MatchOption result (command_of words.now ≡ None) (λ c. command_of words.now ≡ Some record { script = c.0.now; feed = c.1.now }) }
+fn is_check(verb: &Word, script: &Word) -> bool
+    ensures { result ≡ is_check verb.now script.now }
+{
+    is_text(verb.as_str().as_bytes(), b"check") && names_file(script)
+}
+
+/// A command, with the words that name its files.
+#[derive(Clone, Copy)]
+pub enum Request<'a> {
+    Run { script: &'a Word, feed: &'a Word },
+    Check { script: &'a Word },
+}
+
+/// The command that the words are: `run SCRIPT FEED` or `check SCRIPT`.
+pub fn command_of(words: &WordList) -> Option<Request<'_>>
+    ensures command { MatchOption result (command_of words.now ≡ None) (λ r. command_of words.now ≡ Some (command_in r)) }
 {
     match words.as_slice() {
+        [verb, script] => {
+            if is_check(verb, script) {
+                Some(Request::Check { script })
+            } else {
+                None
+            }
+        }
         [verb, script, feed] => {
             if is_run(verb, script, feed) {
-                Some((script, feed))
+                Some(Request::Run { script, feed })
             } else {
                 None
             }

@@ -1,11 +1,13 @@
 //! Fetching and reading the files of a run.
 ghost use Rattle.std.specs.Prelude.{◌≡◌, IfOk};
 ghost use Rattle.first_form.specs.FirstForm.{IsFirstPlan, AreFirstPosts};
+ghost use Rattle.script_types.specs.Typed.{IsTyped};
 ghost use Rattle.join_tool.specs.Loading.{LoadCause, LoadsFeed, LoadsScript, ReadsPlan, ReadsPosts, Tells};
 
-use first_form::{Refusal, feed_of, plan_of};
+use first_form::{Refusal, feed_of};
 use join_base::{FetchFault, Inputs, Posts, Word};
-use script_reader::{ScriptFault, read_script};
+use script_check::check_script;
+use script_reader::{ScriptCause, ScriptFault, read_script};
 use script_types::Plan;
 use std::alloc::Global;
 
@@ -19,8 +21,10 @@ pub enum LoadFault {
     Failed,
     /// It has too many bytes.
     TooLong,
-    /// Its bytes are not of the form.
-    Refused,
+    /// It is a script with this fault.
+    Script { place: u64, cause: ScriptCause },
+    /// It is a feed whose bytes are not of the form.
+    Feed,
     NoMemory,
 }
 
@@ -39,28 +43,34 @@ impl From<FetchFault> for LoadFault {
     }
 }
 
-// The plan of a script's bytes.
-fn read_plan(alloc: Global, bytes: &[u8]) -> Result<Plan, LoadFault>
-    ensures plan { ReadsPlan bytes.now result }
-    ensures first { IfOk result IsFirstPlan }
-{
-    script_reader::one_answer();
-    match read_script(alloc, bytes) {
-        Ok(tree) => match plan_of(alloc, &tree) {
-            Ok(plan) => Ok(plan),
-            Err(Refusal::NotBuilt) => Err(LoadFault::Refused),
-            Err(Refusal::NoMemory) => Err(LoadFault::NoMemory),
-        },
-        Err(ScriptFault::Bad { .. }) => Err(LoadFault::Refused),
-        Err(ScriptFault::NoMemory) => Err(LoadFault::NoMemory),
+impl From<ScriptFault> for LoadFault {
+    ghost use Rattle.std.specs.Prelude.{◌≡◌};
+    ghost use Rattle.join_tool.specs.Loading.{script_fault};
+
+    ghost from_gives = { λ fault e. e ≡ script_fault fault };
+
+    fn from(fault: ScriptFault) -> LoadFault {
+        match fault {
+            ScriptFault::Bad { place, cause } => LoadFault::Script { place, cause },
+            ScriptFault::NoMemory => LoadFault::NoMemory,
+        }
     }
 }
 
-/// Fetches a script and reads its plan.
+// The plan of a script's bytes.
+fn read_plan(alloc: Global, bytes: &[u8]) -> Result<Plan, LoadFault>
+    ensures plan { ReadsPlan bytes.now result }
+    ensures typed { IfOk result IsTyped }
+{
+    let tree = read_script(alloc, bytes)?;
+    Ok(check_script(alloc, &tree)?)
+}
+
+/// Fetches a script and reads its plan, which is well typed.
 pub fn load_script<I: Inputs>(alloc: Global, inputs: &mut I, name: &Word) -> Result<Plan, LoadFault>
     ensures told { Tells (I.tells inputs.old) (I.tells inputs.new) (λ before now. LoadsScript before now name.now result) }
     ensures cause { LoadCause (I.faults inputs.old) (I.faults inputs.new) result }
-    ensures first { IfOk result IsFirstPlan }
+    ensures typed { IfOk result IsTyped }
 {
     match inputs.fetch(alloc, name.as_str(), MAX_FILE) {
         Ok(file) => read_plan(alloc, file.bytes()),
@@ -76,7 +86,7 @@ fn read_posts(alloc: Global, plan: &Plan, bytes: &[u8]) -> Result<Posts, LoadFau
 {
     match feed_of(alloc, plan, bytes) {
         Ok(posts) => Ok(posts),
-        Err(Refusal::NotBuilt) => Err(LoadFault::Refused),
+        Err(Refusal::NotBuilt) => Err(LoadFault::Feed),
         Err(Refusal::NoMemory) => Err(LoadFault::NoMemory),
     }
 }

@@ -1,4 +1,4 @@
-//! Runs a script of one actor with join patterns on a feed, and prints the log of the run.
+//! Runs a script of one actor with join patterns on a feed and prints the log of the run, or checks a script and prints its plan.
 #![tactic(auto)]
 
 mod command;

@@ -18,7 +18,7 @@ const FEED: &[u8] = b"m,a,1\nm,b,2\n";
 const LOG: &[u8] =
     b"joinlog 1 arrivals 50000 partials 65536 feeds 1\nactor m\n1 from feed 1 a(1)\n2 from feed 1 b(2)\nfire rule 1 take 1,2\nprint \"hit 12\"\nend running left - partials 1\n";
 
-// The same script with a guard, which is not of the form that runs.
+// The same script with a guard, whose plan does not run yet.
 const GUARDED: &[u8] =
     b"message a(x: int) message b(x: int) actor m { when a(x) & b(y) if x == y { print \"hit \" x y; } }";
 
@@ -27,9 +27,22 @@ const HEAD: &[u8] = b"joinlog 1 arrivals 50000 partials 65536 feeds 1\nactor m\n
 
 const RUN: &[&str] = &["run", "s", "f"];
 
+const CHECK: &[&str] = &["check", "s"];
+
+// The front of most scripts with a fault, 28 bytes.
+const INT: &[u8] = b"message a(x: int) actor m { ";
+
 fn bytes_of(alloc: Global, text: &[u8]) -> Result<Bytes, Fail> {
     let mut bytes = Bytes::new(alloc);
     bytes.push_all(text)?;
+    Ok(bytes)
+}
+
+fn joined(alloc: Global, pieces: &[&[u8]]) -> Result<Bytes, Fail> {
+    let mut bytes = Bytes::new(alloc);
+    for piece in pieces {
+        bytes.push_all(piece)?;
+    }
     Ok(bytes)
 }
 
@@ -137,8 +150,11 @@ fn of_all_matches_the_oldest_is_taken(rt: HostRuntime) -> Result<(), Fail> {
 #[test]
 fn words_that_are_no_command_are_refused(rt: HostRuntime) -> Result<(), Fail> {
     let alloc = rt.alloc();
-    let cases: [&[&str]; 9] = [
+    let cases: [&[&str]; 12] = [
         &[],
+        &["check"],
+        &["check", "-x"],
+        &["check", "--", "s"],
         &["run"],
         &["run", "s"],
         &["run", "s", "f", "f"],
@@ -172,23 +188,192 @@ fn words_that_are_no_command_are_refused(rt: HostRuntime) -> Result<(), Fail> {
     )
 }
 
+// Runs `check` on a script, and expects this status and output.
+fn checks(
+    rt: &impl Abort,
+    alloc: Global,
+    script: &[u8],
+    status: Status,
+    output: &[u8],
+) -> Result<(), Fail> {
+    let mut inputs = inputs_of(alloc, script, b"")?;
+    answers(rt, alloc, CHECK, &mut inputs, status, output)
+}
+
 #[test]
-fn other_scripts_and_feeds_are_refused(rt: HostRuntime) -> Result<(), Fail> {
+fn a_script_is_checked(rt: HostRuntime) -> Result<(), Fail> {
+    let plan: &[u8] =
+        b"message a(x: int)\nmessage b(x: int)\nactor m {\n  when a(x) & b(y) if x == y {\n    print \"hit \" x y;\n  }\n}\n";
+    checks(&rt, rt.alloc(), GUARDED, Status::Done, plan)
+}
+
+// Each script with the fault that both commands answer.
+#[test]
+fn scripts_with_a_fault_are_refused_at_its_place(rt: HostRuntime) -> Result<(), Fail> {
     let alloc = rt.alloc();
-    let script: &[u8] = b"refused script NotBuilt\n";
-    let feed: &[u8] = b"refused feed NotBuilt\n";
-    let cases: [(&[u8], &[u8], Status, u8, &[u8]); 4] = [
-        (GUARDED, FEED, Status::ScriptRefused, 3, script),
-        (b"", FEED, Status::ScriptRefused, 3, script),
-        (SCRIPT, b"m,a\n", Status::FeedRefused, 4, feed),
-        (SCRIPT, b"m,a,1", Status::FeedRefused, 4, feed),
+    let cases: [(&[u8], &[u8], &[u8]); 14] = [
+        (b"", b"", b"0 BadSyntax"),
+        (b"message a(x: int)", b"", b"17 BadSyntax"),
+        (b"message ", &[255], b"8 NotText"),
+        (INT, b"when a(x) if x = 1 { } }", b"43 BadToken"),
+        (INT, b"when a(x) & { } }", b"40 BadSyntax"),
+        (INT, b"when b(x) { } }", b"33 UnknownMessage"),
+        (INT, b"when a(x, y) { } }", b"33 WrongCount"),
+        (INT, b"when a(x) if y == 1 { } }", b"41 UnknownName"),
+        (INT, b"when a(x) if x == \"k\" { } }", b"46 WrongType"),
+        (INT, b"when a(x) { stop; stop; } }", b"40 StopNotLast"),
+        (INT, b"when a(x) { post n a(x); } }", b"45 UnknownActor"),
+        (
+            INT,
+            b"when a(x1) & a(x2) & a(x3) & a(x4) & a(x5) & a(x6) & a(x7) & a(x8) & a(x9) { } }",
+            b"97 TooMany",
+        ),
+        (
+            b"message a(x: int) message b(x: int) actor m { when ",
+            b"a(x) & b(x) { } }",
+            b"60 TwiceDeclared",
+        ),
+        // A fault of reading hides each fault of typing.
+        (INT, b"when b(x) { } } }", b"44 BadSyntax"),
     ];
-    for (script, feed, status, number, output) in cases {
-        let mut inputs = inputs_of(alloc, script, feed)?;
-        answers(&rt, alloc, RUN, &mut inputs, status, output)?;
-        assert_eq!(rt; status.number(), number);
+    for (front, rest, fault) in cases {
+        let script = joined(alloc, &[front, rest])?;
+        let refused = joined(alloc, &[b"refused script ", fault, b"\n"])?;
+        for words in [CHECK, RUN] {
+            let mut inputs = inputs_of(alloc, script.bytes(), FEED)?;
+            answers(
+                &rt,
+                alloc,
+                words,
+                &mut inputs,
+                Status::ScriptRefused,
+                refused.bytes(),
+            )?;
+        }
+    }
+    assert_eq!(rt; Status::ScriptRefused.number(), 3);
+    Ok(())
+}
+
+#[test]
+fn a_script_that_is_cut_is_refused(rt: HostRuntime) -> Result<(), Fail> {
+    let alloc = rt.alloc();
+    let cases: [(usize, &[u8]); 6] = [
+        (5, b"0 BadSyntax"),
+        (15, b"13 BadSyntax"),
+        (36, b"36 BadSyntax"),
+        (57, b"57 BadSyntax"),
+        (74, b"71 BadToken"),
+        (85, b"85 BadSyntax"),
+    ];
+    for (length, fault) in cases {
+        let refused = joined(alloc, &[b"refused script ", fault, b"\n"])?;
+        let script = &SCRIPT[..length];
+        checks(&rt, alloc, script, Status::ScriptRefused, refused.bytes())?;
     }
     Ok(())
+}
+
+#[test]
+fn plans_that_cannot_run_yet_are_refused(rt: HostRuntime) -> Result<(), Fail> {
+    let alloc = rt.alloc();
+    let rests: [&[u8]; 8] = [
+        b"} actor n { }",
+        b"} message s(t: text)",
+        b"when a(x) if x == 1 { } }",
+        b"when a(x) & a(y) & a(z) { } }",
+        b"when a(x) { post m a(x); } }",
+        b"when a(x) { stop; } }",
+        b"when a(x) { print (x + 1); } }",
+        b"when a(x) { } when a(x) { print x; print (x); } }",
+    ];
+    for rest in rests {
+        let script = joined(alloc, &[INT, rest])?;
+        let mut inputs = inputs_of(alloc, script.bytes(), FEED)?;
+        let refused: &[u8] = b"refused script NotBuilt\n";
+        answers(&rt, alloc, RUN, &mut inputs, Status::ScriptRefused, refused)?;
+    }
+    Ok(())
+}
+
+// The front of the scripts that the rows of feeds are for.
+const KINDS: &[u8] = b"message a(x: int) message b(x: int, y: int) message e() actor m { }";
+
+#[test]
+fn feeds_that_are_not_of_the_form_are_refused(rt: HostRuntime) -> Result<(), Fail> {
+    let alloc = rt.alloc();
+    let feeds: [&[u8]; 20] = [
+        b"m,a\n",
+        b"m,a,\n",
+        b"m,a,1.5\n",
+        b"m,a,+1\n",
+        b"m,a,-\n",
+        b"m,a, 1\n",
+        b"m,a,9223372036854775808\n",
+        b"m,a,-9223372036854775809\n",
+        b"m,a,1,2\n",
+        b"m,a,1,\n",
+        b"m,e,\n",
+        b"m,a,1\r\n",
+        b"m,e\r\n",
+        b"m,a,1",
+        b"m,a,1\nm,a,2",
+        b"m,a,1\n\n",
+        b"n,a,1\n",
+        b"m,c,1\n",
+        b"m\n",
+        b"\n",
+    ];
+    for feed in feeds {
+        let mut inputs = inputs_of(alloc, KINDS, feed)?;
+        let refused: &[u8] = b"refused feed NotBuilt\n";
+        answers(&rt, alloc, RUN, &mut inputs, Status::FeedRefused, refused)?;
+    }
+    assert_eq!(rt; Status::FeedRefused.number(), 4);
+    Ok(())
+}
+
+#[test]
+fn values_of_a_feed_are_read(rt: HostRuntime) -> Result<(), Fail> {
+    let alloc = rt.alloc();
+    let cases: [(&[u8], &[u8]); 5] = [
+        (b"m,b,7,-3\n", b"b(7,-3)"),
+        (b"m,e\n", b"e()"),
+        (b"m,a,007\n", b"a(7)"),
+        (b"m,a,-0\n", b"a(0)"),
+        (b"m,a,-9223372036854775808\n", b"a(-9223372036854775808)"),
+    ];
+    for (feed, message) in cases {
+        let mut inputs = inputs_of(alloc, KINDS, feed)?;
+        let end: &[u8] = b"\nend running left 1 partials 0\n";
+        let log = joined(alloc, &[HEAD, b"1 from feed 1 ", message, end])?;
+        answers(&rt, alloc, RUN, &mut inputs, Status::Done, log.bytes())?;
+    }
+    Ok(())
+}
+
+// A feed of so many rows.
+fn rows(alloc: Global, count: usize) -> Result<Bytes, Fail> {
+    let mut feed = Bytes::new(alloc);
+    for _ in 0..count {
+        feed.push_all(b"m,e\n")?;
+    }
+    Ok(feed)
+}
+
+#[test]
+fn a_feed_has_at_most_a_thousand_rows(rt: HostRuntime) -> Result<(), Fail> {
+    let alloc = rt.alloc();
+    let mut inputs = inputs_of(alloc, KINDS, b"")?;
+    inputs.put(alloc, "most", rows(alloc, 1000)?)?;
+    inputs.put(alloc, "more", rows(alloc, 1001)?)?;
+    let mut out = MemorySink::new(alloc, 100_000, 4096)?;
+    let words = words_of(alloc, &["run", "s", "most"])?;
+    let status = join_main(&rt, alloc, &words, &mut inputs, &mut out, &FreeGate);
+    assert_eq!(rt; status, Status::Done);
+    let words = ["run", "s", "more"].as_slice();
+    let refused: &[u8] = b"refused feed NotBuilt\n";
+    answers(&rt, alloc, words, &mut inputs, Status::FeedRefused, refused)
 }
 
 #[test]
@@ -201,7 +386,17 @@ fn a_file_of_one_byte_too_many_is_too_long(rt: HostRuntime) -> Result<(), Fail> 
     let mut inputs = inputs_of(alloc, SCRIPT, FEED)?;
     inputs.put(alloc, "most", Bytes::from_vec(most))?;
     inputs.put(alloc, "long", long)?;
-    let cases: [(&[&str], Status, &[u8]); 4] = [
+    let cases: [(&[&str], Status, &[u8]); 6] = [
+        (
+            &["check", "long"],
+            Status::TooLong,
+            b"refused file 1 too long\n",
+        ),
+        (
+            &["check", "most"],
+            Status::ScriptRefused,
+            b"refused script 16777216 BadSyntax\n",
+        ),
         (
             &["run", "long", "f"],
             Status::TooLong,
@@ -215,7 +410,7 @@ fn a_file_of_one_byte_too_many_is_too_long(rt: HostRuntime) -> Result<(), Fail> 
         (
             &["run", "most", "f"],
             Status::ScriptRefused,
-            b"refused script NotBuilt\n",
+            b"refused script 16777216 BadSyntax\n",
         ),
         (
             &["run", "s", "most"],
@@ -250,6 +445,9 @@ fn a_fetch_that_fails_leaves_nothing_written(rt: HostRuntime) -> Result<(), Fail
         Status::ReadFault,
         b"",
     )?;
+    let mut inputs = inputs_of(alloc, SCRIPT, FEED)?;
+    inputs.fail(1)?;
+    answers(&rt, alloc, CHECK, &mut inputs, Status::ReadFault, b"")?;
     assert_eq!(rt; Status::ReadFault.number(), 6);
     Ok(())
 }

@@ -33,13 +33,14 @@ fn prepare<I: Inputs>(
     }
 }
 
-/// Runs the command that the words are. `run SCRIPT FEED` fetches the script and then the feed, runs the one actor of
-/// the script on the posts of the feed, and writes the log of that run; `words` leaves out the program's name.
+/// Carries out the command that the words are; `words` leaves out the program's name. `run SCRIPT FEED` fetches the script
+/// and then the feed, runs the one actor of the script on the posts of the feed, and writes the log of that run.
+/// `check SCRIPT` fetches the script, and writes its plan.
 ///
 /// The first refusal ends the call: `Usage` where the words are no command, `TooLong` where a file has more than
-/// 16,777,216 bytes, `ScriptRefused` and `FeedRefused` where it is not of the form that runs so far; each writes one
-/// line. After `ReadFault` and `NoMemory` nothing was written, and after `WriteFault` a beginning of the output.
-/// The gate is not entered yet.
+/// 16,777,216 bytes, `ScriptRefused` where the script has a fault or its plan can't run yet, and `FeedRefused` where the
+/// feed is not of the form that runs so far; each writes one line. After `ReadFault` and `NoMemory` nothing was written,
+/// and after `WriteFault` a beginning of the output. The gate is not entered yet.
 pub fn join_main<R, I: Inputs, S: Sink, G: Gate>(
     _rt: &R,
     alloc: Global,
@@ -49,7 +50,7 @@ pub fn join_main<R, I: Inputs, S: Sink, G: Gate>(
     _gate: &G,
 ) -> Status
     // The status and the bytes written are those of the verdict on the words and the files. For a run they are the log
-    // of a run that is linked to the posts of the feed.
+    // of a run that is linked to the posts of the feed, and for a check the text of the script's plan.
     ensures answer { AnswersWhereTold words.now (I.tells inputs.old) (S.taken out.old) (I.tells inputs.new) (S.taken out.new) result }
 
     // Inputs that tell were asked only for names that the order fetches, whatever the sink tells.
@@ -58,7 +59,7 @@ pub fn join_main<R, I: Inputs, S: Sink, G: Gate>(
     // A fault is answered only where its count rose in this call.
     ensures causes { HasCauses (I.faults inputs.old) (I.faults inputs.new) (S.faults out.old) (S.faults out.new) result }
 
-    // Good words and files are run, unless there is a fault or no memory.
+    // Good words and files are run or checked, unless there is a fault or no memory.
     ensures complete { CompletesWhereTold words.now (I.tells inputs.old) (I.faults inputs.old) (I.faults inputs.new) (S.faults out.old) (S.faults out.new) result }
 
     ensures words_refused { RefusesWords words.now result }
@@ -67,8 +68,9 @@ pub fn join_main<R, I: Inputs, S: Sink, G: Gate>(
     ensures silent { (result ≡ Status.ReadFault) ⊎ (result ≡ Status.NoMemory) → out.new ≡ out.old }
     ensures built { IsBuilt result }
 {
-    // A script spells one tree: it costs nothing, and completeness rests on it.
+    // A script spells one tree, which has one plan: it costs nothing, and completeness rests on it.
     script_reader::one_answer();
+    script_check::one_answer();
     match prepare(alloc, words, inputs) {
         Ok((status, output)) => match write_all(out, output.bytes()) {
             Ok(()) => status,

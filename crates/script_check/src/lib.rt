@@ -6,4 +6,6 @@ mod check;
 pub use check::{check_script, one_answer};
 
 #[cfg(test)]
+mod plan_tests;
+#[cfg(test)]
 mod tests;

@@ -1,4 +1,3 @@
 mod Examples
 pub mod GuardLemmas
 pub mod SmallLemmas
-pub mod TestLemmas

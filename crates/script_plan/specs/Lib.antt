@@ -1,3 +1,2 @@
 pub mod PlanOf
 pub mod Small
-pub mod SmallTest

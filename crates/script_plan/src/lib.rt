@@ -5,11 +5,6 @@ mod body;
 mod guard;
 mod names;
 mod plan;
-mod small;
 mod term;
 
 pub use plan::plan_of;
-pub use small::is_small;
-
-#[cfg(test)]
-mod tests;

@@ -1,4 +1,4 @@
-use crate::{is_small, plan_of};
+use crate::check_script;
 use guard_eval::{Leaf, Operand, Place, Signed, WordsLeaf};
 use join_base::{Name, Sort};
 use script_reader::read_script;
@@ -28,10 +28,9 @@ fn plan_by(rt: &impl Abort, alloc: Global, script: &[u8]) -> Plan {
         Ok(tree) => tree,
         Err(_) => panic!(rt; "no tree"),
     };
-    assert!(rt; is_small(&tree));
-    match plan_of(alloc, &tree) {
+    match check_script(alloc, &tree) {
         Ok(plan) => plan,
-        Err(_) => panic!(rt; "no memory"),
+        Err(_) => panic!(rt; "no plan"),
     }
 }
 
@@ -216,33 +215,5 @@ fn posts(rt: HostRuntime) {
     match statement(&rt, rule(&rt, &plan, 0, 1), 1) {
         Statement::Post { target, kind, .. } => assert_eq!(rt; (*target, *kind), (1, 0)),
         _ => panic!(rt; "no post"),
-    }
-}
-
-// A name without a declaration counts as the first.
-#[test]
-fn names_without_a_declaration(rt: HostRuntime) {
-    let script = b"actor m { when a(x) { print x y; post n b(y); } }";
-    let plan = plan_by(&rt, rt.alloc(), script);
-    let rule = rule(&rt, &plan, 0, 0);
-    assert!(rt; takes(rule, &[0]));
-    match statement(&rt, rule, 0) {
-        Statement::Print(items) => match items.as_slice() {
-            [Item::Plain(x), Item::Plain(y)] => {
-                assert!(rt; *x == *y && x.pattern == 0 && x.field == 0)
-            }
-            _ => panic!(rt; "other items"),
-        },
-        _ => panic!(rt; "no print"),
-    }
-}
-
-#[test]
-fn a_script_that_is_too_large(rt: HostRuntime) {
-    let script =
-        b"actor m { when a(x1) & a(x2) & a(x3) & a(x4) & a(x5) & a(x6) & a(x7) & a(x8) & a(x9) { } }";
-    match read_script(rt.alloc(), script) {
-        Ok(tree) => assert!(rt; !is_small(&tree)),
-        Err(_) => panic!(rt; "no tree"),
     }
 }
