@@ -1,0 +1,5 @@
+pub mod CutLemmas
+pub mod WriteLemmas
+pub mod LexedLemmas
+pub mod TokenLemmas
+pub mod PhraseLemmas

@@ -1,0 +1,6 @@
+//! What the text of a plan says, as a law.
+#![tactic(auto)]
+
+mod law;
+
+pub use law::print_law;
