@@ -3,3 +3,5 @@ pub mod WriteLemmas
 pub mod LexedLemmas
 pub mod TokenLemmas
 pub mod PhraseLemmas
+pub mod ValueLemmas
+pub mod NamedLemmas
