@@ -5,3 +5,4 @@ pub mod TokenLemmas
 pub mod PhraseLemmas
 pub mod ValueLemmas
 pub mod NamedLemmas
+pub mod TermLemmas

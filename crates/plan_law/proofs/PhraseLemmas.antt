@@ -77,13 +77,13 @@ module _ {X Y : Type 0} (rule : X → Tokens → Type 0) (f : X → Y) (text : Y
 
   -- each text ends the word before it
   module _ (ends : (y : Y) (rest : List ℕ) → Ends (text y ++ rest)) where
-    leads : (ys : List Y) → Leads Ends (flat_map text ys) Ends
-    leads [] rest q = q
-    leads (y ∷ ys) rest q = rw (append_assoc (text y) (flat_map text ys) rest) (ends y (flat_map text ys ++ rest))
+    pub each_leads : (ys : List Y) → Leads Ends (flat_map text ys) Ends
+    each_leads [] rest q = q
+    each_leads (y ∷ ys) rest q = rw (append_assoc (text y) (flat_map text ys) rest) (ends y (flat_map text ys ++ rest))
 
     pub prints_each : (xs : List X) → AllByRecursion (λ (x : X). Prints Ends (rule x) (text (f x))) xs → Prints Ends (each rule xs) (flat_map text (map f xs))
     prints_each [] all = prints_nothing Ends
-    prints_each (x ∷ xs) all = prints_then all.0 (leads (map f xs)) (prints_each xs all.1)
+    prints_each (x ∷ xs) all = prints_then all.0 (each_leads (map f xs)) (prints_each xs all.1)
 
 -- values with a separator between two of them
 module _ {X Y : Type 0} {by : Tokens → Type 0} (rule : X → Tokens → Type 0) (f : X → Y) (text : Y → List ℕ) {sep : List ℕ} (prints_by : Prints Any by sep) (ends : (rest : List ℕ) → Ends (sep ++ rest)) where
@@ -100,7 +100,7 @@ module _ {X Y : Type 0} {by : Tokens → Type 0} (rule : X → Tokens → Type 0
   pub prints_separated : (xs : List X) → AllByRecursion (λ (x : X). Prints Ends (rule x) (text (f x))) xs → Prints Ends (separated by rule xs) (join_by text sep (map f xs))
   prints_separated [] all = record { prints = λ tokens lexed h. absurd h }
   prints_separated (x ∷ xs) all =
-      prints_then all.0 (leads (λ (y : X). by then rule y) f further further_ends (map f xs)) (prints_each (λ (y : X). by then rule y) f further further_ends xs (further_print xs all.1))
+      prints_then all.0 (each_leads (λ (y : X). by then rule y) f further further_ends (map f xs)) (prints_each (λ (y : X). by then rule y) f further further_ends xs (further_print xs all.1))
 
   pub prints_listed : (xs : List X) → AllByRecursion (λ (x : X). Prints Ends (rule x) (text (f x))) xs → Prints Ends (listed by rule xs) (join_by text sep (map f xs))
   prints_listed [] all = prints_nothing Ends
@@ -120,4 +120,4 @@ module _ {X Y : Type 0} (rule : X → Tokens → Type 0) (f : X → Y) (text : Y
 
   pub prints_at_least_one : (xs : List X) → AllByRecursion (λ (x : X). Prints Ends (rule x) (text (f x))) xs → Prints Ends (at_least_one rule xs) (join_by text blanks (map f xs))
   prints_at_least_one [] all = record { prints = λ tokens lexed h. absurd h }
-  prints_at_least_one (x ∷ xs) all = prints_then all.0 (leads rule f apart apart_ends (map f xs)) (prints_each rule f apart apart_ends xs (apart_print xs all.1))
+  prints_at_least_one (x ∷ xs) all = prints_then all.0 (each_leads rule f apart apart_ends (map f xs)) (prints_each rule f apart apart_ends xs (apart_print xs all.1))
