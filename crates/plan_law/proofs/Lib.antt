@@ -6,3 +6,4 @@ pub mod PhraseLemmas
 pub mod ValueLemmas
 pub mod NamedLemmas
 pub mod TermLemmas
+pub mod GuardLemmas

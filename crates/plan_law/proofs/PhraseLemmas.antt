@@ -11,7 +11,7 @@ use Rattle.script_grammar.specs.Grammar.{Tokens, place_of, mark_at, mark}
 use Rattle.script_grammar.proofs.MarkLemmas.{place_of_is}
 use Rattle.plan_law.specs.Printed.{kinds}
 use Rattle.plan_law.proofs.LexedLemmas.{IsLexed, AreLexed, lexed_front, lexed_back}
-use Rattle.plan_law.proofs.WriteLemmas.{Writes, Any, Ends, any, Leads, writes_both, writes_then, writes_as, writes_parts, writes_nil, writes_same, writes_text}
+use Rattle.plan_law.proofs.WriteLemmas.{Writes, Any, Ends, any, Leads, Opens, Unequal, writes_both, writes_then, writes_as, writes_parts, writes_nil, writes_same, writes_text}
 
 -- the text writes the tokens of each phrase of the rule, in front of each text of which P holds
 pub record Prints (P : List ℕ → Type 0) (rule : Tokens → Type 0) (text : List ℕ) : Type 0 where
@@ -65,6 +65,38 @@ prints_text {P} {rule} e w = subst (λ (l : List ℕ). Prints P rule l) e w
 
 pub prints_nothing : (P : List ℕ → Type 0) → Prints P nothing []
 prints_nothing P = record { prints = λ tokens lexed h. writes_nil P tokens h }
+
+-- ---- where a phrase begins
+
+-- the text of each phrase of the rule does not begin with `=`
+pub record Begins (rule : Tokens → Type 0) (text : List ℕ) : Type 0 where
+  pub begins : (tokens : Tokens) → AreLexed tokens → rule tokens → Opens text
+
+pub begins_one : {X : Type 0} {gives : Token → Option X} {x : X} {text : List ℕ} → ((t : Token) → IsLexed t.kind → gives t ≡ Some x → Opens text) → Begins (one gives x) text
+begins_one opens = record {
+  begins = λ tokens lexed h.
+      let single : AreLexed (h.0 ∷ []) = subst AreLexed h.2 lexed in
+      opens h.0 single.0 h.1;
+}
+
+pub begins_then : {first second : Tokens → Type 0} {f : List ℕ} (g : List ℕ) → Begins first f → Begins (first then second) (f ++ g)
+begins_then {f = f} g w = record {
+  begins = λ tokens lexed h.
+      let front : Opens f = w.begins h.front (lexed_front tokens h.front h.back h.parts lexed) h.one in
+      record { opens = λ rest. rw (append_assoc f g rest) (front.opens (g ++ rest)) };
+}
+
+pub begins_text : {rule : Tokens → Type 0} {f g : List ℕ} → f ≡ g → Begins rule f → Begins rule g
+begins_text {rule} e w = subst (λ (l : List ℕ). Begins rule l) e w
+
+-- what may not stand in front of `=`, and then the other
+pub prints_unequal_then : {Q : List ℕ → Type 0} {first second : Tokens → Type 0} {f g : List ℕ} → Prints Unequal first f → Begins second g → Prints Q second g → Prints Q (first then second) (f ++ g)
+prints_unequal_then w begins v = record {
+  prints = λ tokens lexed h.
+      let back = lexed_back tokens h.front h.back h.parts lexed in
+      let opens = begins.begins h.back back h.other in
+      writes_parts tokens h.front h.back h.parts (w.prints h.front (lexed_front tokens h.front h.back h.parts lexed) h.one) (λ rest q. opens.opens rest) (v.prints h.back back h.other);
+}
 
 -- ---- lists of phrases
 

@@ -30,10 +30,10 @@ use Rattle.plan_text.specs.PlanNames.{Variables, variable_name}
 use Rattle.plan_text.specs.GuardText.{first_leaf, further_leaf, leaf_text, operand_text, term_text}
 use Rattle.plan_law.proofs.LexedLemmas.{IsLexed}
 use Rattle.plan_law.proofs.NamedLemmas.{Names, variable_named}
-use Rattle.plan_law.proofs.PhraseLemmas.{Prints, each_leads, prints_each, prints_mark_at, prints_one, prints_text, prints_then, prints_any_then}
-use Rattle.plan_law.proofs.TokenLemmas.{minus_writes, name_writes, plus_writes, space_writes}
-use Rattle.plan_law.proofs.ValueLemmas.{number_writes, quoted_writes}
-use Rattle.plan_law.proofs.WriteLemmas.{Writes, Any, Ends, any, Leads, writes_text, writes_then}
+use Rattle.plan_law.proofs.PhraseLemmas.{Begins, begins_one, begins_text, begins_then, Prints, each_leads, prints_each, prints_mark_at, prints_one, prints_text, prints_then, prints_any_then}
+use Rattle.plan_law.proofs.TokenLemmas.{minus_writes, name_opens, name_writes, plus_writes, space_writes}
+use Rattle.plan_law.proofs.ValueLemmas.{number_opens, number_writes, quoted_writes}
+use Rattle.plan_law.proofs.WriteLemmas.{Writes, Any, Ends, Leads, Opens, writes_text, writes_then}
 
 -- ---- names and texts
 
@@ -165,3 +165,44 @@ module _ (variables : List Variable) (rows : Variables) (named : Names rows vari
   pub prints_operand : (x : OperandDecl) → operand_faults variables x ≡ [] → Prints Ends (g.operand x) (operand_text rows (operand_of variables x))
   prints_operand (o.Fixed place words) none = prints_words place words
   prints_operand (o.Sum place leaves) none = prints_text (sym (sum_text leaves (only_name leaves) refl)) (prints_term place true leaves none)
+
+  -- ---- where the text of an operand begins
+
+  part_opens : (place : ℕ) (k : Kind) (p : ℕ × Part) (alone : Bool) → g.part_by place k ≡ Some p → IsLexed k → part_faults variables alone p.0 p.1 ≡ [] → Opens (leaf_text rows (part_of variables p.1))
+  part_opens place (kind.Number z) p alone e lexed none =
+      let same : Path (ℕ × Part) (place, part.Number z) p = cc in
+      subst (λ (q : ℕ × Part). Opens (leaf_text rows (part_of variables q.1))) same (number_opens z lexed)
+  part_opens place (kind.Name name) p alone e lexed none =
+      let same : Path (ℕ × Part) (place, part.Named name) p = cc in
+      let here = subst (λ (q : ℕ × Part). part_faults variables alone q.0 q.1 ≡ []) (sym same) none in
+      subst (λ (q : ℕ × Part). Opens (leaf_text rows (part_of variables q.1))) same (subst Opens (sym (variable_named rows variables named alone place name here)) (name_opens name lexed))
+  part_opens place (kind.Words text) p alone e lexed none = absurd cc
+  part_opens place (kind.Mark a) p alone e lexed none = absurd cc
+  part_opens place kind.Bad p alone e lexed none = absurd cc
+
+  abbrev PartBegins : ℕ → Part → Type 0
+  PartBegins place p = Begins (one g.part_of (place, p)) (leaf_text rows (part_of variables p))
+
+  begins_first : (place : ℕ) (leaf : LeafDecl) → PartBegins leaf.place leaf.part → Begins (g.first_leaf place leaf) (first_leaf rows (leaf_of variables leaf))
+  begins_first place leaf begins =
+      let text = leaf_text rows (part_of variables leaf.part) in
+      record {
+        begins = λ tokens lexed h.
+            ⊎_elim
+            (λ plain. subst Opens (sym (ap (λ (b : Bool). first_text b text) plain.0)) (begins.begins tokens lexed plain.2))
+            (λ minus. subst Opens (sym (ap (λ (b : Bool). first_text b text) minus.0)) (record { opens = λ rest. record { other = refl } }))
+            h;
+      }
+
+  begins_leaves : (place : ℕ) (alone : Bool) (leaves : List LeafDecl) → AllByRecursion (Known alone) leaves → Begins (g.term place leaves) (term_text rows (term_of variables leaves))
+  begins_leaves place alone [] none = record { begins = λ tokens lexed h. absurd h }
+  begins_leaves place alone (leaf ∷ leaves) none =
+      begins_then (flat_map (further_leaf rows) (term_of variables leaves)) (begins_first place leaf (begins_one (λ t lexed is. part_opens t.place t.kind (leaf.place, leaf.part) (alone && not leaf.minus) is lexed none.0)))
+
+  -- an operand does not begin with `=`
+  pub begins_operand : (x : OperandDecl) → operand_faults variables x ≡ [] → Begins (g.operand x) (operand_text rows (operand_of variables x))
+  begins_operand (o.Fixed place words) none = record { begins = λ tokens lexed h. record { opens = λ rest. record { other = refl } } }
+  begins_operand (o.Sum place leaves) none =
+      let alone = true && length leaves == 1 in
+      let each = each_none (leaf_faults variables alone) leaves (right_none (too_many 64 (λ (l : LeafDecl). l.place) leaves) (flat_map (leaf_faults variables alone) leaves) none) in
+      begins_text (sym (sum_text leaves (only_name leaves) refl)) (begins_leaves place alone leaves each)

@@ -6,6 +6,7 @@ use Rattle.std.specs.Fmt.{decimal, signed_decimal}
 use Rattle.std.specs.List.{prefix_len, list_all}
 use Rattle.std.specs.Str.{IsUtf8}
 use Rattle.std.proofs.lemmas.Bool.Decides.{nat_tests}
+use Rattle.std.proofs.lemmas.List.{append-nil}
 use Rattle.std.proofs.Math.Numerals.{one-add}
 use Rattle.join_base.specs.Integer.{value_of}
 use Rattle.join_base.specs.Quoted.{Unquotes, quoted}
@@ -17,7 +18,7 @@ use Rattle.script_tokens.specs.declared.token.Mark.TheVariants as m
 use Rattle.script_tokens.specs.Tokens.{skip_from, skip, word_kind, number_kind, symbol_at, plain_at, is_bad, is_quote, is_blank}
 use Rattle.plan_law.proofs.CutLemmas.{IsCut, skipped_in_front, token_in_front, plain_in_front, is_below, first_true, second_true, utf8_by_test, is_quoted}
 use Rattle.plan_law.proofs.LexedLemmas.{IsWord, IsNumber}
-use Rattle.plan_law.proofs.WriteLemmas.{Writes, Any, Ends, Unequal, writes_both, writes_then, writes_as}
+use Rattle.plan_law.proofs.WriteLemmas.{Writes, Any, Ends, Leads, Opens, Unequal, writes_both, writes_same, writes_then}
 
 -- ---- blanks
 
@@ -97,12 +98,55 @@ pub not_writes : Writes Unequal (codes "!") (kind.Mark m.Not ∷ [])
 unfolding skip_from plain_at symbol_at
 not_writes = mark_writes (codes "!") m.Not refl (omega arith) (record { kept = λ rest. refl; plain = λ rest. refl; at = λ rest p. rw p.other refl })
 
--- ---- marks with a space behind them
+-- ---- marks of which another may be a beginning
 
--- a mark in front of a space, and any text
-pub spaced_writes : (front : List ℕ) (a : Mark) → list_all is_below front ≡ true → 0 < length front → IsMark (λ rest. (other : List ℕ) × (rest ≡ 32 ∷ other)) front a
-    → Writes Any (front ++ codes " ") (kind.Mark a ∷ [])
-spaced_writes front a low some is = writes_both (mark_writes front a low some is) (λ rest p. (rest, refl)) space_writes
+-- a text that begins with a space
+pub record Spaced (rest : List ℕ) : Type 0 where
+  pub other : List ℕ
+  pub is : rest ≡ 32 ∷ other
+
+pub space_leads : (text : List ℕ) (Q : List ℕ → Type 0) → Leads Spaced (codes " " ++ text) Q
+space_leads text Q rest q = record { other = text ++ rest; is = refl }
+
+pub with_writes : Writes Spaced (codes "&") (kind.Mark m.With ∷ [])
+unfolding skip_from plain_at symbol_at
+with_writes = mark_writes (codes "&") m.With refl (omega arith) (record { kept = λ rest. refl; plain = λ rest. refl; at = λ rest p. rw (p.is) refl })
+
+pub and_writes : Writes Spaced (codes "&&") (kind.Mark m.And ∷ [])
+unfolding skip_from plain_at symbol_at
+and_writes = mark_writes (codes "&&") m.And refl (omega arith) (record { kept = λ rest. refl; plain = λ rest. refl; at = λ rest p. refl })
+
+pub or_writes : Writes Spaced (codes "||") (kind.Mark m.Or ∷ [])
+unfolding skip_from plain_at symbol_at
+or_writes = mark_writes (codes "||") m.Or refl (omega arith) (record { kept = λ rest. refl; plain = λ rest. refl; at = λ rest p. refl })
+
+pub equal_writes : Writes Spaced (codes "==") (kind.Mark m.Equal ∷ [])
+unfolding skip_from plain_at symbol_at
+equal_writes = mark_writes (codes "==") m.Equal refl (omega arith) (record { kept = λ rest. refl; plain = λ rest. refl; at = λ rest p. refl })
+
+pub not_equal_writes : Writes Spaced (codes "!=") (kind.Mark m.NotEqual ∷ [])
+unfolding skip_from plain_at symbol_at
+not_equal_writes = mark_writes (codes "!=") m.NotEqual refl (omega arith) (record { kept = λ rest. refl; plain = λ rest. refl; at = λ rest p. refl })
+
+pub less_writes : Writes Spaced (codes "<") (kind.Mark m.Less ∷ [])
+unfolding skip_from plain_at symbol_at
+less_writes = mark_writes (codes "<") m.Less refl (omega arith) (record { kept = λ rest. refl; plain = λ rest. refl; at = λ rest p. rw (p.is) refl })
+
+pub less_equal_writes : Writes Spaced (codes "<=") (kind.Mark m.LessEqual ∷ [])
+unfolding skip_from plain_at symbol_at
+less_equal_writes = mark_writes (codes "<=") m.LessEqual refl (omega arith) (record { kept = λ rest. refl; plain = λ rest. refl; at = λ rest p. refl })
+
+pub greater_writes : Writes Spaced (codes ">") (kind.Mark m.Greater ∷ [])
+unfolding skip_from plain_at symbol_at
+greater_writes = mark_writes (codes ">") m.Greater refl (omega arith) (record { kept = λ rest. refl; plain = λ rest. refl; at = λ rest p. rw (p.is) refl })
+
+pub greater_equal_writes : Writes Spaced (codes ">=") (kind.Mark m.GreaterEqual ∷ [])
+unfolding skip_from plain_at symbol_at
+greater_equal_writes = mark_writes (codes ">=") m.GreaterEqual refl (omega arith) (record { kept = λ rest. refl; plain = λ rest. refl; at = λ rest p. refl })
+
+-- a mark between spaces
+pub between_spaces : {f : List ℕ} {ks : List Kind} → Writes Spaced f ks → Writes Any (codes " " ++ (f ++ codes " ")) ks
+between_spaces {f} {ks} w = writes_then space_writes (writes_same (append-nil ks) (writes_both w (space_leads [] Any) space_writes))
 
 -- ---- words
 
@@ -164,16 +208,73 @@ word_writes (b ∷ bs) begins all good = record {
 pub name_writes : (w : List ℕ) → IsWord w → Writes Ends w (kind.Name w ∷ [])
 name_writes w h = subst (λ (k : Kind). Writes Ends w (k ∷ [])) h.is_name (word_writes w h.begins h.goes_on (ap is_bad h.is_name))
 
--- a keyword
-abbrev pub IsKeyword : List ℕ → Mark → Type 0
-IsKeyword w a = (begins_word (get_or w 0 0) ≡ true) × (list_all goes_on_word w ≡ true) × (word_kind w ≡ kind.Mark a)
+-- neither a word nor a number begins with `=`
+pub on_opens : (w : List ℕ) → goes_on_word (get_or w 0 0) ≡ true → Opens w
+on_opens [] on = absurd cc
+on_opens (b ∷ bs) on = record { opens = λ rest. record { other = unequal b on } }
+  where
+    unequal : (b : ℕ) → goes_on_word b ≡ true → (b == 61) ≡ false
+    unequal b on = grind (arith, nat_tests)
+
+pub name_opens : (w : List ℕ) → IsWord w → Opens w
+name_opens w h = on_opens w (begins_on (get_or w 0 0) h.begins)
+
+pub digits_open : (ds : List ℕ) → list_all is_ascii_digit ds ≡ true → 0 < length ds → Opens ds
+digits_open [] all some = absurd (omega arith)
+digits_open (b ∷ bs) all some = on_opens (b ∷ bs) ((digit_on b (first_true (is_ascii_digit b) (list_all is_ascii_digit bs) all)).1)
+
+-- a word that is a mark
+pub record IsKeyword (w : List ℕ) (a : Mark) : Type 0 where
+  pub begins : begins_word (get_or w 0 0) ≡ true
+  pub goes_on : list_all goes_on_word w ≡ true
+  pub is_mark : word_kind w ≡ kind.Mark a
 
 pub keyword_writes : (w : List ℕ) (a : Mark) → IsKeyword w a → Writes Ends w (kind.Mark a ∷ [])
-keyword_writes w a h = subst (λ (k : Kind). Writes Ends w (k ∷ [])) h.2 (word_writes w h.0 h.1 (ap is_bad h.2))
+keyword_writes w a h = subst (λ (k : Kind). Writes Ends w (k ∷ [])) h.is_mark (word_writes w h.begins h.goes_on (ap is_bad h.is_mark))
 
 -- a keyword and a space
 pub keyword_space_writes : (w : List ℕ) (a : Mark) → IsKeyword w a → Writes Any (w ++ codes " ") (kind.Mark a ∷ [])
 keyword_space_writes w a h = writes_both (keyword_writes w a h) (λ rest p. record { ends = refl }) space_writes
+
+pub message_is : IsKeyword (codes "message") m.Message
+unfolding word_kind
+message_is = record { begins = refl; goes_on = refl; is_mark = refl }
+
+pub actor_is : IsKeyword (codes "actor") m.Actor
+unfolding word_kind
+actor_is = record { begins = refl; goes_on = refl; is_mark = refl }
+
+pub when_is : IsKeyword (codes "when") m.When
+unfolding word_kind
+when_is = record { begins = refl; goes_on = refl; is_mark = refl }
+
+pub if_is : IsKeyword (codes "if") m.If
+unfolding word_kind
+if_is = record { begins = refl; goes_on = refl; is_mark = refl }
+
+pub print_is : IsKeyword (codes "print") m.Print
+unfolding word_kind
+print_is = record { begins = refl; goes_on = refl; is_mark = refl }
+
+pub post_is : IsKeyword (codes "post") m.Post
+unfolding word_kind
+post_is = record { begins = refl; goes_on = refl; is_mark = refl }
+
+pub stop_is : IsKeyword (codes "stop") m.Stop
+unfolding word_kind
+stop_is = record { begins = refl; goes_on = refl; is_mark = refl }
+
+pub int_is : IsKeyword (codes "int") m.Int
+unfolding word_kind
+int_is = record { begins = refl; goes_on = refl; is_mark = refl }
+
+pub text_is : IsKeyword (codes "text") m.Text
+unfolding word_kind
+text_is = record { begins = refl; goes_on = refl; is_mark = refl }
+
+pub blank_is : IsKeyword (codes "_") m.Blank
+unfolding word_kind
+blank_is = record { begins = refl; goes_on = refl; is_mark = refl }
 
 -- ---- numbers and texts
 

@@ -20,8 +20,8 @@ use Rattle.script_tokens.specs.declared.token.Kind.TheVariants as kind
 use Rattle.script_tokens.specs.Tokens.{skip_from}
 use Rattle.plan_law.proofs.CutLemmas.{first_true, second_true, is_below, is_quoted, token_in_front, utf8_by_test}
 use Rattle.plan_law.proofs.LexedLemmas.{IsNumber}
-use Rattle.plan_law.proofs.TokenLemmas.{digits_write}
-use Rattle.plan_law.proofs.WriteLemmas.{Writes, Any, Ends}
+use Rattle.plan_law.proofs.TokenLemmas.{digits_open, digits_write}
+use Rattle.plan_law.proofs.WriteLemmas.{Writes, Any, Ends, Opens}
 
 -- ---- numbers
 
@@ -42,6 +42,9 @@ natural_writes v small =
 -- a number that was read
 pub number_writes : (z : ℤ) → IsNumber z → Writes Ends (signed_decimal z) (kind.Number z ∷ [])
 number_writes z h = rw (h.is) (natural_writes h.value h.small)
+
+pub number_opens : (z : ℤ) → IsNumber z → Opens (signed_decimal z)
+number_opens z h = rw (h.is) (digits_open (decimal h.value) (digits_decimal own h.value (omega (arith, h.small))) (decimal_nonempty h.value (omega (arith, h.small))))
 
 -- ---- quoted texts
 

@@ -27,6 +27,10 @@ pub record Ends (rest : List ℕ) : Type 0 where
 pub record Unequal (rest : List ℕ) : Type 0 where
   pub other : (get_or rest 0 0 == 61) ≡ false
 
+-- the text does not begin with `=`
+pub record Opens (text : List ℕ) : Type 0 where
+  pub opens : (rest : List ℕ) → Unequal (text ++ rest)
+
 pub any : {rest : List ℕ} → Any rest
 any = record { any = tt }
 
