@@ -1,5 +1,5 @@
 -- What the tokens of a text are made of.
-use Rattle.std.proofs.Common.{◌≡◌, ◌∙◌, ℕ, ◌<◌, ◌^◌, Bool, true, false, ◌==◌, ◌&&◌, nat_lt, nat_le, List, [], ◌∷◌, ◌++◌, length, take, get_or, refl, sym, ap, subst, ⊎_elim, arith}
+use Rattle.std.proofs.Common.{◌≡◌, ℕ, ◌<◌, ◌^◌, Bool, true, false, ◌==◌, ◌&&◌, nat_lt, nat_le, List, [], ◌∷◌, ◌++◌, length, take, get_or, refl, sym, subst, ⊎_elim, arith}
 use Rattle.std.specs.Prelude.{ℤ, pos, MatchBool, if◌then◌else◌, codes}
 use Rattle.std.specs.Char.{is_ascii_digit}
 use Rattle.std.specs.List.{prefix_len, list_all, AllByRecursion}
@@ -13,7 +13,7 @@ use Rattle.script_tokens.specs.declared.token.Kind.{Kind}
 use Rattle.script_tokens.specs.declared.token.Kind.TheVariants as kind
 use Rattle.script_tokens.specs.declared.token.Mark.{Mark}
 use Rattle.script_tokens.specs.declared.token.Token.{Token}
-use Rattle.script_tokens.specs.Tokens.{skip, word_kind, number_kind, symbol_at, plain_at, is_bad, is_quote, IsToken, IsPlainToken, IsQuotedToken, AreTokens}
+use Rattle.script_tokens.specs.Tokens.{skip, word_kind, number_kind, symbol_at, plain_at, is_bad, is_quote, IsPlainToken, IsQuotedToken, AreTokens}
 use Rattle.script_tokens.proofs.WordLemmas.{word_in_front}
 use Rattle.script_check.proofs.SmallLemmas.{each_left, each_right}
 
@@ -137,9 +137,10 @@ further_lexed false P ts h f = f h
 -- the tokens of a text are what tokens may be
 pub tokens_lexed : (size : ℕ) (text : List ℕ) (ts : List Token) → AreTokens size text ts → AreLexed ts
 tokens_lexed size text [] h = tt
-tokens_lexed size text (t ∷ ts) h =
-    (token_lexed (is_quote (get_or (skip text) 0 0)) (skip text) t.kind h.2.0 h.2.1.0,
-    further_lexed (is_bad t.kind) (AreTokens size h.2.0 ts) ts h.2.1.1 (λ more. tokens_lexed size h.2.0 ts more))
+tokens_lexed size text (t ∷ ts) h = (
+  token_lexed (is_quote (get_or (skip text) 0 0)) (skip text) t.kind h.2.0 h.2.1.0,
+  further_lexed (is_bad t.kind) (AreTokens size h.2.0 ts) ts h.2.1.1 (λ more. tokens_lexed size h.2.0 ts more),
+)
 
 -- ---- parts of a list of tokens
 

@@ -7,3 +7,7 @@ pub mod ValueLemmas
 pub mod NamedLemmas
 pub mod TermLemmas
 pub mod GuardLemmas
+pub mod DeclarationLemmas
+pub mod BodyLemmas
+pub mod ActorLemmas
+pub mod LawLemmas

@@ -1,17 +1,17 @@
 -- A text that prints the phrases of a rule: in front of any text it puts the tokens of each of them.
-use Rattle.std.proofs.Common.{◌≡◌, ◌∙◌, ℕ, List, [], ◌∷◌, ◌++◌, get_or, map, Option, Some, refl, sym, ap, subst, append_assoc}
+use Rattle.std.proofs.Common.{◌≡◌, ℕ, List, [], ◌∷◌, ◌++◌, map, Option, Some, sym, subst, append_assoc}
 use Rattle.std.specs.List.{flat_map, join_by, AllByRecursion}
 use Rattle.std.proofs.lemmas.List.{append-nil}
 use Rattle.script_tokens.specs.declared.token.Kind.{Kind}
 use Rattle.script_tokens.specs.declared.token.Kind.TheVariants as kind
 use Rattle.script_tokens.specs.declared.token.Mark.{Mark}
 use Rattle.script_tokens.specs.declared.token.Token.{Token}
-use Rattle.script_grammar.specs.Phrases.{one, some, nothing, ◌then◌, each, at_least_one, separated, listed}
-use Rattle.script_grammar.specs.Grammar.{Tokens, place_of, mark_at, mark}
+use Rattle.script_grammar.specs.Phrases.{one, nothing, ◌then◌, each, at_least_one, separated, listed}
+use Rattle.script_grammar.specs.Grammar.{Tokens, mark_at, mark}
 use Rattle.script_grammar.proofs.MarkLemmas.{place_of_is}
 use Rattle.plan_law.specs.Printed.{kinds}
 use Rattle.plan_law.proofs.LexedLemmas.{IsLexed, AreLexed, lexed_front, lexed_back}
-use Rattle.plan_law.proofs.WriteLemmas.{Writes, Any, Ends, any, Leads, Opens, Unequal, writes_both, writes_then, writes_as, writes_parts, writes_nil, writes_same, writes_text}
+use Rattle.plan_law.proofs.WriteLemmas.{Writes, Any, Ends, any, Leads, Opens, Unequal, writes_both, writes_then, writes_as, writes_parts, writes_nil, writes_same}
 
 -- the text writes the tokens of each phrase of the rule, in front of each text of which P holds
 pub record Prints (P : List ℕ → Type 0) (rule : Tokens → Type 0) (text : List ℕ) : Type 0 where

@@ -1,5 +1,5 @@
 -- The texts of names, terms and operands print what they were read from.
-use Rattle.std.proofs.Common.{◌≡◌, ◌∙◌, ℕ, Bool, true, false, ◌&&◌, not, ◌==◌, List, [], ◌∷◌, ◌++◌, length, get_or, map, Option, None, Some, refl, sym, ap, subst, ⊎_elim}
+use Rattle.std.proofs.Common.{◌≡◌, ◌∙◌, ℕ, Bool, true, false, ◌&&◌, not, ◌==◌, List, [], ◌∷◌, ◌++◌, length, Option, None, Some, refl, sym, ap, subst, ⊎_elim}
 use Rattle.std.specs.Prelude.{codes, if◌then◌else◌}
 use Rattle.std.specs.List.{AllByRecursion, flat_map}
 use Rattle.std.proofs.lemmas.List.{append-nil}
@@ -16,9 +16,8 @@ use Rattle.script_grammar.specs.declared.tree.Part.TheVariants as part
 use Rattle.script_grammar.specs.declared.tree.LeafDecl.{LeafDecl}
 use Rattle.script_grammar.specs.declared.tree.OperandDecl.{OperandDecl}
 use Rattle.script_grammar.specs.declared.tree.OperandDecl.TheVariants as o
-use Rattle.script_grammar.specs.Phrases.{one, ◌then◌, each}
+use Rattle.script_grammar.specs.Phrases.{one, ◌then◌}
 use Rattle.script_grammar.specs.Grammar as g
-use Rattle.script_names.specs.Names.{item_of}
 use Rattle.script_names.specs.Scope.{Variable, name_in, only_name, sort_of}
 use Rattle.script_faults.specs.First.{too_many}
 use Rattle.script_faults.specs.Faults.{leaf_faults, operand_faults, part_faults, term_faults}
@@ -33,7 +32,7 @@ use Rattle.plan_law.proofs.NamedLemmas.{Names, variable_named}
 use Rattle.plan_law.proofs.PhraseLemmas.{Begins, begins_one, begins_text, begins_then, Prints, each_leads, prints_each, prints_mark_at, prints_one, prints_text, prints_then, prints_any_then}
 use Rattle.plan_law.proofs.TokenLemmas.{minus_writes, name_opens, name_writes, plus_writes, space_writes}
 use Rattle.plan_law.proofs.ValueLemmas.{number_opens, number_writes, quoted_writes}
-use Rattle.plan_law.proofs.WriteLemmas.{Writes, Any, Ends, Leads, Opens, writes_text, writes_then}
+use Rattle.plan_law.proofs.WriteLemmas.{Writes, Any, Ends, Opens, writes_text, writes_then}
 
 -- ---- names and texts
 

@@ -1,23 +1,20 @@
 -- One token, or what separates tokens, in front of a text.
-use Rattle.std.proofs.Common.{◌≡◌, ◌∙◌, ℕ, suc, ◌+◌, ◌<◌, ◌^◌, Bool, true, false, ◌==◌, ◌&&◌, nat_lt, List, [], ◌∷◌, ◌++◌, length, take, get_or, refl, sym, ap, subst, arith}
-use Rattle.std.specs.Prelude.{ℤ, pos, codes}
+use Rattle.std.proofs.Common.{◌≡◌, ℕ, ◌<◌, ◌^◌, Bool, true, false, ◌==◌, nat_lt, List, [], ◌∷◌, ◌++◌, length, take, get_or, refl, ap, subst, arith}
+use Rattle.std.specs.Prelude.{pos, codes}
 use Rattle.std.specs.Char.{is_ascii_digit}
-use Rattle.std.specs.Fmt.{decimal, signed_decimal}
 use Rattle.std.specs.List.{prefix_len, list_all}
-use Rattle.std.specs.Str.{IsUtf8}
 use Rattle.std.proofs.lemmas.Bool.Decides.{nat_tests}
 use Rattle.std.proofs.lemmas.List.{append-nil}
 use Rattle.std.proofs.Math.Numerals.{one-add}
 use Rattle.join_base.specs.Integer.{value_of}
-use Rattle.join_base.specs.Quoted.{Unquotes, quoted}
-use Rattle.join_base.specs.Text.{IsText, begins_word, goes_on_word}
+use Rattle.join_base.specs.Text.{begins_word, goes_on_word}
 use Rattle.script_tokens.specs.declared.token.Kind.{Kind}
 use Rattle.script_tokens.specs.declared.token.Kind.TheVariants as kind
 use Rattle.script_tokens.specs.declared.token.Mark.{Mark}
 use Rattle.script_tokens.specs.declared.token.Mark.TheVariants as m
 use Rattle.script_tokens.specs.Tokens.{skip_from, skip, word_kind, number_kind, symbol_at, plain_at, is_bad, is_quote, is_blank}
-use Rattle.plan_law.proofs.CutLemmas.{IsCut, skipped_in_front, token_in_front, plain_in_front, is_below, first_true, second_true, utf8_by_test, is_quoted}
-use Rattle.plan_law.proofs.LexedLemmas.{IsWord, IsNumber}
+use Rattle.plan_law.proofs.CutLemmas.{skipped_in_front, plain_in_front, is_below, first_true, second_true, utf8_by_test}
+use Rattle.plan_law.proofs.LexedLemmas.{IsWord}
 use Rattle.plan_law.proofs.WriteLemmas.{Writes, Any, Ends, Leads, Opens, Unequal, writes_both, writes_same, writes_then}
 
 -- ---- blanks

@@ -1,27 +1,27 @@
 -- The text of a number and of a quoted text.
-use Rattle.std.proofs.Common.{◌≡◌, ◌∙◌, ℕ, suc, ◌+◌, ◌-◌, ◌*◌, ◌/◌, ◌%◌, ◌<◌, ◌≤◌, ◌^◌, Bool, true, false, ◌==◌, ◌&&◌, nat_lt, nat_le, ltb, List, [], ◌∷◌, ◌++◌, length, get_or, refl, sym, ap, subst, ⊎_elim, append_assoc, arith, rules}
-use Rattle.std.specs.Prelude.{ℤ, pos, codes, if◌then◌else◌}
+use Rattle.std.proofs.Common.{◌≡◌, ◌∙◌, ℕ, ◌+◌, ◌-◌, ◌*◌, ◌<◌, ◌≤◌, ◌^◌, Bool, true, false, nat_le, ltb, List, [], ◌∷◌, ◌++◌, refl, sym, subst, ⊎_elim, arith, rules}
+use Rattle.std.specs.Prelude.{ℤ, pos}
 use Rattle.std.specs.Char.{is_ascii_digit}
-use Rattle.std.specs.Fmt.{decimal, signed_decimal, digit_glyph}
+use Rattle.std.specs.Fmt.{decimal, signed_decimal}
 use Rattle.std.specs.List.{list_all, flat_map, fold}
-use Rattle.std.specs.Str.{IsUtf8, IsAscii}
+use Rattle.std.specs.Str.{IsUtf8}
 use lib.Utf8.{encode, encodes, scalar, scalars}
 use Rattle.std.proofs.lemmas.Bool.{cases_Bool}
 use Rattle.std.proofs.lemmas.Bool.Decides.{nat_tests}
 use Rattle.std.proofs.lemmas.Fmt.{digits_decimal, digits_value-decimal, decimal_nonempty}
 use Rattle.std.proofs.lemmas.List.{append-nil}
 use Rattle.std.proofs.lemmas.List.Concat.{flat_map-append}
-use Rattle.std.proofs.lemmas.Str.{IsUtf8-append, IsUtf8-nil, IsUtf8-encode}
+use Rattle.std.proofs.lemmas.Str.{IsUtf8-append, IsUtf8-nil}
 use Rattle.std.proofs.lemmas.Str.Parse.{IsNumeralModel, numerals_by_fold}
 use Rattle.join_base.specs.Integer.{value_of}
-use Rattle.join_base.specs.Quoted.{Unquotes, byte_form, hex_form, is_control, quoted}
+use Rattle.join_base.specs.Quoted.{byte_form, quoted}
 use Rattle.join_base.specs.Text.{IsText}
 use Rattle.script_tokens.specs.declared.token.Kind.TheVariants as kind
 use Rattle.script_tokens.specs.Tokens.{skip_from}
 use Rattle.plan_law.proofs.CutLemmas.{first_true, second_true, is_below, is_quoted, token_in_front, utf8_by_test}
 use Rattle.plan_law.proofs.LexedLemmas.{IsNumber}
 use Rattle.plan_law.proofs.TokenLemmas.{digits_open, digits_write}
-use Rattle.plan_law.proofs.WriteLemmas.{Writes, Any, Ends, Opens}
+use Rattle.plan_law.proofs.WriteLemmas.{Writes, Ends, Opens}
 
 -- ---- numbers
 

@@ -1,13 +1,9 @@
 -- Texts in front of any text that is cut into tokens.
-use Rattle.std.proofs.Common.{◌≡◌, ◌∙◌, ℕ, Bool, true, false, ◌==◌, List, [], ◌∷◌, ◌++◌, length, get_or, refl, sym, ap, subst, append_assoc, arith}
-use Rattle.std.specs.Prelude.{codes}
-use Rattle.std.specs.List.{flat_map, join_by, AllByRecursion}
-use Rattle.std.specs.Str.{IsUtf8}
-use Rattle.std.proofs.lemmas.List.{append-nil, map-append}
+use Rattle.std.proofs.Common.{◌≡◌, ◌∙◌, ℕ, false, ◌==◌, List, [], ◌++◌, get_or, sym, ap, subst, append_assoc}
+use Rattle.std.proofs.lemmas.List.{map-append}
 use Rattle.join_base.specs.Text.{goes_on_word}
 use Rattle.script_tokens.specs.declared.token.Kind.{Kind}
 use Rattle.script_tokens.specs.declared.token.Token.{Token}
-use Rattle.script_grammar.specs.Phrases.{nothing, ◌then◌, each, at_least_one, separated, listed}
 use Rattle.plan_law.specs.Printed.{kinds}
 use Rattle.plan_law.proofs.CutLemmas.{IsCut}
 
@@ -44,7 +40,7 @@ writes_nothing P = record { before = λ rest more p h. h }
 -- one and then the other
 pub writes_both : {P Q : List ℕ → Type 0} {f g : List ℕ} {ks ls : List Kind} → Writes P f ks → Leads P g Q → Writes Q g ls → Writes Q (f ++ g) (ks ++ ls)
 writes_both {P} {Q} {f} {g} {ks} {ls} w leads v = record {
-  before = λ rest more q h. rw (append_assoc f g rest, append_assoc ks ls more) (w.before (g ++ rest) (ls ++ more) (leads rest q) (v.before rest more q h))
+  before = λ rest more q h. rw (append_assoc f g rest, append_assoc ks ls more) (w.before (g ++ rest) (ls ++ more) (leads rest q) (v.before rest more q h));
 }
 
 -- what can stand anywhere, and then the other

@@ -1,4 +1,4 @@
--- The text of a plan is cut into the tokens of its script, all messages before all actors.
+-- What the text of a plan spells: the tree of its script, but for places.
 use Rattle.std.specs.Prelude.{◌≡◌, ℕ, List, length, map}
 use Rattle.std.specs.Str.{IsUtf8}
 use Rattle.script_tokens.specs.declared.token.Kind.{Kind}
@@ -11,19 +11,19 @@ use Rattle.script_types.specs.declared.plan.Plan.{Plan}
 use Rattle.script_check.specs.Types.{Types}
 use Rattle.plan_text.specs.PlanText.{plan_text}
 
--- what tokens are, without their places
+-- tokens without their places
 abbrev pub kinds : List Token → List Kind
 kinds tokens = map (λ (t : Token). t.kind) tokens
 
--- the bytes are text, and but for places their tokens are tokens of the tree
-pub record IsPrinted (tree : Tree) (bytes : List ℕ) : Type 0 where
+-- the text cut into its longest tokens, which but for their places are tokens derived by the grammar
+pub record SpellsButForPlaces (bytes : List ℕ) (tree : Tree) : Type 0 where
   pub text : IsUtf8 bytes
   pub tokens : List Token
   pub cut : AreTokens (length bytes) bytes tokens
-  pub ordered : List Token
-  pub script : IsScript tree ordered
-  pub same : kinds tokens ≡ kinds ordered
+  pub placed : List Token
+  pub script : IsScript tree placed
+  pub same : kinds tokens ≡ kinds placed
 
--- the text of the plan of a script is a print of its tree
-abbrev pub PlansArePrinted : Type 0
-PlansArePrinted = (bytes : List ℕ) (tree : Tree) (plan : Plan) → Spells bytes tree → Types tree plan → IsPrinted tree (plan_text plan)
+-- the text of the plan of a script spells the tree of that script, but for places
+abbrev pub PlansSpellTheirTree : Type 0
+PlansSpellTheirTree = (bytes : List ℕ) (tree : Tree) (plan : Plan) → Spells bytes tree → Types tree plan → SpellsButForPlaces (plan_text plan) tree
