@@ -33,26 +33,20 @@ record IsRight (tree : Tree) (rule : RuleDecl) : Type 0 where
   guard : guard_faults (variables_of tree.messages rule) (guard_comparisons rule.guard) ≡ []
   body : AllByRecursion (λ (x : StatementDecl). statement_faults tree.messages (actor_rows tree.actors) (variables_of tree.messages rule) x ≡ []) rule.body
 
-abbrev slot_place : Slot → ℕ
-slot_place slot = slot.place
-
-abbrev pattern_place : PatternDecl → ℕ
-pattern_place p = p.kind.place
-
 rule_right : (tree : Tree) (rule : RuleDecl) → rule_faults tree.messages (actor_rows tree.actors) rule ≡ [] → IsRight tree rule
 rule_right tree rule none =
     let messages = tree.messages in
     let actors = actor_rows tree.actors in
     let variables = variables_of messages rule in
     let patterns = patterns_faults messages rule.patterns in
-    let twice = twice_declared slot_place variables in
+    let twice = twice_declared (λ (slot : Slot). slot.place) variables in
     let guard = guard_faults variables (guard_comparisons rule.guard) in
     let body = body_faults messages actors variables rule.body in
     let three = left_none (patterns ++ twice ++ guard) body none in
     let no_pattern = left_none patterns twice (left_none (patterns ++ twice) guard three) in
     let no_body = right_none (patterns ++ twice ++ guard) body none in
     record {
-      patterns = each_none (pattern_faults messages) rule.patterns (right_none (too_many 8 pattern_place rule.patterns) (flat_map (pattern_faults messages) rule.patterns) no_pattern);
+      patterns = each_none (pattern_faults messages) rule.patterns (right_none (too_many 8 (λ (p : PatternDecl). p.kind.place) rule.patterns) (flat_map (pattern_faults messages) rule.patterns) no_pattern);
       guard = right_none (patterns ++ twice) guard three;
       body = each_none (statement_faults messages actors variables) rule.body (right_none (too_many 16 statement_place rule.body ++ stop_faults rule.body) (flat_map (statement_faults messages actors variables) rule.body) no_body);
     }

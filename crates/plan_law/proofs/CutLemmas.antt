@@ -1,9 +1,10 @@
 -- Something in front of a text that is cut into tokens.
-use Rattle.std.proofs.Common.{◌≡◌, ◌∙◌, ℕ, ◌-◌, ◌<◌, ◌≤◌, Bool, true, false, ◌&&◌, nat_lt, List, [], ◌∷◌, ◌++◌, length, drop, get_or, refl, sym, ap, arith}
+use Rattle.std.proofs.Common.{◌≡◌, ◌∙◌, ℕ, ◌-◌, ◌<◌, ◌≤◌, Bool, true, false, ◌&&◌, nat_lt, List, [], ◌∷◌, ◌++◌, length, get_or, refl, sym, ap, arith}
 use Rattle.std.specs.Str.{IsUtf8, IsAscii}
 use Rattle.std.specs.List.{list_all}
 use Rattle.std.proofs.lemmas.Bool.Decides.{nat_tests}
 use Rattle.std.proofs.lemmas.List.{length-append}
+use Rattle.std.proofs.Math.Seq.{drop-append_seam}
 use Rattle.std.proofs.lemmas.Str.{IsUtf8-append, IsUtf8-from_ascii, IsUtf8-nil}
 use Rattle.std.proofs.lemmas.Str.Ascii.{IsAscii-cons, IsAscii-nil}
 use Rattle.script_tokens.specs.declared.token.Kind.{Kind}
@@ -56,15 +57,11 @@ is_plain text rest k e h = rw e h
 pub is_quoted : (text rest : List ℕ) (k : Kind) → is_quote (get_or text 0 0) ≡ true → IsQuotedToken text k rest → IsToken text k rest
 is_quoted text rest k e h = rw e h
 
-drop-append : (front rest : List ℕ) → drop (length front) (front ++ rest) ≡ rest
-drop-append [] rest = refl
-drop-append (b ∷ front) rest = drop-append front rest
-
 -- a word, a number or a symbol in front of a text
 pub plain_in_front : (front rest : List ℕ) (k : Kind) (ks : List Kind) → IsUtf8 front → 0 < length front → skip (front ++ rest) ≡ front ++ rest → is_quote (get_or (front ++ rest) 0 0) ≡ false
     → (plain_at (front ++ rest) ≡ (k, length front)) → is_bad k ≡ false → IsCut rest ks → IsCut (front ++ rest) (k ∷ ks)
 plain_in_front front rest k ks utf8 some e plain at good h =
-    token_in_front front rest k ks utf8 some e (is_plain (front ++ rest) rest k plain (rw at (refl, sym (drop-append front rest)))) good h
+    token_in_front front rest k ks utf8 some e (is_plain (front ++ rest) rest k plain (rw at (refl, sym (drop-append_seam front rest)))) good h
 
 -- ---- bytes below 128
 

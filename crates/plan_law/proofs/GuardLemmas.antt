@@ -17,8 +17,9 @@ use Rattle.script_names.specs.Scope.{Variable}
 use Rattle.script_faults.specs.First.{too_many}
 use Rattle.script_faults.specs.Faults.{Comparing, atom_comparisons, comparison_faults, comparisons, guard_comparisons, guard_faults, operand_faults, operand_place}
 use Rattle.script_plan.specs.PlanOf.{atom_of, condition_of, operand_of}
-use Rattle.script_check.proofs.SmallLemmas.{each_left, each_none, each_one, each_right, left_none, right_none}
+use Rattle.script_check.proofs.SmallLemmas.{each_left, each_none, each_one, each_right, operands_right, right_none}
 use Rattle.plan_text.specs.PlanNames.{Variables}
+use Rattle.plan_text.proofs.GuardLemmas.{one_text}
 use Rattle.plan_text.specs.GuardText.{atom_texts, comparison_text, condition_text, either_text, guard_text, operand_text, relation_text}
 use Rattle.plan_law.proofs.NamedLemmas.{Names}
 use Rattle.plan_law.proofs.PhraseLemmas.{Begins, Prints, begins_text, begins_then, prints_any_then, prints_behind, prints_mark, prints_nothing, prints_one, prints_separated, prints_text, prints_then, prints_unequal_then}
@@ -58,21 +59,11 @@ module _ (variables : List Variable) where
   conjuncts_right [] each = tt
   conjuncts_right (c ∷ cs) each = (atoms_right c (each_left Right (comparisons c) (flat_map comparisons cs) each), conjuncts_right cs (each_right Right (comparisons c) (flat_map comparisons cs) each))
 
-  operands_right : (c : Comparing) → Right c → (operand_faults variables c.left ≡ []) × (operand_faults variables c.right ≡ [])
-  operands_right c none =
-      let left = operand_faults variables c.left in
-      let right = operand_faults variables c.right in
-      let operands = left_none (left ++ right) _ (left_none (left ++ right ++ _) _ none) in
-      (left_none left right operands, right_none left right operands)
-
 -- ---- the texts of atoms
 
 module _ (variables : List Variable) (rows : Variables) where
   abbrev atom_text : Atom → List ℕ
   atom_text a = condition_text rows (atom_of variables a)
-
-  one_text : (text : List ℕ) → text ∷ [] ≡ either_text (text ∷ []) ∷ []
-  one_text text = ap (λ (t : List ℕ). t ∷ []) (sym (append-nil text))
 
   -- an atom has one text
   atom_texts-atom : (a : Atom) → atom_texts rows (atom_of variables a) ≡ atom_text a ∷ []

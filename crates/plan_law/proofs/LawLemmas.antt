@@ -2,6 +2,7 @@
 use Rattle.std.proofs.Common.{◌≡◌, ◌∙◌, ℕ, ◌<◌, inl, inr, List, [], ◌∷◌, ◌++◌, length, refl, sym, ap, subst, append_assoc, arith}
 use Rattle.std.specs.List.{flat_map}
 use Rattle.std.proofs.lemmas.List.{append-nil}
+use Rattle.script_tokens.specs.declared.token.Token.{Token}
 use Rattle.script_grammar.specs.declared.tree.ActorDecl.{ActorDecl}
 use Rattle.script_grammar.specs.declared.tree.MessageDecl.{MessageDecl}
 use Rattle.script_grammar.specs.declared.tree.Tree.{Tree}
@@ -11,13 +12,15 @@ use Rattle.script_names.specs.Scope.{actor_rows}
 use Rattle.script_types.specs.declared.plan.Plan.{Plan}
 use Rattle.script_faults.specs.Faults.{actor_faults, faults_of}
 use Rattle.script_plan.specs.PlanOf.{actor_of, kind_of, plan_of}
+use Rattle.script_plan.proofs.SmallLemmas.{each_append}
+use Rattle.script_check.specs.Types.{Types}
 use Rattle.script_check.proofs.SmallLemmas.{each_none, each_one, right_none}
 use Rattle.plan_text.specs.PlanText.{actor_lines, kind_line, plan_text}
-use Rattle.plan_law.specs.Printed.{SpellsButForPlaces, PlansSpellTheirTree, kinds}
+use Rattle.plan_law.specs.Printed.{SpellsButForPlaces, PlansReadBack, PlansSpellTheirTree, kinds}
 use Rattle.plan_law.proofs.ActorLemmas.{prints_actor}
 use Rattle.plan_law.proofs.CutLemmas.{IsCut, nothing_cut}
 use Rattle.plan_law.proofs.DeclarationLemmas.{all_of, prints_message}
-use Rattle.plan_law.proofs.LexedLemmas.{AreLexed, lexed_back, lexed_front, tokens_lexed}
+use Rattle.plan_law.proofs.LexedLemmas.{AreLexed, IsLexed, lexed_back, lexed_front, tokens_lexed}
 use Rattle.plan_law.proofs.PhraseLemmas.{Prints, prints_any_then, prints_each_any}
 use Rattle.plan_law.proofs.WriteLemmas.{Any, any}
 
@@ -33,8 +36,7 @@ record IsSorted (ds : List Declaration) : Type 0 where
   second_lexed : AreLexed second
 
 lexed_both : (ts us : Tokens) → AreLexed ts → AreLexed us → AreLexed (ts ++ us)
-lexed_both [] us h k = k
-lexed_both (t ∷ ts) us h k = (h.0, lexed_both ts us h.1 k)
+lexed_both ts us h k = each_append (λ (t : Token). IsLexed t.kind) ts us h k
 
 sorted : (ds : List Declaration) (tokens : Tokens) → AreLexed tokens → each declaration ds tokens → IsSorted ds
 sorted [] tokens lexed h = record { first = []; second = []; messages = refl; actors = refl; first_lexed = tt; second_lexed = tt }
@@ -127,3 +129,11 @@ plans_spell_their_tree bytes tree plan spells types =
     let actors = subst (λ (t : Tree). each actor t.actors s.second) (sym script.tree_is) s.actors in
     subst (λ (p : Plan). SpellsButForPlaces (plan_text p) tree) (sym types.plan_is)
     (spells_sorted tree types.no_fault script.has_actor s.first s.second s.first_lexed s.second_lexed messages actors)
+
+-- where places do not matter, the text of a plan reads and checks to that plan
+pub plans_read_back : ((tree : Tree) (plan : Plan) (tokens moved : List Token) → IsScript tree tokens → Types tree plan → kinds moved ≡ kinds tokens → (other : Tree) × (IsScript other moved × Types other plan))
+    → PlansReadBack
+plans_read_back moves bytes tree plan spells types =
+    let h = plans_spell_their_tree bytes tree plan spells types in
+    let found = moves tree plan h.placed h.tokens h.script types h.same in
+    (found.0, (record { text = h.text; tokens = h.tokens; cut = h.cut; script = found.1.0 }, found.1.1))

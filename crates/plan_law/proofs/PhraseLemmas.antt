@@ -11,7 +11,7 @@ use Rattle.script_grammar.specs.Grammar.{Tokens, mark_at, mark}
 use Rattle.script_grammar.proofs.MarkLemmas.{place_of_is}
 use Rattle.plan_law.specs.Printed.{kinds}
 use Rattle.plan_law.proofs.LexedLemmas.{IsLexed, AreLexed, lexed_front, lexed_back}
-use Rattle.plan_law.proofs.WriteLemmas.{Writes, Any, Ends, any, Leads, Opens, Unequal, writes_both, writes_then, writes_as, writes_parts, writes_nil, writes_same}
+use Rattle.plan_law.proofs.WriteLemmas.{Writes, Any, Ends, any, Leads, Opens, Unequal, writes_both, writes_then, writes_parts, writes_nil, writes_same}
 
 -- the text writes the tokens of each phrase of the rule, in front of each text of which P holds
 pub record Prints (P : List ℕ → Type 0) (rule : Tokens → Type 0) (text : List ℕ) : Type 0 where
@@ -55,10 +55,6 @@ pub prints_before : {P Q : List ℕ → Type 0} {rule : Tokens → Type 0} {f g 
 prints_before {P} {Q} {rule} {f} {g} w leads v = record {
   prints = λ tokens lexed h. writes_same (append-nil (kinds tokens)) (writes_both (w.prints tokens lexed h) leads v);
 }
-
--- what can stand anywhere can stand there
-pub prints_as : {Q : List ℕ → Type 0} {rule : Tokens → Type 0} {f : List ℕ} → Prints Any rule f → Prints Q rule f
-prints_as w = record { prints = λ tokens lexed h. writes_as (w.prints tokens lexed h) }
 
 pub prints_text : {P : List ℕ → Type 0} {rule : Tokens → Type 0} {f g : List ℕ} → f ≡ g → Prints P rule f → Prints P rule g
 prints_text {P} {rule} e w = subst (λ (l : List ℕ). Prints P rule l) e w

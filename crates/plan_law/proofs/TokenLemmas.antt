@@ -1,11 +1,12 @@
 -- One token, or what separates tokens, in front of a text.
-use Rattle.std.proofs.Common.{◌≡◌, ℕ, ◌<◌, ◌^◌, Bool, true, false, ◌==◌, nat_lt, List, [], ◌∷◌, ◌++◌, length, take, get_or, refl, ap, subst, arith}
+use Rattle.std.proofs.Common.{◌≡◌, ℕ, ◌<◌, ◌^◌, Bool, true, false, ◌==◌, nat_lt, List, [], ◌∷◌, ◌++◌, length, get_or, refl, ap, subst, arith}
 use Rattle.std.specs.Prelude.{pos, codes}
 use Rattle.std.specs.Char.{is_ascii_digit}
 use Rattle.std.specs.List.{prefix_len, list_all}
 use Rattle.std.proofs.lemmas.Bool.Decides.{nat_tests}
 use Rattle.std.proofs.lemmas.List.{append-nil}
 use Rattle.std.proofs.Math.Numerals.{one-add}
+use Rattle.std.proofs.Math.Seq.{take-append_seam}
 use Rattle.join_base.specs.Integer.{value_of}
 use Rattle.join_base.specs.Text.{begins_word, goes_on_word}
 use Rattle.script_tokens.specs.declared.token.Kind.{Kind}
@@ -154,10 +155,6 @@ prefix_len-front p (x ∷ xs) ys h e =
     let first : p x ≡ true = first_true (p x) (list_all p xs) h in
     rw (first, prefix_len-front p xs ys (second_true (p x) (list_all p xs) h) e) (one-add (length xs))
 
-take-front : (xs ys : List ℕ) → take (length xs) (xs ++ ys) ≡ xs
-take-front [] ys = refl
-take-front (x ∷ xs) ys = ap (λ (l : List ℕ). x ∷ l) (take-front xs ys)
-
 low_all : (p : ℕ → Bool) → ((b : ℕ) → p b ≡ true → is_below b ≡ true) → (xs : List ℕ) → list_all p xs ≡ true → list_all is_below xs ≡ true
 low_all p low [] h = refl
 low_all p low (x ∷ xs) h = rw (low x (first_true (p x) (list_all p xs) h)) (low_all p low xs (second_true (p x) (list_all p xs) h))
@@ -190,7 +187,7 @@ no_digit b e = grind (arith, nat_tests)
 
 word_at-front : (w rest : List ℕ) → list_all goes_on_word w ≡ true → begins_word (get_or (w ++ rest) 0 0) ≡ true → Ends rest → plain_at (w ++ rest) ≡ (word_kind w, length w)
 unfolding plain_at
-word_at-front w rest all begins ends = rw (begins, prefix_len-front goes_on_word w rest all ends.ends, take-front w rest) refl
+word_at-front w rest all begins ends = rw (begins, prefix_len-front goes_on_word w rest all ends.ends, take-append_seam w rest) refl
 
 -- a word in front of what does not go on with it
 pub word_writes : (w : List ℕ) → begins_word (get_or w 0 0) ≡ true → list_all goes_on_word w ≡ true → is_bad (word_kind w) ≡ false → Writes Ends w (word_kind w ∷ [])
@@ -279,7 +276,7 @@ number_at-front : (ds rest : List ℕ) → list_all is_ascii_digit ds ≡ true �
 unfolding plain_at
 number_at-front ds rest all digit ends =
     let no_word : begins_word (get_or (ds ++ rest) 0 0) ≡ false = (digit_on (get_or (ds ++ rest) 0 0) digit).0 in
-    rw (no_word, digit, prefix_len-front is_ascii_digit ds rest all (no_digit (get_or rest 0 0) ends.ends), take-front ds rest) refl
+    rw (no_word, digit, prefix_len-front is_ascii_digit ds rest all (no_digit (get_or rest 0 0) ends.ends), take-append_seam ds rest) refl
 
 -- digits in front of what is no byte of a word
 pub digits_write : (ds : List ℕ) → list_all is_ascii_digit ds ≡ true → 0 < length ds → value_of ds < 2 ^ 63 → Writes Ends ds (kind.Number (pos (value_of ds)) ∷ [])

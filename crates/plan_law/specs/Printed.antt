@@ -27,3 +27,7 @@ pub record SpellsButForPlaces (bytes : List ℕ) (tree : Tree) : Type 0 where
 -- the text of the plan of a script spells the tree of that script, but for places
 abbrev pub PlansSpellTheirTree : Type 0
 PlansSpellTheirTree = (bytes : List ℕ) (tree : Tree) (plan : Plan) → Spells bytes tree → Types tree plan → SpellsButForPlaces (plan_text plan) tree
+
+-- the text of the plan of a script reads and checks to that plan
+abbrev pub PlansReadBack : Type 0
+PlansReadBack = (bytes : List ℕ) (tree : Tree) (plan : Plan) → Spells bytes tree → Types tree plan → (other : Tree) × (Spells (plan_text plan) other × Types other plan)

@@ -13,7 +13,7 @@ use Rattle.plan_text.specs.GuardText.{atom_texts, comparison_text, condition_tex
 use Rattle.plan_text.specs.PlanNames.{Variables}
 use Rattle.plan_text.proofs.RestLemmas.{first_and_rest, rest}
 
-one_text : (text : List ℕ) → text ∷ [] ≡ either_text (text ∷ []) ∷ []
+pub one_text : (text : List ℕ) → text ∷ [] ≡ either_text (text ∷ []) ∷ []
 one_text text = ap (λ (t : List ℕ). t ∷ []) (sym (append-nil text))
 
 -- an atom has one text

@@ -78,7 +78,7 @@ module _ (variables : List Variable) where
   Right c = comparison_faults variables c ≡ []
 
   -- both operands of a comparison without a fault
-  operands_right : (c : Comparing) → Right c → (operand_faults variables c.left ≡ []) × (operand_faults variables c.right ≡ [])
+  pub operands_right : (c : Comparing) → Right c → (operand_faults variables c.left ≡ []) × (operand_faults variables c.right ≡ [])
   operands_right c none =
       let left = operand_faults variables c.left in
       let right = operand_faults variables c.right in
