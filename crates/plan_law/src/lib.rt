@@ -4,3 +4,6 @@
 mod law;
 
 pub use law::print_law;
+
+#[cfg(test)]
+mod tests;
