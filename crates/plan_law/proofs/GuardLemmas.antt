@@ -29,6 +29,7 @@ use Rattle.plan_law.proofs.WriteLemmas.{Writes, Any, Ends, Leads, writes_as}
 
 -- ---- relations
 
+-- a mark between operands
 relation_kind : (k : Kind) (r : Relation) → g.relation_by k ≡ Some r → Writes Spaced (relation_text r) (k ∷ [])
 relation_kind (kind.Mark m.Equal) r e = let same : relation.Equal ≡ r = cc in subst (λ (x : Relation). Writes Spaced (relation_text x) (kind.Mark m.Equal ∷ [])) same equal_writes
 relation_kind (kind.Mark m.NotEqual) r e = let same : relation.NotEqual ≡ r = cc in subst (λ (x : Relation). Writes Spaced (relation_text x) (kind.Mark m.NotEqual ∷ [])) same not_equal_writes
@@ -82,6 +83,7 @@ module _ (variables : List Variable) (rows : Variables) where
   -- ---- atoms, conditions and guards
 
   module _ (named : Names rows variables) where
+    -- two operands and what is between them
     prints_comparison : (left : OperandDecl) (r : Relation) (right : OperandDecl) → operand_faults variables left ≡ [] → operand_faults variables right ≡ []
         → Prints Ends (g.operand left then one g.relation_of r then g.operand right) (comparison_text rows (operand_of variables left) r (operand_of variables right))
     prints_comparison left r right no_left no_right =
@@ -101,6 +103,7 @@ module _ (variables : List Variable) (rows : Variables) where
     prints_atoms : (depth : ℕ) (atoms : Atoms) → AllByRecursion (AtomPrints depth) (listed_atoms atoms) → Prints Ends (separated (g.mark m.Or) (g.atom depth) (listed_atoms atoms)) (condition_text rows (condition_of variables atoms))
     prints_atoms depth atoms each = prints_text (sym (atoms_text atoms)) (prints_separated (g.atom depth) atom_text (λ (t : List ℕ). t) or_between or_ends (listed_atoms atoms) each)
 
+    -- an atom does not begin with `=`
     begins_atom : (depth : ℕ) (a : Atom) → AtomRight variables a → Begins (g.atom depth a) (atom_text a)
     begins_atom depth (compares left r right) each =
         let rights = operands_right variables (record { left = left; relation = r; right = right }) each.0 in
@@ -125,6 +128,7 @@ module _ (variables : List Variable) (rows : Variables) where
         prints_text (sym (append-nil (codes "(" ++ (text ++ codes ")"))))
         (prints_any_then (prints_mark open_writes) (prints_then (prints_atoms depth atoms each) (λ rest q. record { ends = refl }) (prints_mark (writes_as close_writes))))
 
+    -- an atom none of whose comparisons has a fault
     prints_atom : (depth : ℕ) (a : Atom) → AtomRight variables a → AtomPrints depth a
     prints_atom depth (compares left r right) each = prints_compares left r right each
     prints_atom zero (negated a) each = record { prints = λ tokens lexed h. absurd h }
@@ -132,6 +136,7 @@ module _ (variables : List Variable) (rows : Variables) where
     prints_atom (suc depth) (negated a) each = prints_negated depth a each (prints_atom depth a each)
     prints_atom (suc depth) (grouped atoms) each = prints_grouped depth atoms (each_one (AtomRight variables) (AtomPrints depth) (prints_atom depth) (listed_atoms atoms) (atoms_right variables atoms each))
 
+    -- atoms with `||` between them
     prints_conjunct : (c : Atoms) → AllByRecursion (AtomRight variables) (listed_atoms c) → Prints Ends (g.conjunct c) (condition_text rows (condition_of variables c))
     prints_conjunct c each = prints_atoms 32 c (each_one (AtomRight variables) (AtomPrints 32) (prints_atom 32) (listed_atoms c) each)
 

@@ -35,9 +35,11 @@ record IsSorted (ds : List Declaration) : Type 0 where
   first_lexed : AreLexed first
   second_lexed : AreLexed second
 
+-- lists of tokens that are what tokens may be, one behind the other
 lexed_both : (ts us : Tokens) → AreLexed ts → AreLexed us → AreLexed (ts ++ us)
 lexed_both ts us h k = each_append (λ (t : Token). IsLexed t.kind) ts us h k
 
+-- the tokens of declarations, sorted by messages and actors
 sorted : (ds : List Declaration) (tokens : Tokens) → AreLexed tokens → each declaration ds tokens → IsSorted ds
 sorted [] tokens lexed h = record { first = []; second = []; messages = refl; actors = refl; first_lexed = tt; second_lexed = tt }
 sorted (inl d ∷ ds) tokens lexed h =
@@ -67,6 +69,7 @@ declared [] [] = []
 declared [] (a ∷ as') = inr a ∷ declared [] as'
 declared (d ∷ ds) as' = inl d ∷ declared ds as'
 
+-- these declarations have those messages and actors, and their tokens
 messages_declared : (ds : List MessageDecl) (as' : List ActorDecl) → messages_of (declared ds as') ≡ ds
 messages_declared [] [] = refl
 messages_declared [] (a ∷ as') = messages_declared [] as'
@@ -99,6 +102,7 @@ ordered_script tree ts us h k some = record {
 
 -- ---- the text of a plan
 
+-- the text of the plan of a tree without faults has the tokens of its messages and then of its actors
 prints_tree : (tree : Tree) → faults_of tree ≡ [] → Prints Any (each message tree.messages then each actor tree.actors) (plan_text (plan_of tree))
 prints_tree tree none =
     let faults = actor_faults tree.messages (actor_rows tree.actors) in
@@ -108,12 +112,14 @@ prints_tree tree none =
     (prints_each_any actor (actor_of tree) (actor_lines (plan_of tree)) tree.actors
     (each_one (λ (a : ActorDecl). faults a ≡ []) (λ (a : ActorDecl). Prints Any (actor a) (actor_lines (plan_of tree) (actor_of tree a))) (prints_actor tree) tree.actors (each_none faults tree.actors none_of)))
 
+-- a text that is cut into tokens of the tree, but for their places
 spells_by_cut : (tree : Tree) (ts : Tokens) (text : List ℕ) → IsCut (text ++ []) (kinds ts ++ []) → IsScript tree ts → SpellsButForPlaces text tree
 spells_by_cut tree ts text cut script =
     let whole : IsCut text (kinds ts) = rw (append-nil text, append-nil (kinds ts)) at cut in
     let tokens = whole.tokens (length text) (omega arith) in
     record { text = whole.utf8; tokens = tokens.0; cut = tokens.1.0; placed = ts; script = script; same = tokens.1.1 }
 
+-- from the tokens of the messages and of the actors
 spells_sorted : (tree : Tree) → faults_of tree ≡ [] → 0 < length tree.actors → (ts us : Tokens) → AreLexed ts → AreLexed us → each message tree.messages ts → each actor tree.actors us → SpellsButForPlaces (plan_text (plan_of tree)) tree
 spells_sorted tree none some ts us lexed lexed' h k =
     let phrase : (each message tree.messages then each actor tree.actors) (ts ++ us) = record { front = ts; back = us; parts = refl; one = h; other = k } in
@@ -121,6 +127,7 @@ spells_sorted tree none some ts us lexed lexed' h k =
     let writes = prints.prints (ts ++ us) (lexed_both ts us lexed lexed') phrase in
     spells_by_cut tree (ts ++ us) (plan_text (plan_of tree)) (writes.before [] [] any nothing_cut) (ordered_script tree ts us h k some)
 
+-- from the script to its sorted tokens
 pub plans_spell_their_tree : PlansSpellTheirTree
 plans_spell_their_tree bytes tree plan spells types =
     let script = spells.script in

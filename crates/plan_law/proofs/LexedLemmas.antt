@@ -108,6 +108,7 @@ symbol_lexed a b =
 
 -- ---- a token, and the tokens of a text
 
+-- the word, number or symbol at the front of a text
 plain_lexed : (text : List ℕ) → IsLexed ((plain_at text).0)
 unfolding plain_at
 plain_lexed text =

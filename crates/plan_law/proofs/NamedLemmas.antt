@@ -39,6 +39,7 @@ number_found name (first ∷ others) n is = by-test (bytes_eq name first) (bytes
     by-test false same (Some m) zero later e = let numbers : m + 1 ≡ 0 = cc in absurd (omega arith)
     by-test false same (Some m) (suc n) later e = let numbers : m + 1 ≡ suc n = cc in let is : m ≡ n = omega arith in later n (ap (λ (k : ℕ). Some k) is)
 
+-- a name among those of the messages, or of the actors, is that of the plan's kind, or actor, of its number
 kind_at : (messages : List MessageDecl) (n : ℕ) (name : List ℕ) → slice_get (names_of (message_rows messages)) n ≡ Some name → kind_name (slice_get (map kind_of messages) n) ≡ name
 kind_at [] n name is = absurd cc
 kind_at (m ∷ ms) zero name is = cc
@@ -86,6 +87,7 @@ record StandsAt (row : Row) (pattern offset : ℕ) (v : Variable) : Type 0 where
 abbrev variable_names : List (ℕ × Option (List ℕ)) → Row
 variable_names vs = map (λ (variable : ℕ × Option (List ℕ)). variable.1) vs
 
+-- the variable of a field, and the blank, which declares none
 one_stands : (row : Row) (place pattern field : ℕ) (s : Sort) (name : Option (List ℕ)) → AllByRecursion (StandsAt (name ∷ row) pattern field) (variable_at (record { place = place; pattern = pattern; field = field; sort = s }) name)
 one_stands row place pattern field s None = tt
 one_stands row place pattern field s (Some name) = (record { index = 0; pattern_is = refl; field_is = omega arith; name_is = refl }, tt)
@@ -93,6 +95,7 @@ one_stands row place pattern field s (Some name) = (record { index = 0; pattern_
 later_field : (row : Row) (name : Option (List ℕ)) (pattern field : ℕ) (v : Variable) → StandsAt row pattern (field + 1) v → StandsAt (name ∷ row) pattern field v
 later_field row name pattern field v h = record { index = suc h.index; pattern_is = h.pattern_is; field_is = omega (arith, h.field_is); name_is = h.name_is }
 
+-- each variable of a pattern stands in its row
 all_stand_at : (pattern : ℕ) (sorts : List Sort) (field : ℕ) (vs : List (ℕ × Option (List ℕ))) → AllByRecursion (StandsAt (variable_names vs) pattern field) (variables_in pattern sorts field vs)
 all_stand_at pattern sorts field [] = tt
 all_stand_at pattern sorts field (v ∷ vs) =

@@ -83,6 +83,7 @@ further_ends rows signed rest = sign_ends signed.minus (leaf_text rows signed.le
 -- ---- leaves and terms
 
 module _ (variables : List Variable) (rows : Variables) (named : Names rows variables) where
+  -- a number, or a name that is known
   part_kind : (place : ℕ) (k : Kind) (p : ℕ × Part) (alone : Bool) → g.part_by place k ≡ Some p → IsLexed k → part_faults variables alone p.0 p.1 ≡ [] → Writes Ends (leaf_text rows (part_of variables p.1)) (k ∷ [])
   part_kind place (kind.Number z) p alone e lexed none =
       let same : Path (ℕ × Part) (place, part.Number z) p = cc in
@@ -104,6 +105,7 @@ module _ (variables : List Variable) (rows : Variables) (named : Names rows vari
   abbrev first_text : Bool → List ℕ → List ℕ
   first_text minus text = (if minus then codes "-" else []) ++ text
 
+  -- a leaf, and a minus in front of it or nothing
   prints_first : (place : ℕ) (leaf : LeafDecl) → PartPrints leaf.place leaf.part → Prints Ends (g.first_leaf place leaf) (first_leaf rows (leaf_of variables leaf))
   prints_first place leaf prints =
       let text = leaf_text rows (part_of variables leaf.part) in
@@ -123,6 +125,7 @@ module _ (variables : List Variable) (rows : Variables) (named : Names rows vari
   part_known : (alone : Bool) (leaf : LeafDecl) → Known alone leaf → PartPrints leaf.place leaf.part
   part_known alone leaf none = prints_part leaf.place leaf.part (alone && not leaf.minus) none
 
+  -- a sign and a leaf
   prints_further : (alone : Bool) (leaf : LeafDecl) → Known alone leaf → Prints Ends (g.further_leaf leaf) (further_leaf rows (leaf_of variables leaf))
   prints_further alone leaf none = prints_any_then (prints_sign leaf.minus) (part_known alone leaf none)
 
@@ -152,6 +155,7 @@ module _ (variables : List Variable) (rows : Variables) (named : Names rows vari
   only_text (leaf ∷ []) name e = only_by leaf.minus leaf.part name e
   only_text (leaf ∷ other ∷ leaves) name e = absurd cc
 
+  -- an operand that is a term has the term's text, also where it is one text variable
   sum_text : (leaves : List LeafDecl) (found : Option (List ℕ)) → only_name leaves ≡ found → operand_text rows (sum_operand variables leaves found) ≡ term_text rows (term_of variables leaves)
   sum_text leaves None e = refl
   sum_text leaves (Some name) e = by-sort (sort_of variables name)
@@ -167,6 +171,7 @@ module _ (variables : List Variable) (rows : Variables) (named : Names rows vari
 
   -- ---- where the text of an operand begins
 
+  -- neither a number nor a name that is known begins with `=`
   part_opens : (place : ℕ) (k : Kind) (p : ℕ × Part) (alone : Bool) → g.part_by place k ≡ Some p → IsLexed k → part_faults variables alone p.0 p.1 ≡ [] → Opens (leaf_text rows (part_of variables p.1))
   part_opens place (kind.Number z) p alone e lexed none =
       let same : Path (ℕ × Part) (place, part.Number z) p = cc in

@@ -148,6 +148,7 @@ between_spaces {f} {ks} w = writes_then space_writes (writes_same (append-nil ks
 
 -- ---- words
 
+-- the bytes in front that pass a test, where the next byte does not
 prefix_len-front : (p : ℕ → Bool) (xs ys : List ℕ) → list_all p xs ≡ true → p (get_or ys 0 0) ≡ false → prefix_len p (xs ++ ys) ≡ length xs
 prefix_len-front p [] [] h e = refl
 prefix_len-front p [] (y ∷ ys) h e = rw e refl
@@ -155,6 +156,7 @@ prefix_len-front p (x ∷ xs) ys h e =
     let first : p x ≡ true = first_true (p x) (list_all p xs) h in
     rw (first, prefix_len-front p xs ys (second_true (p x) (list_all p xs) h) e) (one-add (length xs))
 
+-- bytes that pass a test of bytes below 128
 low_all : (p : ℕ → Bool) → ((b : ℕ) → p b ≡ true → is_below b ≡ true) → (xs : List ℕ) → list_all p xs ≡ true → list_all is_below xs ≡ true
 low_all p low [] h = refl
 low_all p low (x ∷ xs) h = rw (low x (first_true (p x) (list_all p xs) h)) (low_all p low xs (second_true (p x) (list_all p xs) h))
@@ -185,6 +187,7 @@ digit_on b e = (grind (arith, nat_tests), grind (arith, nat_tests))
 no_digit : (b : ℕ) → goes_on_word b ≡ false → is_ascii_digit b ≡ false
 no_digit b e = grind (arith, nat_tests)
 
+-- the token at the front is the word
 word_at-front : (w rest : List ℕ) → list_all goes_on_word w ≡ true → begins_word (get_or (w ++ rest) 0 0) ≡ true → Ends rest → plain_at (w ++ rest) ≡ (word_kind w, length w)
 unfolding plain_at
 word_at-front w rest all begins ends = rw (begins, prefix_len-front goes_on_word w rest all ends.ends, take-append_seam w rest) refl
@@ -272,6 +275,7 @@ blank_is = record { begins = refl; goes_on = refl; is_mark = refl }
 
 -- ---- numbers and texts
 
+-- the token at the front is the number
 number_at-front : (ds rest : List ℕ) → list_all is_ascii_digit ds ≡ true → is_ascii_digit (get_or (ds ++ rest) 0 0) ≡ true → Ends rest → plain_at (ds ++ rest) ≡ (number_kind (value_of ds), length ds)
 unfolding plain_at
 number_at-front ds rest all digit ends =

@@ -28,6 +28,7 @@ use Rattle.plan_law.proofs.WriteLemmas.{Writes, Ends, Opens}
 abbrev value_after : ℕ → List ℕ → ℕ
 value_after n digits = fold (λ n d. n * 10 + (d - 48)) n digits
 
+-- digits and their value, as the library knows them
 own : IsNumeralModel (λ (ds : List ℕ). list_all is_ascii_digit ds ≡ true) (value_after 0)
 own = numerals_by_fold _ (search rules) value_after (search rules)
 
@@ -48,6 +49,7 @@ number_opens z h = rw (h.is) (digits_open (decimal h.value) (digits_decimal own 
 
 -- ---- quoted texts
 
+-- the form of a byte below 128 has only such bytes, and any other byte is its own form
 form_low : (b : ℕ) → b < 128 → list_all is_below (byte_form b) ≡ true
 form_low b low = grind (arith, nat_tests)
 
@@ -77,6 +79,7 @@ char_utf8 c s =
     (λ (e : ltb c 128 ≡ false). (c ∷ [], (rw s refl, append-nil (encode c) ∙ sym (forms_high (encode c) (encode_high c e)))))
     (cases_Bool (ltb c 128))
 
+-- the forms of the bytes of characters are text
 forms_utf8 : (cs : List ℕ) → scalars cs ≡ true → IsUtf8 (flat_map byte_form (encodes cs))
 forms_utf8 [] s = IsUtf8-nil
 forms_utf8 (c ∷ cs) s =
