@@ -14,6 +14,7 @@ use Rattle.script_faults.specs.Faults.{actor_faults, faults_of}
 use Rattle.script_plan.specs.PlanOf.{actor_of, kind_of, plan_of}
 use Rattle.script_plan.proofs.SmallLemmas.{each_append}
 use Rattle.script_check.specs.Types.{Types}
+use Rattle.script_places.specs.Law.{PlacesDoNotMatter}
 use Rattle.script_check.proofs.SmallLemmas.{each_none, each_one, right_none}
 use Rattle.plan_text.specs.PlanText.{actor_lines, kind_line, plan_text}
 use Rattle.plan_law.specs.Printed.{SpellsButForPlaces, PlansReadBack, PlansSpellTheirTree, kinds}
@@ -138,8 +139,7 @@ plans_spell_their_tree bytes tree plan spells types =
     (spells_sorted tree types.no_fault script.has_actor s.first s.second s.first_lexed s.second_lexed messages actors)
 
 -- where places do not matter, the text of a plan reads and checks to that plan
-pub plans_read_back : ((tree : Tree) (plan : Plan) (tokens moved : List Token) → IsScript tree tokens → Types tree plan → kinds moved ≡ kinds tokens → (other : Tree) × (IsScript other moved × Types other plan))
-    → PlansReadBack
+pub plans_read_back : PlacesDoNotMatter → PlansReadBack
 plans_read_back moves bytes tree plan spells types =
     let h = plans_spell_their_tree bytes tree plan spells types in
     let found = moves tree plan h.placed h.tokens h.script types h.same in

@@ -9,11 +9,12 @@ use Rattle.script_grammar.specs.Grammar.{IsScript}
 use Rattle.script_reader.specs.Spells.{Spells}
 use Rattle.script_types.specs.declared.plan.Plan.{Plan}
 use Rattle.script_check.specs.Types.{Types}
+use Rattle.script_places.specs.Law.{kind_of}
 use Rattle.plan_text.specs.PlanText.{plan_text}
 
 -- tokens without their places
 abbrev pub kinds : List Token → List Kind
-kinds tokens = map (λ (t : Token). t.kind) tokens
+kinds tokens = map kind_of tokens
 
 -- the text cut into its longest tokens, which but for their places are tokens derived by the grammar
 pub record SpellsButForPlaces (bytes : List ℕ) (tree : Tree) : Type 0 where

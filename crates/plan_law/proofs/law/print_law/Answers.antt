@@ -1,5 +1,9 @@
-use Rattle.plan_law.proofs.LawLemmas.{plans_spell_their_tree}
+use Rattle.script_places.proofs.LawLemmas.{places_do_not_matter}
+use Rattle.plan_law.proofs.LawLemmas.{plans_read_back, plans_spell_their_tree}
 use Rattle.plan_law.proofs.law.print_law.Goals as goal
 
-pub returns : goal.returns
-returns c = plans_spell_their_tree
+pub returns-clause-spells : goal.returns-clause-spells
+returns-clause-spells c = plans_spell_their_tree
+
+pub returns-clause-reads : goal.returns-clause-reads
+returns-clause-reads c = plans_read_back places_do_not_matter
