@@ -1,4 +1,4 @@
-//! Whether a conjunct is decided at an assignment, and whether it is true there.
+//! Whether a conjunct is true at an assignment.
 ghost use Rattle.std.specs.Prelude.{◌≡◌, ◌++◌, ◌<◌, Some, length};
 ghost use Rattle.std.specs.List.{AllByRecursion};
 ghost use Rattle.guard_eval.specs.Meaning.{compares, int_relation, is_true, needs_of, operand_needs, words_needs, words_of, words_relation, words_value, value_at};

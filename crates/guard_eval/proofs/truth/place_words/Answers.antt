@@ -1,4 +1,4 @@
-use Rattle.std.proofs.Common.{◌≡◌, ◌∙◌, ◌≤◌, ap, sym, arith, rules}
+use Rattle.std.proofs.Common.{◌≡◌, ◌∙◌, ◌≤◌, ap, sym, arith}
 use Rattle.guard_eval.specs.Meaning.{words_of}
 use Rattle.guard_eval.proofs.ReadyLemmas.{value_at_parts}
 use Rattle.guard_eval.proofs.truth.place_words.Goals as goal
