@@ -1,5 +1,5 @@
 -- What the inputs and the sink in memory hold.
-use Rattle.std.specs.Prelude.{◌≡◌, ◌⊎◌, ℕ, ◌+◌, ◌-◌, ◌^◌, ◌≤◌, List, [], ◌∷◌, ◌++◌, length, take, min, Bool, true, false, ◌==◌, Option, None, Result, Ok, Err}
+use Rattle.std.specs.Prelude.{◌≡◌, ◌⊎◌, ℕ, ◌+◌, ◌-◌, ◌^◌, ◌≤◌, List, [], ◌∷◌, ◌++◌, length, take, min, Bool, true, false, ◌==◌, None, Result, Ok, Err}
 use Rattle.std.specs.List.{list_any}
 use Rattle.join_base.specs.declared.outside.Failed.{Failed as Fault}
 use Rattle.join_base.specs.declared.outside.FetchFault.{FetchFault}
