@@ -1,71 +1,120 @@
--- How many partial matches plain definitions have.
-use Rattle.std.proofs.Common.{◌≡◌, ◌⊎◌, inl, inr, ℕ, zero, suc, ◌+◌, ◌*◌, ◌≤◌, List, [], ◌∷◌, ◌++◌, length, map, Bool, true, ◌&&◌, Some, None, refl, ap, sym, ◌∙◌, subst, arith, slice_index}
+-- How many partial matches definitions of one or two patterns have.
+use Rattle.std.proofs.Common.{◌≡◌, ◌⊎◌, inl, inr, ℕ, zero, suc, ◌+◌, ◌*◌, ◌≤◌, List, [], ◌∷◌, ◌++◌, length, map, cond, Bool, true, false, ◌&&◌, Some, None, refl, ap, sym, ◌∙◌, subst, arith, zero-add, slice_index}
 use Rattle.std.specs.List.{AllByRecursion, filter, flat_map, count_by}
-use Rattle.std.proofs.lemmas.List.Sums.{length-filter, count_by-le-length}
+use Rattle.std.proofs.lemmas.List.Sums.{length-filter, count_by-le-length, sum_by-append, sum_by-cons}
 use Rattle.join_base.specs.declared.message.Message.{Message}
+use Rattle.guard_eval.specs.Condition.{Condition}
 use Rattle.guard_eval.specs.Meaning.{Assignment, letter_at}
 use Rattle.pattern_core.specs.declared.definition.Definition.{Definition}
-use Rattle.pattern_core.specs.Matches.{is_of_kind, usable, with_pattern, is_partial_match, partial_matches, partial_count}
-use Rattle.pattern_core.specs.Plain.{IsPlain, count_of_kind}
+use Rattle.pattern_core.specs.Matches.{is_of_kind, is_agreeable, usable, with_pattern, assignments, is_partial_match, partial_matches, partial_count}
+use Rattle.pattern_core.specs.Listing.{IsShort, count_alone}
+use Rattle.pattern_core.proofs.AgreeLemmas.{agreeable_empty}
 use Rattle.pattern_core.proofs.ListingLemmas.{one_of, two_of}
 use Rattle.pattern_core.proofs.SuitsLemmas.{and_true}
 
-abbrev plain : List ℕ → Definition
-plain kinds = record { patterns = kinds; conjuncts = [] }
+-- ---- counts
 
-module _ (letters : List Message) (live : List ℕ) where
-  -- the numbers that a pattern may take beside empty ones
-  length-usable : (kind : ℕ) → count_by (λ n. is_of_kind (letter_at letters n) kind && true) live ≡ count_of_kind letters live kind
-  length-usable kind = λ i. count_by (λ (n : ℕ). and_true (is_of_kind (letter_at letters n) kind) i) live
+count_cons : {X : Type 0} (p : X → Bool) (x : X) (xs : List X) → count_by p (x ∷ xs) ≡ cond (p x) 1 0 + count_by p xs
+count_cons {X} p x xs = sum_by-cons (λ (y : X). cond (p y) 1 0) x xs
 
-  -- a full assignment is no partial match
-  none_of_one : (d : Definition) (ns : List ℕ) → filter (is_partial_match letters d) (map (λ (n : ℕ). Some n ∷ []) ns ++ []) ≡ []
-  none_of_one d [] = refl
-  none_of_one d (n ∷ ns) = none_of_one d ns
+count_append : {X : Type 0} (p : X → Bool) (xs ys : List X) → count_by p (xs ++ ys) ≡ count_by p xs + count_by p ys
+count_append {X} p xs ys = sum_by-append (λ (y : X). cond (p y) 1 0) xs ys
 
-  none_of_two : (d : Definition) (m : ℕ) (ns : List ℕ) (rest : List Assignment) → filter (is_partial_match letters d) (map (λ (n : ℕ). Some n ∷ Some m ∷ []) ns ++ rest) ≡ filter (is_partial_match letters d) rest
-  none_of_two d m [] rest = refl
-  none_of_two d m (n ∷ ns) rest = none_of_two d m ns rest
+count_map : {X Y : Type 0} (p : Y → Bool) (f : X → Y) (xs : List X) → count_by p (map f xs) ≡ count_by (λ x. p (f x)) xs
+count_map p f [] = refl
+count_map {X} p f (x ∷ xs) = count_cons p (f x) (map f xs) ∙ ap (λ (n : ℕ). cond (p (f x)) 1 0 + n) (count_map p f xs) ∙ sym (count_cons (λ (y : X). p (f y)) x xs)
 
-  pub count_of_one : (kind : ℕ) → length (partial_matches letters live (plain (kind ∷ []))) ≡ 1
-  count_of_one kind = ap (λ (xs : List Assignment). suc (length xs)) (none_of_one (plain (kind ∷ [])) (usable letters live kind []))
+count_filter : {X : Type 0} (p q : X → Bool) (xs : List X) → count_by p (filter q xs) ≡ count_by (λ x. q x && p x) xs
+count_filter p q [] = refl
+count_filter {X} p q (x ∷ xs) = by (q x) (count_filter p q xs) ∙ sym (count_cons (λ (y : X). q y && p y) x xs)
+  where
+    by : (b : Bool) → count_by p (filter q xs) ≡ count_by (λ y. q y && p y) xs → count_by p (cond b (x ∷ filter q xs) (filter q xs)) ≡ cond (b && p x) 1 0 + count_by (λ y. q y && p y) xs
+    by true later = count_cons p x (filter q xs) ∙ ap (λ (n : ℕ). cond (p x) 1 0 + n) later
+    by false later = later ∙ sym (zero-add _)
+
+count_none : {X : Type 0} (xs : List X) → count_by (λ x. false) xs ≡ 0
+count_none [] = refl
+count_none {X} (x ∷ xs) = count_cons (λ (y : X). false) x xs ∙ zero-add _ ∙ count_none xs
+
+module _ (letters : List Message) (live : List ℕ) (conjuncts : List Condition) where
+  abbrev short : List ℕ → Definition
+  short kinds = record { patterns = kinds; conjuncts = conjuncts }
+
+  -- an agreeable assignment counts once
+  counts : (slots : Assignment) → is_agreeable letters conjuncts slots ≡ true → ◌≡◌ {A = ℕ} (cond (is_agreeable letters conjuncts slots) 1 0) 1
+  counts slots e = ap (λ (b : Bool). cond b 1 0) e
+
+  count_of_one : (kind : ℕ) → length (partial_matches letters live (short (kind ∷ []))) ≡ 1
+  count_of_one kind =
+      let partial : Assignment → Bool = is_partial_match letters (short (kind ∷ [])) in
+      let ns : List ℕ = usable letters live kind [] in
+      let full : List Assignment = map (λ (n : ℕ). Some n ∷ []) ns in
+      let whole : length (partial_matches letters live (short (kind ∷ []))) ≡ cond (is_agreeable letters conjuncts (None ∷ [])) 1 0 + count_by partial (full ++ []) =
+      length-filter partial (assignments letters live (kind ∷ [])) ∙ count_cons partial (None ∷ []) (full ++ [])
+      in
+      let last : count_by partial (full ++ []) ≡ count_by partial full + 0 = count_append partial full [] in
+      let none : count_by partial full ≡ 0 = count_map partial (λ (n : ℕ). Some n ∷ []) ns ∙ count_none ns in
+      let empty = counts (None ∷ []) (agreeable_empty letters conjuncts 1) in
+      omega arith
 
   module _ (first second : ℕ) where
     abbrev partial : Assignment → Bool
-    partial = is_partial_match letters (plain (first ∷ second ∷ []))
+    partial = is_partial_match letters (short (first ∷ second ∷ []))
 
-    first_alone : (ns : List ℕ) (rest : List Assignment) → length (filter partial (map (λ (n : ℕ). Some n ∷ None ∷ []) ns ++ rest)) ≡ length ns + length (filter partial rest)
-    first_alone [] rest = omega arith
-    first_alone (n ∷ ns) rest = let e = first_alone ns rest in omega arith
+    abbrev count : List Assignment → ℕ
+    count = count_by partial
 
-    second_alone : (ms : List ℕ) → length (filter partial (flat_map (with_pattern letters live first) (map (λ (m : ℕ). Some m ∷ []) ms ++ []))) ≡ length ms
+    -- the first pattern alone, with each of these numbers
+    first_alone : (ns : List ℕ) → count (map (λ (n : ℕ). Some n ∷ None ∷ []) ns) ≡ count_by (λ n. is_agreeable letters conjuncts (Some n ∷ None ∷ [])) ns
+    first_alone ns = count_map partial (λ (n : ℕ). Some n ∷ None ∷ []) ns
+
+    -- a full assignment is no partial match
+    both_filled : (m : ℕ) (ns : List ℕ) → count (map (λ (n : ℕ). Some n ∷ Some m ∷ []) ns) ≡ 0
+    both_filled m ns = count_map partial (λ (n : ℕ). Some n ∷ Some m ∷ []) ns ∙ count_none ns
+
+    -- the second pattern alone, with each of these numbers
+    second_alone : (ms : List ℕ) → count (flat_map (with_pattern letters live first) (map (λ (m : ℕ). Some m ∷ []) ms ++ [])) ≡ count_by (λ m. is_agreeable letters conjuncts (None ∷ Some m ∷ [])) ms
     second_alone [] = refl
     second_alone (m ∷ ms) =
         let rest : List Assignment = flat_map (with_pattern letters live first) (map (λ (x : ℕ). Some x ∷ []) ms ++ []) in
-        ap (λ (xs : List Assignment). suc (length xs)) (none_of_two (plain (first ∷ second ∷ [])) m (usable letters live first (Some m ∷ [])) rest) ∙ ap suc (second_alone ms)
+        let us : List ℕ = usable letters live first (Some m ∷ []) in
+        let both = count_append partial (map (λ (n : ℕ). Some n ∷ Some m ∷ []) us) rest ∙ (λ i. both_filled m us i + count rest) ∙ zero-add (count rest) in
+        let agree : ℕ → Bool = λ n. is_agreeable letters conjuncts (None ∷ Some n ∷ []) in
+        count_cons partial (None ∷ Some m ∷ []) (map (λ (n : ℕ). Some n ∷ Some m ∷ []) us ++ rest)
+        ∙ ap (λ (n : ℕ). cond (agree m) 1 0 + n) (both ∙ second_alone ms)
+        ∙ sym (count_cons agree m ms)
 
-    pub count_of_two : length (partial_matches letters live (plain (first ∷ second ∷ []))) ≡ 1 + count_of_kind letters live first + count_of_kind letters live second
+    count_of_two : length (partial_matches letters live (short (first ∷ second ∷ []))) ≡ 1 + count_alone letters live (short (first ∷ second ∷ [])) 0 + count_alone letters live (short (first ∷ second ∷ [])) 1
     count_of_two =
         let ns : List ℕ = usable letters live first (None ∷ []) in
         let ms : List ℕ = usable letters live second [] in
+        let agree_first : ℕ → Bool = λ n. is_agreeable letters conjuncts (Some n ∷ None ∷ []) in
+        let agree_second : ℕ → Bool = λ n. is_agreeable letters conjuncts (None ∷ Some n ∷ []) in
         let rest : List Assignment = flat_map (with_pattern letters live first) (map (λ (m : ℕ). Some m ∷ []) ms ++ []) in
-        let a = first_alone ns rest in
-        let b = second_alone ms in
-        let c : length ns ≡ count_of_kind letters live first = length-filter _ live ∙ length-usable first in
-        let d : length ms ≡ count_of_kind letters live second = length-filter _ live ∙ length-usable second in
-        let whole : length (partial_matches letters live (plain (first ∷ second ∷ []))) ≡ suc (length (filter partial (map (λ (n : ℕ). Some n ∷ None ∷ []) ns ++ rest))) = refl in
+        let fronts : List Assignment = map (λ (n : ℕ). Some n ∷ None ∷ []) ns in
+        let whole : length (partial_matches letters live (short (first ∷ second ∷ []))) ≡ cond (is_agreeable letters conjuncts (None ∷ None ∷ [])) 1 0 + count (fronts ++ rest) =
+        length-filter partial (assignments letters live (first ∷ second ∷ [])) ∙ count_cons partial (None ∷ None ∷ []) (fronts ++ rest)
+        in
+        let parts : count (fronts ++ rest) ≡ count fronts + count rest = count_append partial fronts rest in
+        let empty = counts (None ∷ None ∷ []) (agreeable_empty letters conjuncts 2) in
+        let front : count fronts ≡ count_alone letters live (short (first ∷ second ∷ [])) 0 =
+        first_alone ns ∙ count_filter agree_first _ live ∙ (λ i. count_by (λ (n : ℕ). and_true (is_of_kind (letter_at letters n) first) i && agree_first n) live)
+        in
+        let back : count rest ≡ count_alone letters live (short (first ∷ second ∷ [])) 1 =
+        second_alone ms ∙ count_filter agree_second _ live ∙ (λ i. count_by (λ (n : ℕ). and_true (is_of_kind (letter_at letters n) second) i && agree_second n) live)
+        in
         omega arith
 
-  plain_is : (d : Definition) (kinds : List ℕ) → IsPlain d → d.patterns ≡ kinds → plain kinds ≡ d
-  plain_is d kinds p e = λ i. record { patterns = sym e i; conjuncts = sym p.unguarded i }
+module _ (letters : List Message) (live : List ℕ) where
+  pub count_single : (d : Definition) → length d.patterns ≡ 1 → length (partial_matches letters live d) ≡ 1
+  count_single d one =
+      subst (λ (kinds : List ℕ). length (partial_matches letters live (record { patterns = kinds; conjuncts = d.conjuncts })) ≡ 1) (sym (one_of d.patterns one))
+      (count_of_one letters live d.conjuncts (slice_index d.patterns 0))
 
-  pub count_single : (d : Definition) → IsPlain d → length d.patterns ≡ 1 → length (partial_matches letters live d) ≡ 1
-  count_single d p one = subst (λ (x : Definition). length (partial_matches letters live x) ≡ 1) (plain_is d _ p (one_of d.patterns one)) (count_of_one (slice_index d.patterns 0))
-
-  pub count_pair : (d : Definition) → IsPlain d → length d.patterns ≡ 2 → length (partial_matches letters live d) ≡ 1 + count_of_kind letters live (slice_index d.patterns 0) + count_of_kind letters live (slice_index d.patterns 1)
-  count_pair d p two =
-      subst (λ (x : Definition). length (partial_matches letters live x) ≡ 1 + count_of_kind letters live (slice_index x.patterns 0) + count_of_kind letters live (slice_index x.patterns 1))
-      (plain_is d _ p (two_of d.patterns two)) (count_of_two (slice_index d.patterns 0) (slice_index d.patterns 1))
+  pub count_pair : (d : Definition) → length d.patterns ≡ 2 → length (partial_matches letters live d) ≡ 1 + count_alone letters live d 0 + count_alone letters live d 1
+  count_pair d two =
+      let P : List ℕ → Type 0 = λ kinds. let e : Definition = record { patterns = kinds; conjuncts = d.conjuncts } in length (partial_matches letters live e) ≡ 1 + count_alone letters live e 0 + count_alone letters live e 1 in
+      subst P (sym (two_of d.patterns two)) (count_of_two letters live d.conjuncts (slice_index d.patterns 0) (slice_index d.patterns 1))
 
   one_or_two : (n : ℕ) → 1 ≤ n → n ≤ 2 → (n ≡ 1) ⊎ (n ≡ 2)
   one_or_two zero l h = absurd (omega arith)
@@ -73,21 +122,21 @@ module _ (letters : List Message) (live : List ℕ) where
   one_or_two (suc (suc zero)) l h = inr refl
   one_or_two (suc (suc (suc n))) l h = absurd (omega arith)
 
-  pub count_most : (d : Definition) → IsPlain d → length (partial_matches letters live d) ≤ 2 * length live + 1
+  pub count_most : (d : Definition) → IsShort d → length (partial_matches letters live d) ≤ 2 * length live + 1
   count_most d p =
       elim (one_or_two (length d.patterns) p.some p.few) [
-        | inl one ↦ let e = count_single d p one in omega arith
+        | inl one ↦ let e = count_single d one in omega arith
         | inr two ↦
-            let e = count_pair d p two in
-            let a : count_of_kind letters live (slice_index d.patterns 0) ≤ length live = count_by-le-length _ live in
-            let b : count_of_kind letters live (slice_index d.patterns 1) ≤ length live = count_by-le-length _ live in
+            let e = count_pair d two in
+            let a : count_alone letters live d 0 ≤ length live = count_by-le-length _ live in
+            let b : count_alone letters live d 1 ≤ length live = count_by-le-length _ live in
             omega arith
       ]
 
-  count_each : (ds : List Definition) → AllByRecursion IsPlain ds → length live ≤ 1000 → partial_count letters live ds ≤ length ds * 2001
+  count_each : (ds : List Definition) → AllByRecursion IsShort ds → length live ≤ 1000 → partial_count letters live ds ≤ length ds * 2001
   count_each [] p l = omega arith
   count_each (d ∷ ds) p l = let a = count_most d p.0 in let b = count_each ds p.1 l in omega arith
 
-  -- 16 plain definitions over 1,000 numbers
-  pub partial_count_most : (ds : List Definition) → AllByRecursion IsPlain ds → length ds ≤ 16 → length live ≤ 1000 → partial_count letters live ds ≤ 32016
+  -- 16 definitions of one or two patterns over 1,000 numbers
+  pub partial_count_most : (ds : List Definition) → AllByRecursion IsShort ds → length ds ≤ 16 → length live ≤ 1000 → partial_count letters live ds ≤ 32016
   partial_count_most ds p few l = let a = count_each ds p l in omega arith

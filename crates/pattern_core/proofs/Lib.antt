@@ -2,6 +2,8 @@ pub mod Examples
 pub mod MembersLemmas
 pub mod ChoiceLemmas
 pub mod AssignsLemmas
+pub mod AgreeLemmas
+pub mod GuardLemmas
 pub mod BestLemmas
 pub mod ListingLemmas
 pub mod LawLemmas

@@ -1,9 +1,11 @@
 -- Slots that suit a definition: full ones, empty ones, and what follows.
-use Rattle.std.proofs.Common.{◌≡◌, ◌∙◌, ℕ, zero, suc, ◌+◌, ◌≤◌, List, [], ◌∷◌, length, drop, replicate, slice_get, slice_index, Bool, true, false, ◌&&◌, Option, Some, None, refl, ap, sym, subst, arith}
+use Rattle.std.proofs.Common.{◌≡◌, ◌∙◌, ℕ, zero, suc, ◌+◌, ◌≤◌, List, [], ◌∷◌, length, drop, replicate, slice_get, slice_index, slice_set, Bool, true, false, ◌&&◌, ◌||◌, ◌<◌, Option, Some, None, refl, ap, sym, subst, arith}
+use Rattle.std.specs.Prelude.{◌==◌}
+use Rattle.std.proofs.lemmas.Bool.Decides.{nat_tests}
 use Rattle.join_base.specs.declared.message.Message.{Message}
-use Rattle.guard_eval.specs.Condition.{Condition}
 use Rattle.guard_eval.specs.Meaning.{Assignment, letter_at, is_slot_filled}
-use Rattle.pattern_core.specs.Matches.{is_of_kind, holds_number, is_full, is_agreeable, makes_all_true}
+use Rattle.pattern_core.specs.Matches.{is_of_kind, holds_number, slot_is, is_full}
+use Rattle.pattern_core.specs.Listing.{alone}
 use Rattle.pattern_core.specs.Suits.{IsRecorded, SlotsSuit}
 use Rattle.pattern_core.proofs.ListingLemmas.{two_of}
 
@@ -18,12 +20,6 @@ pub suits_empty : (letters : List Message) (kinds : List ℕ) → SlotsSuit lett
 suits_empty letters [] = tt
 suits_empty letters (kind ∷ kinds) = suits_empty letters kinds
 
--- slots whose first of two patterns has a number
-pub suits_front : (letters : List Message) (kinds : List ℕ) (front : ℕ) (slots : Assignment) → length kinds ≡ 2 → IsRecorded letters front → is_of_kind (letter_at letters front) (slice_index kinds 0) ≡ true → slots ≡ Some front ∷ None ∷ [] → SlotsSuit letters kinds slots
-suits_front letters kinds front slots two recorded kind e =
-    let P : List ℕ → Type 0 = λ ks. SlotsSuit letters ks (Some front ∷ None ∷ []) in
-    subst (SlotsSuit letters kinds) (sym e) (subst P (sym (two_of kinds two)) (recorded, kind, refl, tt))
-
 pub first_empty : (n : ℕ) (slots : Assignment) → 1 ≤ n → slots ≡ replicate n None → slice_get slots 0 ≡ Some None
 first_empty zero slots l e = absurd (omega arith)
 first_empty (suc n) slots l e = ap (λ (s : Assignment). slice_get s 0) e
@@ -34,6 +30,53 @@ none_held (suc n) m = none_held n m
 
 pub empty_holds : (n m : ℕ) (slots : Assignment) → slots ≡ replicate n None → holds_number slots m ≡ false
 empty_holds n m slots e = ap (λ (s : Assignment). holds_number s m) e ∙ none_held n m
+
+both_false : (a b : Bool) → (a || b) ≡ false → (a ≡ false) × (b ≡ false)
+both_false true b e = absurd cc
+both_false false b e = (refl, e)
+
+apart_too : (n m : ℕ) → (n == m) ≡ false → (m == n) ≡ false
+apart_too n m h = grind (arith, nat_tests)
+
+-- a further number is another than those that are held
+holds_further : (slots : Assignment) (p n m : ℕ) → holds_number slots m ≡ false → (m == n) ≡ false → holds_number (slice_set slots p (Some n)) m ≡ false
+holds_further [] p n m held other = held
+holds_further (slot ∷ slots) zero n m held other = let rest = (both_false (slot_is m slot) (holds_number slots m) held).1 in λ i. other i || rest i
+holds_further (slot ∷ slots) (suc p) n m held other =
+    let parts = both_false (slot_is m slot) (holds_number slots m) held in
+    let here = parts.0 in
+    let later = holds_further slots p n m parts.1 other in
+    λ i. here i || later i
+
+-- slots with one number more
+pub suits_further : (letters : List Message) (kinds : List ℕ) (slots : Assignment) (p n : ℕ) → SlotsSuit letters kinds slots → slice_get slots p ≡ Some None → IsRecorded letters n → is_of_kind (letter_at letters n) (slice_index kinds p) ≡ true → holds_number slots n ≡ false
+    → SlotsSuit letters kinds (slice_set slots p (Some n))
+suits_further letters [] [] p n suits empty recorded kind apart = absurd cc
+suits_further letters [] (slot ∷ slots) p n suits empty recorded kind apart = absurd suits
+suits_further letters (k ∷ kinds) [] p n suits empty recorded kind apart = absurd suits
+suits_further letters (k ∷ kinds) (None ∷ slots) zero n suits empty recorded kind apart = (recorded, kind, apart, suits)
+suits_further letters (k ∷ kinds) (Some m ∷ slots) zero n suits empty recorded kind apart = absurd cc
+suits_further letters (k ∷ kinds) (None ∷ slots) (suc p) n suits empty recorded kind apart = suits_further letters kinds slots p n suits empty recorded kind apart
+suits_further letters (k ∷ kinds) (Some m ∷ slots) (suc p) n suits empty recorded kind apart =
+    let parts = both_false (n == m) (holds_number slots n) apart in
+    (suits.0, suits.1, holds_further slots p n m suits.2 (apart_too n m parts.0), suits_further letters kinds slots p n suits.3 empty recorded kind parts.1)
+
+empty_place : (n p : ℕ) → p < n → let empty : Assignment = replicate n None in slice_get empty p ≡ Some None
+empty_place zero p within = absurd (omega arith)
+empty_place (suc n) zero within = refl
+empty_place (suc n) (suc p) within = empty_place n p (omega arith)
+
+-- slots of which one pattern alone has a number
+pub suits_alone : (letters : List Message) (kinds : List ℕ) (p n : ℕ) (slots : Assignment) → p < length kinds → IsRecorded letters n → is_of_kind (letter_at letters n) (slice_index kinds p) ≡ true → slots ≡ alone (length kinds) p n → SlotsSuit letters kinds slots
+suits_alone letters kinds p n slots within recorded kind e =
+    subst (SlotsSuit letters kinds) (sym e)
+    (suits_further letters kinds (replicate (length kinds) None) p n (suits_empty letters kinds) (empty_place (length kinds) p within) recorded kind (none_held (length kinds) n))
+
+-- slots whose first of two patterns has a number
+pub suits_front : (letters : List Message) (kinds : List ℕ) (front : ℕ) (slots : Assignment) → length kinds ≡ 2 → IsRecorded letters front → is_of_kind (letter_at letters front) (slice_index kinds 0) ≡ true → slots ≡ Some front ∷ None ∷ [] → SlotsSuit letters kinds slots
+suits_front letters kinds front slots two recorded kind e =
+    let P : List ℕ → Type 0 = λ ks. SlotsSuit letters ks (Some front ∷ None ∷ []) in
+    subst (SlotsSuit letters kinds) (sym e) (subst P (sym (two_of kinds two)) (recorded, kind, refl, tt))
 
 pub not_full : (slots : Assignment) (i : ℕ) → slice_get slots i ≡ Some None → is_full slots ≡ false
 not_full [] i e = absurd cc
@@ -58,11 +101,3 @@ full_at_end slots i l e = sym e ∙ full_past slots i l
 pub and_true : (a : Bool) → (a && true) ≡ a
 and_true true = refl
 and_true false = refl
-
--- without a conjunct a full assignment is a complete match
-pub complete_plain : (letters : List Message) (conjuncts : List Condition) (slots : Assignment) (b : Bool) → conjuncts ≡ [] → is_full slots ≡ b → b ≡ (is_full slots && makes_all_true letters conjuncts slots)
-complete_plain letters conjuncts slots b e f = sym f ∙ sym (ap (λ (cs : List Condition). is_full slots && makes_all_true letters cs slots) e ∙ and_true (is_full slots))
-
--- without a conjunct every assignment is agreeable
-pub agreeable_plain : (letters : List Message) (conjuncts : List Condition) (slots : Assignment) (kind : Bool) → conjuncts ≡ [] → (kind && is_agreeable letters conjuncts slots) ≡ kind
-agreeable_plain letters conjuncts slots kind e = ap (λ (cs : List Condition). kind && is_agreeable letters cs slots) e ∙ and_true kind

@@ -5,4 +5,4 @@ pub mod Assigns
 pub mod Choice
 pub mod Law
 pub mod Suits
-pub mod Plain
+pub mod Listing

@@ -1,21 +1,37 @@
 //! How many partial matches a definition has.
 ghost use Rattle.std.specs.Prelude.{◌≡◌, ◌+◌, ◌*◌, ◌^◌, ◌≤◌, ◌<◌, All, length};
 ghost use Rattle.pattern_core.specs.Matches.{partial_matches};
-ghost use Rattle.pattern_core.specs.Plain.{IsPlain, count_of_kind};
-ghost use Rattle.pattern_core.specs.Suits.{IsRecorded};
+ghost use Rattle.pattern_core.specs.Listing.{IsShort, count_alone, may_stand};
+ghost use Rattle.pattern_core.specs.Suits.{DefinitionSuits, IsRecorded};
 
 use crate::definition::Definition;
-use crate::extend::has_kind;
-use join_base::Letters;
+use crate::extend::{agrees, has_kind};
+use join_base::{Letters, Slots};
 
-// How many of the numbers are those of messages of the kind.
-fn count_kind(kind: u32, live: &[u32], letters: &Letters) -> u64
-    requires { All (IsRecorded letters.now) live.now }
-    ensures { result ≡ count_of_kind letters.now live.now kind }
+// Whether the pattern may take the number where the others are empty.
+fn may_stand(definition: &Definition, pattern: u32, number: u32, letters: &Letters) -> bool
+    requires suits { DefinitionSuits letters.now definition.now }
+    requires within { pattern < length definition.now.patterns }
+    requires recorded { IsRecorded letters.now number }
+    ensures { result ≡ may_stand letters.now definition.now pattern number }
+{
+    if !has_kind(letters, number, *definition.patterns.at(pattern as usize)) {
+        return false;
+    }
+    let empty = Slots::new(definition.patterns.len() as u32);
+    agrees(definition, &empty.with(pattern, number), letters)
+}
+
+// How many of the numbers the pattern may take where the others are empty.
+fn count_alone(definition: &Definition, pattern: u32, live: &[u32], letters: &Letters) -> u64
+    requires suits { DefinitionSuits letters.now definition.now }
+    requires within { pattern < length definition.now.patterns }
+    requires recorded { All (IsRecorded letters.now) live.now }
+    ensures { result ≡ count_alone letters.now live.now definition.now pattern }
 {
     let mut count = 0;
     for number in live {
-        if has_kind(letters, *number, kind) {
+        if may_stand(definition, pattern, *number, letters) {
             count += 1;
         }
     }
@@ -25,7 +41,8 @@ fn count_kind(kind: u32, live: &[u32], letters: &Letters) -> u64
 /// The number of partial matches of a definition: the empty assignment, and of two patterns each one alone with each
 /// number that it may take.
 pub fn count_partials(definition: &Definition, live: &[u32], letters: &Letters) -> u64
-    requires plain { IsPlain definition.now }
+    requires short { IsShort definition.now }
+    requires suits { DefinitionSuits letters.now definition.now }
     requires recorded { All (IsRecorded letters.now) live.now }
     requires few { length live.now < 2 ^ 32 }
 
@@ -35,7 +52,7 @@ pub fn count_partials(definition: &Definition, live: &[u32], letters: &Letters) 
     if definition.patterns.len() == 1 {
         return 1;
     }
-    let first = count_kind(*definition.patterns.at(0), live, letters);
-    let second = count_kind(*definition.patterns.at(1), live, letters);
+    let first = count_alone(definition, 0, live, letters);
+    let second = count_alone(definition, 1, live, letters);
     1 + first + second
 }

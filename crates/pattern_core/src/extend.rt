@@ -1,10 +1,11 @@
-//! Whether a message may stand at a pattern.
-ghost use Rattle.std.specs.Prelude.{◌≡◌, ◌+◌, ◌&&◌, [], Some, None, true, false, slice_get, slice_set, slice_index};
+//! Whether a message may stand at a pattern, and whether an assignment is a match.
+ghost use Rattle.std.specs.Prelude.{◌≡◌, ◌+◌, ◌&&◌, Some, None, true, false, length, slice_get, slice_set, slice_index};
 ghost use Rattle.guard_eval.specs.Meaning.{letter_at};
-ghost use Rattle.pattern_core.specs.Matches.{is_of_kind, holds_number, is_agreeable, is_complete_match};
+ghost use Rattle.pattern_core.specs.Matches.{is_of_kind, holds_number, is_agreeable, is_complete_match, is_full, makes_all_true};
 ghost use Rattle.pattern_core.specs.Suits.{DefinitionSuits, IsRecorded, SlotsSuit};
 
 use crate::definition::Definition;
+use guard_eval::{decided, holds};
 use join_base::{Letters, Slots, Steps};
 use std::sync::ledger::Ledger;
 
@@ -16,7 +17,24 @@ pub fn has_kind(letters: &Letters, number: u32, kind: u32) -> bool
     letters.at((number - 1) as usize).kind == kind
 }
 
-/// Whether the message may stand at the pattern beside the others. It counts one step.
+/// Whether every decided conjunct is true.
+pub fn agrees(definition: &Definition, slots: &Slots, letters: &Letters) -> bool
+    requires definition { DefinitionSuits letters.now definition.now }
+    requires suits { SlotsSuit letters.now definition.now.patterns slots.now }
+    ensures { result ≡ is_agreeable letters.now definition.now.conjuncts slots.now }
+{
+    for conjunct in definition.conjuncts.as_slice() {
+        if decided(conjunct, slots) {
+            if !holds(conjunct, slots, letters) {
+                return false;
+            }
+        }
+    }
+    true
+}
+
+/// Whether the message may stand at the pattern beside the others: it has the kind, and every conjunct that is then
+/// decided is true. It counts one step.
 pub fn try_extend<L: Ledger>(
     definition: &Definition,
     slots: &Slots,
@@ -25,8 +43,7 @@ pub fn try_extend<L: Ledger>(
     letters: &Letters,
     steps: &mut Steps<L>,
 ) -> bool
-    // Until guards are evaluated, a definition has none.
-    requires plain { definition.now.conjuncts ≡ [] }
+    requires definition { DefinitionSuits letters.now definition.now }
     requires suits { SlotsSuit letters.now definition.now.patterns slots.now }
     requires agreeable { is_agreeable letters.now definition.now.conjuncts slots.now ≡ true }
     requires empty { slice_get slots.now pattern ≡ Some None }
@@ -37,25 +54,48 @@ pub fn try_extend<L: Ledger>(
     ensures answer { result ≡ (is_of_kind (letter_at letters.now number) (slice_index definition.now.patterns pattern) && is_agreeable letters.now definition.now.conjuncts (slice_set slots.now pattern (Some number))) }
 {
     steps.tick();
-    let _ = slots;
-    has_kind(letters, number, *definition.patterns.at(pattern as usize))
+    if !has_kind(letters, number, *definition.patterns.at(pattern as usize)) {
+        return false;
+    }
+    agrees(definition, &slots.with(pattern, number), letters)
 }
 
-/// Whether the assignment is a complete match.
+// Whether no pattern is empty.
+fn is_full(patterns: u32, slots: &Slots) -> bool
+    requires { length slots.now ≡ patterns }
+    ensures { result ≡ is_full slots.now }
+{
+    for pattern in 0..patterns {
+        if slots.get(pattern).is_none() {
+            return false;
+        }
+    }
+    true
+}
+
+// Whether every conjunct is true where no pattern is empty.
+fn all_hold(definition: &Definition, slots: &Slots, letters: &Letters) -> bool
+    requires definition { DefinitionSuits letters.now definition.now }
+    requires suits { SlotsSuit letters.now definition.now.patterns slots.now }
+    requires full { is_full slots.now ≡ true }
+    ensures { result ≡ makes_all_true letters.now definition.now.conjuncts slots.now }
+{
+    for conjunct in definition.conjuncts.as_slice() {
+        if !holds(conjunct, slots, letters) {
+            return false;
+        }
+    }
+    true
+}
+
+/// Whether the assignment is a complete match: no pattern is empty, and every conjunct is true, those without a
+/// variable too.
 pub fn complete(definition: &Definition, slots: &Slots, letters: &Letters) -> bool
-    // Until guards are evaluated, a definition has none.
-    requires plain { definition.now.conjuncts ≡ [] }
     requires definition { DefinitionSuits letters.now definition.now }
     requires suits { SlotsSuit letters.now definition.now.patterns slots.now }
     requires agreeable { is_agreeable letters.now definition.now.conjuncts slots.now ≡ true }
 
     ensures { result ≡ is_complete_match letters.now definition.now slots.now }
 {
-    let _ = letters;
-    for pattern in 0..definition.patterns.len() as u32 {
-        if slots.get(pattern).is_none() {
-            return false;
-        }
-    }
-    true
+    is_full(definition.patterns.len() as u32, slots) && all_hold(definition, slots, letters)
 }

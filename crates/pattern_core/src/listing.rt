@@ -1,15 +1,15 @@
 //! The least match of a definition by listing every assignment: slow, and plain.
 ghost use Rattle.std.specs.Prelude.{◌≡◌, ◌+◌, ◌*◌, ◌≤◌, [], ◌∷◌, All, length, map, Some, None, true, slice_index};
 ghost use Rattle.guard_eval.specs.Meaning.{letter_at};
-ghost use Rattle.pattern_core.specs.Matches.{complete_matches, is_of_kind};
+ghost use Rattle.pattern_core.specs.Matches.{complete_matches, is_agreeable, is_of_kind};
 ghost use Rattle.pattern_core.specs.Members.{IsIn};
 ghost use Rattle.pattern_core.specs.Choice.{candidate_of, least, IsBestOf};
-ghost use Rattle.pattern_core.specs.Plain.{IsPlain, BeginsIn, may_follow};
-ghost use Rattle.pattern_core.specs.Suits.{IsRecorded};
+ghost use Rattle.pattern_core.specs.Listing.{IsShort, BeginsIn, alone, may_follow};
+ghost use Rattle.pattern_core.specs.Suits.{DefinitionSuits, IsRecorded};
 
 use crate::candidate::Candidate;
 use crate::definition::Definition;
-use crate::extend::try_extend;
+use crate::extend::{complete, try_extend};
 use crate::key::better;
 use join_base::{Letters, Numbers, Slots, Steps};
 use std::sync::ledger::Ledger;
@@ -33,7 +33,7 @@ fn pair(rule: u32, front: u32, back: u32) -> Candidate
     Candidate { rule, taken }
 }
 
-// Whether the second pattern may take a number beside the first's.
+// Whether the second pattern may take a number beside the first's, and the two make every conjunct true.
 fn may_add<L: Ledger>(
     definition: &Definition,
     slots: &Slots,
@@ -42,33 +42,41 @@ fn may_add<L: Ledger>(
     letters: &Letters,
     steps: &mut Steps<L>,
 ) -> bool
-    requires plain { IsPlain definition.now }
+    requires suits { DefinitionSuits letters.now definition.now }
     requires two { length definition.now.patterns ≡ 2 }
     requires slots { slots.now ≡ Some front ∷ None ∷ [] }
+    requires agreeable { is_agreeable letters.now definition.now.conjuncts slots.now ≡ true }
     requires front { IsRecorded letters.now front }
     requires of_kind { is_of_kind (letter_at letters.now front) (slice_index definition.now.patterns 0) ≡ true }
     requires back { IsRecorded letters.now back }
 
-    ensures answer { result ≡ may_follow letters.now (slice_index definition.now.patterns 1) front back }
+    ensures answer { result ≡ may_follow letters.now definition.now front back }
     ensures counted { steps.new ≤ steps.old + 1 }
 {
     if back == front {
         return false;
     }
-    try_extend(definition, slots, 1, back, letters, steps)
+    if !try_extend(definition, slots, 1, back, letters, steps) {
+        return false;
+    }
+    complete(definition, &slots.with(1, back), letters)
 }
 
-// The least match of the definition whose first pattern takes this number.
+// The least match of the definition whose first pattern takes this number, which it has in the slots.
 fn least_behind<L: Ledger>(
     rule: u32,
     definition: &Definition,
+    slots: &Slots,
     front: u32,
     live: &[u32],
     letters: &Letters,
     steps: &mut Steps<L>,
 ) -> Option<Candidate>
-    requires plain { IsPlain definition.now }
+    requires short { IsShort definition.now }
+    requires suits { DefinitionSuits letters.now definition.now }
     requires recorded { All (IsRecorded letters.now) live.now }
+    requires slots { slots.now ≡ alone (length definition.now.patterns) 0 front }
+    requires agreeable { is_agreeable letters.now definition.now.conjuncts slots.now ≡ true }
     requires is_live { IsIn front live.now }
     requires front { IsRecorded letters.now front }
     requires of_kind { is_of_kind (letter_at letters.now front) (slice_index definition.now.patterns 0) ≡ true }
@@ -77,13 +85,14 @@ fn least_behind<L: Ledger>(
     ensures counted { steps.new ≤ steps.old + length live.now }
 {
     if definition.patterns.len() == 1 {
+        if !complete(definition, slots, letters) {
+            return None;
+        }
         return Some(single(rule, front));
     }
-    let mut slots = Slots::new(2);
-    slots.fill(0, front);
     let mut best = None;
     for back in live {
-        if may_add(definition, &slots, front, *back, letters, steps) {
+        if may_add(definition, slots, front, *back, letters, steps) {
             best = better(best, Some(pair(rule, front, *back)));
         }
     }
@@ -99,7 +108,8 @@ pub fn least_match<L: Ledger>(
     letters: &Letters,
     steps: &mut Steps<L>,
 ) -> Option<Candidate>
-    requires plain { IsPlain definition.now }
+    requires short { IsShort definition.now }
+    requires suits { DefinitionSuits letters.now definition.now }
     requires recorded { All (IsRecorded letters.now) live.now }
 
     ensures least { result ≡ least (map (candidate_of rule) (complete_matches letters.now live.now definition.now)) }
@@ -109,7 +119,8 @@ pub fn least_match<L: Ledger>(
     let mut best = None;
     for front in live {
         if try_extend(definition, &empty, 0, *front, letters, steps) {
-            let found = least_behind(rule, definition, *front, live, letters, steps);
+            let begun = empty.with(0, *front);
+            let found = least_behind(rule, definition, &begun, *front, live, letters, steps);
             best = better(best, found);
         }
     }

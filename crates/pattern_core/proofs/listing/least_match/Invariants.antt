@@ -1,6 +1,6 @@
 use Rattle.std.proofs.Common.{◌≤◌, ◌+◌, ◌*◌, take, length}
 use Rattle.pattern_core.specs.Choice.{IsBestOf}
-use Rattle.pattern_core.specs.Plain.{BeginsIn}
+use Rattle.pattern_core.specs.Listing.{BeginsIn}
 use Rattle.pattern_core.proofs.listing.least_match.Given as goal
 
 -- the best of the matches whose first number was passed

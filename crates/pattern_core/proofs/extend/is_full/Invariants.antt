@@ -1,6 +1,6 @@
 use Rattle.std.proofs.Common.{◌≡◌, drop}
 use Rattle.pattern_core.specs.Matches.{is_full}
-use Rattle.pattern_core.proofs.extend.complete.Given as goal
+use Rattle.pattern_core.proofs.extend.is_full.Given as goal
 
 -- the patterns that are left decide
 abbrev pub invariant-loop-pattern : goal.invariant-loop-pattern
