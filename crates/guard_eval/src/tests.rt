@@ -1,6 +1,10 @@
 ghost use Rattle.std.specs.Prelude.{◌≡◌, ◌∷◌, [], false, IfOk};
+ghost use Rattle.guard_eval.specs.Condition.{Compares, Either, Never};
+ghost use Rattle.guard_eval.specs.Shape.{conjunct_condition};
 
-use crate::{Atom, Conjunct, ConjunctList, Leaf, Operand, Place, Signed, Term, WordsLeaf, holds};
+use crate::{
+    Atom, Conjunct, ConjunctList, Leaf, Operand, Place, Signed, Term, WordsLeaf, decided, holds,
+};
 use join_base::{Items, Letters, NoMemory, Relation, Slots, Text};
 use std::alloc::Global;
 use std::test::Fail;
@@ -113,5 +117,46 @@ fn each_relation_at_its_edge(rt: HostRuntime) -> Result<(), Fail> {
         assert_eq!(rt; compare(rt.alloc(), 7, relation, 7)?, same);
         assert_eq!(rt; compare(rt.alloc(), 8, relation, 7)?, above);
     }
+    Ok(())
+}
+
+// The variable of a pattern's first field.
+fn variable(alloc: Global, pattern: u32) -> Result<Operand, NoMemory>
+    ensures { IfOk result (λ o. o ≡ Operand.Sum (record { minus = false; leaf = Leaf.Field (record { pattern = pattern; field = 0 }) } ∷ [])) }
+{
+    let mut leaves = Items::new(alloc);
+    leaves.push(Signed {
+        minus: false,
+        leaf: Leaf::Field(Place { pattern, field: 0 }),
+    })?;
+    Ok(Operand::Sum(Term::new(leaves)))
+}
+
+// x == y, of two patterns
+fn equality(alloc: Global) -> Result<Conjunct, NoMemory>
+    ensures { IfOk result (λ c. conjunct_condition c ≡ Either (Compares (Operand.Sum (record { minus = false; leaf = Leaf.Field (record { pattern = 0; field = 0 }) } ∷ [])) Relation.Equal (Operand.Sum (record { minus = false; leaf = Leaf.Field (record { pattern = 1; field = 0 }) } ∷ []))) Never) }
+{
+    let left = variable(alloc, 0)?;
+    let right = variable(alloc, 1)?;
+    let mut conjunct = Conjunct::new(alloc);
+    conjunct.push(Atom::Compare {
+        left,
+        relation: Relation::Equal,
+        right,
+    })?;
+    Ok(conjunct)
+}
+
+#[test]
+fn a_conjunct_over_two_patterns_is_decided_where_both_are_filled(
+    rt: HostRuntime,
+) -> Result<(), Fail> {
+    let conjunct = equality(rt.alloc())?;
+    let mut slots = Slots::new(2);
+    assert!(rt; !decided(&conjunct, &slots));
+    slots.fill(0, 1);
+    assert!(rt; !decided(&conjunct, &slots));
+    slots.fill(1, 2);
+    assert!(rt; decided(&conjunct, &slots));
     Ok(())
 }

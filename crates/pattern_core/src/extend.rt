@@ -24,10 +24,8 @@ pub fn agrees(definition: &Definition, slots: &Slots, letters: &Letters) -> bool
     ensures { result ≡ is_agreeable letters.now definition.now.conjuncts slots.now }
 {
     for conjunct in definition.conjuncts.as_slice() {
-        if decided(conjunct, slots) {
-            if !holds(conjunct, slots, letters) {
-                return false;
-            }
+        if decided(conjunct, slots) && !holds(conjunct, slots, letters) {
+            return false;
         }
     }
     true
