@@ -9,9 +9,9 @@ mod truth;
 
 pub use conjunct::{Atom, Conjunct, ConjunctList};
 pub use standing::decided;
-pub use sums::sum;
+pub use sums::{integer, sum};
 pub use term::{Leaf, Operand, Place, Signed, Term, WordsLeaf};
-pub use truth::holds;
+pub use truth::{holds, words};
 
 #[cfg(test)]
 mod tests;

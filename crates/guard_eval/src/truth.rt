@@ -1,6 +1,7 @@
 //! Whether a conjunct is true at an assignment.
 ghost use Rattle.std.specs.Prelude.{◌≡◌, ◌++◌, ◌<◌, Some, length};
 ghost use Rattle.std.specs.List.{AllByRecursion};
+ghost use Rattle.join_base.specs.Text.{IsText};
 ghost use Rattle.guard_eval.specs.Meaning.{compares, int_relation, is_true, needs_of, operand_needs, words_needs, words_of, words_relation, words_value, value_at};
 ghost use Rattle.guard_eval.specs.Ready.{AreReady, IsWordsReady};
 ghost use Rattle.guard_eval.specs.Shape.{atom_condition, conjunct_condition};
@@ -36,7 +37,8 @@ fn words_relation(relation: Relation, text: &[u8], other: &[u8]) -> bool
 
 // The text of a value, and the empty one of an integer.
 fn words_of(value: &Value) -> &[u8]
-    ensures { result.now ≡ words_of (Some value.now) }
+    ensures value { result.now ≡ words_of (Some value.now) }
+    ensures text { IsText 120 result.now }
 {
     match value {
         Value::Int(_) => &[],
@@ -47,7 +49,8 @@ fn words_of(value: &Value) -> &[u8]
 // The text that a variable has.
 fn place_words<'a>(place: Place, slots: &Slots, letters: &'a Letters) -> &'a [u8]
     requires { IsWordsReady letters.now slots.now place }
-    ensures { result.now ≡ words_of (value_at letters.now slots.now place) }
+    ensures value { result.now ≡ words_of (value_at letters.now slots.now place) }
+    ensures text { IsText 120 result.now }
 {
     match slots.get(place.pattern) {
         Some(number) => {
@@ -58,9 +61,11 @@ fn place_words<'a>(place: Place, slots: &Slots, letters: &'a Letters) -> &'a [u8
     }
 }
 
-fn leaf_words<'a>(leaf: &'a WordsLeaf, slots: &Slots, letters: &'a Letters) -> &'a [u8]
+/// The text of a leaf, of at most 120 bytes.
+pub fn words<'a>(leaf: &'a WordsLeaf, slots: &Slots, letters: &'a Letters) -> &'a [u8]
     requires { AreReady letters.now slots.now (words_needs leaf.now) }
-    ensures { result.now ≡ words_value letters.now slots.now leaf.now }
+    ensures value { result.now ≡ words_value letters.now slots.now leaf.now }
+    ensures text { IsText 120 result.now }
 {
     match leaf {
         WordsLeaf::Fixed(text) => text.bytes(),
@@ -88,8 +93,8 @@ fn compares(
         ),
         (Operand::Words(left), Operand::Words(right)) => words_relation(
             relation,
-            leaf_words(left, slots, letters),
-            leaf_words(right, slots, letters),
+            words(left, slots, letters),
+            words(right, slots, letters),
         ),
         _ => false,
     }

@@ -13,6 +13,7 @@ use Rattle.guard_eval.proofs.ReadyLemmas.{each_at, letter_at-recorded}
 use Rattle.guard_eval.proofs.ExtendLemmas.{both_true}
 use Rattle.pattern_core.specs.Matches.{is_of_kind, is_full}
 use Rattle.pattern_core.specs.Suits.{IsRecorded, SlotsSuit, KindHas, NeedSuits}
+use Rattle.pattern_core.proofs.SuitsLemmas.{length-SlotsSuit}
 
 -- the first of the items that are left, and the others
 pub left_of : {X Y : Type 0} (f : X → Y) (xs : List X) (i : ℕ) (x : X) → i < length xs → x ≡ get_or xs i x → map f (drop i xs) ≡ f x ∷ map f (drop (i + 1) xs)
@@ -96,8 +97,14 @@ full_at [] p within full = absurd (omega arith)
 full_at (slot ∷ slots) zero within full = (both_true (is_slot_filled slot) (is_full slots) full).0
 full_at (slot ∷ slots) (suc p) within full = full_at slots p (omega arith) (both_true (is_slot_filled slot) (is_full slots) full).1
 
-pub filled_where_full : (slots : Assignment) (needs : List Need) → HavePlaces slots needs → is_full slots ≡ true → list_all (is_filled slots) needs ≡ true
+filled_where_full : (slots : Assignment) (needs : List Need) → HavePlaces slots needs → is_full slots ≡ true → list_all (is_filled slots) needs ≡ true
 filled_where_full slots [] places full = refl
 filled_where_full slots (need ∷ needs) places full =
     let here = full_at slots need.0.pattern places.0 full in
     (λ i. here i && list_all (is_filled slots) needs) ∙ filled_where_full slots needs places.1 full
+
+-- what evaluation asks for is there where no pattern is empty
+pub ready_where_full : (letters : List Message) (kinds : List ℕ) (slots : Assignment) (needs : List Need) → SlotsSuit letters kinds slots → AllByRecursion (NeedSuits letters kinds) needs → is_full slots ≡ true → AreReady letters slots needs
+ready_where_full letters kinds slots needs suits each full =
+    ready_where_filled letters kinds slots needs suits each
+    (filled_where_full slots needs (have_places letters kinds slots needs (length-SlotsSuit letters kinds slots suits) each) full)

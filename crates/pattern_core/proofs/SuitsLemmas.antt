@@ -1,9 +1,11 @@
 -- Slots that suit a definition: full ones, empty ones, and what follows.
-use Rattle.std.proofs.Common.{◌≡◌, ◌∙◌, ℕ, zero, suc, ◌+◌, ◌≤◌, List, [], ◌∷◌, length, drop, replicate, slice_get, slice_index, slice_set, Bool, true, false, ◌&&◌, ◌||◌, ◌<◌, Option, Some, None, refl, ap, sym, subst, arith}
-use Rattle.std.specs.Prelude.{◌==◌}
+use Rattle.std.proofs.Common.{◌≡◌, ◌∙◌, inl, inr, ℕ, zero, suc, ◌+◌, ◌≤◌, List, [], ◌∷◌, length, drop, replicate, slice_get, slice_index, slice_set, Bool, true, false, ◌&&◌, ◌||◌, ◌<◌, Option, Some, None, refl, ap, sym, subst, arith}
+use Rattle.std.specs.Prelude.{All, ◌==◌}
 use Rattle.std.proofs.lemmas.Bool.Decides.{nat_tests}
 use Rattle.join_base.specs.declared.message.Message.{Message}
 use Rattle.guard_eval.specs.Meaning.{Assignment, letter_at, is_slot_filled}
+use Rattle.pattern_core.specs.Assigns.{Assigns}
+use Rattle.pattern_core.specs.Members.{IsIn}
 use Rattle.pattern_core.specs.Matches.{is_of_kind, holds_number, slot_is, is_full}
 use Rattle.pattern_core.specs.Listing.{alone}
 use Rattle.pattern_core.specs.Suits.{IsRecorded, SlotsSuit}
@@ -77,6 +79,20 @@ pub suits_front : (letters : List Message) (kinds : List ℕ) (front : ℕ) (slo
 suits_front letters kinds front slots two recorded kind e =
     let P : List ℕ → Type 0 = λ ks. SlotsSuit letters ks (Some front ∷ None ∷ []) in
     subst (SlotsSuit letters kinds) (sym e) (subst P (sym (two_of kinds two)) (recorded, kind, refl, tt))
+
+pub recorded_of : (letters : List Message) (live : List ℕ) (n : ℕ) → All (IsRecorded letters) live → IsIn n live → IsRecorded letters n
+recorded_of letters [] n h m = absurd m
+recorded_of letters (x ∷ live) n h (inl e) = subst (IsRecorded letters) e (h 0 0 (omega arith))
+recorded_of letters (x ∷ live) n h (inr m) = recorded_of letters live n (λ k d l. h (suc k) d (omega arith)) m
+
+-- an assignment of recorded numbers suits
+pub suits_from_assigns : (letters : List Message) (live kinds : List ℕ) (slots : Assignment) → All (IsRecorded letters) live → Assigns letters live kinds slots → SlotsSuit letters kinds slots
+suits_from_assigns letters live [] [] recorded assigns = tt
+suits_from_assigns letters live [] (slot ∷ slots) recorded assigns = absurd assigns
+suits_from_assigns letters live (k ∷ kinds) [] recorded assigns = absurd assigns
+suits_from_assigns letters live (k ∷ kinds) (None ∷ slots) recorded assigns = suits_from_assigns letters live kinds slots recorded assigns
+suits_from_assigns letters live (k ∷ kinds) (Some n ∷ slots) recorded assigns =
+    (recorded_of letters live n recorded assigns.0.is_live, assigns.0.of_kind, assigns.0.apart, suits_from_assigns letters live kinds slots recorded assigns.1)
 
 pub not_full : (slots : Assignment) (i : ℕ) → slice_get slots i ≡ Some None → is_full slots ≡ false
 not_full [] i e = absurd cc

@@ -3,10 +3,10 @@ use Rattle.guard_eval.specs.Meaning.{words_of}
 use Rattle.guard_eval.proofs.ReadyLemmas.{value_at_parts}
 use Rattle.guard_eval.proofs.truth.place_words.Goals as goal
 
-pub returns-in-Some : goal.returns-in-Some
-returns-in-Some c =
+pub returns-in-Some-clause-value : goal.returns-in-Some-clause-value
+returns-in-Some-clause-value c =
     let here = c.in-Some.ensures.place in
     let same : c.requires.number ≡ c.in-Some.number = cc in
     let above : 1 ≤ c.in-Some.number = omega (arith, same, c.requires.above_zero) in
-    c.words_of.ensures
+    c.words_of.ensures.value
     ∙ ap words_of (sym (value_at_parts c.args.letters.now c.args.slots.now c.args.place c.in-Some.number c.at-message.result.now c.at.result.now here above c.at-message.ensures.item c.at.ensures.item))

@@ -4,7 +4,7 @@ use mir.Val.{to_z, of_z}
 use Rattle.std.proofs.lemmas.Int.{to_z-of_z}
 use Rattle.guard_eval.specs.Meaning.{int_of}
 use Rattle.guard_eval.proofs.ReadyLemmas.{value_at_parts}
-use Rattle.guard_eval.proofs.sums.place_value.Goals as goal
+use Rattle.guard_eval.proofs.sums.integer.Goals as goal
 
 pub returns-in-Some : goal.returns-in-Some
 returns-in-Some c =
