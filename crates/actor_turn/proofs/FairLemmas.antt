@@ -17,9 +17,8 @@ use Rattle.actor_turn.specs.Held.{IsKept}
 use Rattle.actor_turn.specs.Linked.{arrived, numbers_from}
 use Rattle.actor_turn.specs.Runnable.{AreRunnable}
 use Rattle.actor_turn.proofs.ListLemmas.{each_append}
-use Rattle.actor_turn.proofs.RunnableLemmas.{plain_from_runnable}
-use Rattle.actor_turn.proofs.KeptLemmas.{kept_by, ready_of_entries}
-use Rattle.actor_turn.proofs.StepLemmas.{number_of_newest, plain_step}
+use Rattle.actor_turn.proofs.KeptLemmas.{kept_by, ready_of_entries, testable_with}
+use Rattle.actor_turn.proofs.StepLemmas.{limitless_step, number_of_newest}
 
 -- the messages behind others are taken from the state that those leave
 pub after_all-append : (setting : Setting) (state : State) (first second : List Sent) → after_all setting state (first ++ second) ≡ after_all setting (after_all setting state first) second
@@ -41,7 +40,7 @@ numbers_from-more start (suc n) =
 abbrev pub running_with : List Entry → List ℕ → Late → State
 running_with entries live late = record { entries = entries; live = live; ending = Running; late = late }
 
-module _ (sorts : List (List Sort)) (rules : List Rule) (limits : Limits) (runnable : AreRunnable sorts rules) (arrivals : 1000 ≤ limits.arrivals) (partials : 32016 ≤ limits.partials) (late : Late) where
+module _ (actors : ℕ) (sorts : List (List Sort)) (rules : List Rule) (limits : Limits) (runnable : AreRunnable actors sorts rules) (arrivals : 1000 ≤ limits.arrivals) (partials : 32016 ≤ limits.partials) (late : Late) where
   abbrev setting : Setting
   setting = record { sorts = sorts; rules = rules; limits = limits }
 
@@ -63,7 +62,10 @@ module _ (sorts : List (List Sort)) (rules : List Rule) (limits : Limits) (runna
     -- the step fires or keeps, and the actor goes on
     pub step_is : fair_step setting (running_with entries live late) source message
         ≡ (running_with (entries ++ newest entries live source message ∷ []) (live_next entries live message) late, outcome_of (choice_with entries live message))
-    step_is = plain_step sorts rules limits entries live late source message (plain_from_runnable sorts rules runnable) room arrivals partials few fit (ready_of_entries sorts (letters_of entries) entries live kept message fit rules runnable)
+    step_is =
+        limitless_step sorts rules limits entries live late source message
+        (testable_with sorts (letters_of entries) entries live kept message fit actors rules runnable (letters_of entries ++ message ∷ []) refl)
+        room arrivals partials few fit (ready_of_entries sorts (letters_of entries) entries live kept message fit actors rules runnable)
 
     pub kept_next : IsKept sorts (letters_of (entries ++ newest entries live source message ∷ [])) (entries ++ newest entries live source message ∷ []) (live_next entries live message)
     kept_next =

@@ -1,23 +1,29 @@
 -- What a fair step records fits the plan.
-use Rattle.std.proofs.Common.{◌≡◌, ◌∙◌, ℕ, ℤ, suc, ◌+◌, ◌-◌, ◌*◌, ◌^◌, ◌<◌, ◌≤◌, List, [], ◌∷◌, length, length-append, Option, None, Some, refl, ap, sym, subst, arith}
+use Rattle.std.proofs.Common.{◌≡◌, ◌∙◌, ℕ, ℤ, pos, negsuc, neg_ℤ, ◌≤ℤ◌, Bool, true, false, zero, suc, ◌+◌, ◌-◌, ◌*◌, ◌^◌, ◌<◌, ◌≤◌, List, [], ◌∷◌, length, length-append, Option, None, Some, refl, ap, sym, subst, arith}
 use mir.Syntax.{w64}
-use mir.Val.{SFits}
 use lib.Signed.{mag}
-use Rattle.std.specs.Prelude.{All, IfSome, FitsSigned}
+use Rattle.std.specs.Prelude.{All, IfSome, FitsSigned, if◌then◌else◌}
 use Rattle.std.specs.List.{AllByRecursion}
-use Rattle.std.specs.Str.{IsUtf8}
+use Rattle.std.specs.Str.{IsAscii, IsUtf8}
 use Rattle.std.specs.Fmt.{signed_decimal}
 use Rattle.std.proofs.lemmas.Str.{IsUtf8-nil, IsUtf8-append, IsUtf8-from_ascii}
-use Rattle.std.proofs.lemmas.Fmt.{IsAscii-signed, length_signed_le}
+use Rattle.std.proofs.lemmas.Fmt.{IsAscii-decimal_wide, length-decimal-le_wide}
 use Rattle.std.proofs.lemmas.Int.{ints}
 use Rattle.join_base.specs.Text.{IsText}
 use Rattle.join_base.specs.declared.message.Sort.{Sort}
+use Rattle.join_base.specs.declared.message.Sort.TheVariants as sort
 use Rattle.join_base.specs.declared.message.Value.{Value}
-use Rattle.join_base.specs.declared.message.Value.TheVariants.{Int}
+use Rattle.join_base.specs.declared.message.Value.TheVariants.{Int, Words}
 use Rattle.join_base.specs.declared.message.Message.{Message}
 use Rattle.guard_eval.specs.declared.term.Place.{Place}
+use Rattle.guard_eval.specs.declared.term.Leaf.{Leaf}
+use Rattle.guard_eval.specs.declared.term.Leaf.TheVariants as leaf
+use Rattle.guard_eval.specs.declared.term.Signed.{Signed}
+use Rattle.guard_eval.specs.declared.term.WordsLeaf.{WordsLeaf}
 use Rattle.guard_eval.specs.declared.term.WordsLeaf.TheVariants as words
-use Rattle.guard_eval.specs.Meaning.{int_of}
+use Rattle.guard_eval.specs.Meaning.{Assignment, Need, int_of, is_of_sort, leaf_needs, leaf_value, term_needs, term_value, value_at, words_needs, words_of, words_value}
+use Rattle.guard_eval.specs.Ready.{AreReady, IsIntReady, IsReady}
+use Rattle.guard_eval.proofs.ReadyLemmas.{all_left, all_right, each_at, value_at_parts}
 use Rattle.pattern_core.specs.declared.definition.Definition.{Definition}
 use Rattle.pattern_core.specs.declared.candidate.Candidate.{Candidate}
 use Rattle.pattern_core.specs.Assigns.{Assigns}
@@ -33,13 +39,12 @@ use Rattle.script_types.specs.declared.plan.Statement.TheVariants as statement
 use Rattle.actor_turn.specs.declared.run.Effect.{Effect}
 use Rattle.actor_turn.specs.declared.run.Effect.TheVariants as effect
 use Rattle.actor_turn.specs.Body.{item_text, line_of, effects_of}
-use Rattle.actor_turn.specs.Fits.{ValueFits, MessageFits, EffectFits, FiringFits, ItemFits, StatementFits, RuleFits}
-use Rattle.actor_turn.specs.Ready.{IntReady, ItemReady, BodyReady, ChoiceReady}
+use Rattle.actor_turn.specs.Fits.{ValueFits, MessageFits, EffectFits, FiringFits, ItemFits, LeafFits, StatementFits, RuleFits, WordsFit}
+use Rattle.actor_turn.specs.Ready.{ItemReady, BodyReady, ChoiceReady}
 use Rattle.actor_turn.specs.Runnable.{IsRunnable, AreRunnable}
 use Rattle.actor_turn.specs.Step.{body_at, body_of, definitions_of, firing_of}
-use Rattle.actor_turn.proofs.ListLemmas.{each_at, mapped_at}
-use Rattle.actor_turn.proofs.ReadyLemmas.{value_at_parts}
-use Rattle.actor_turn.proofs.RunnableLemmas.{recorded_of}
+use Rattle.pattern_core.proofs.SuitsLemmas.{recorded_of}
+use Rattle.actor_turn.proofs.ListLemmas.{mapped_at}
 
 -- the effect is a print, of a text
 abbrev pub PrintFits : Effect → Type 0
@@ -51,15 +56,23 @@ effects_fit plan [] h = h
 effects_fit plan (effect.Print line ∷ effects) h = (h.0, effects_fit plan effects h.1)
 effects_fit plan (effect.Post target message ∷ effects) h = absurd h.0
 
-small_of : (z : ℤ) → SFits w64 z → mag z < 2 ^ 63
-small_of z f = omega (arith, ints)
+-- an integer of 128 bits is printed as a short text
+pub decimal_fits : (z : ℤ) → mag z < 2 ^ 127 → IsText 120 (signed_decimal z)
+decimal_fits z small = record { utf8 = IsUtf8-from_ascii (signed_decimal z) (ascii z small); short = short z small }
+  where
+    short : (z : ℤ) → mag z < 2 ^ 127 → length (signed_decimal z) ≤ 120
+    short (pos n) l = let k = length-decimal-le_wide 40 n (omega arith) (omega arith) (omega arith) in omega arith
+    short (negsuc n) l = let k = length-decimal-le_wide 40 (suc n) (omega arith) (omega arith) (omega arith) in omega arith
 
--- an integer of 64 bits is printed as a short text
-decimal_fits : (z : ℤ) → FitsSigned w64 z → IsText 120 (signed_decimal z)
-decimal_fits z f =
-    let small = small_of z f in
-    let short = length_signed_le 20 z (omega arith) small in
-    record { utf8 = IsUtf8-from_ascii (signed_decimal z) (IsAscii-signed z small); short = omega arith }
+    ascii : (z : ℤ) → mag z < 2 ^ 127 → IsAscii (signed_decimal z)
+    ascii (pos n) l i = IsAscii-decimal_wide n (omega arith) i
+    ascii (negsuc n) l zero = omega arith
+    ascii (negsuc n) l (suc i) = IsAscii-decimal_wide (suc n) (omega arith) i
+
+-- 64 leaves of 64 bits
+small_sum : (n : ℕ) (z : ℤ) → n ≤ 64 → neg_ℤ (pos (2 ^ 63 * n)) ≤ℤ z → z ≤ℤ pos (2 ^ 63 * n) → mag z < 2 ^ 127
+small_sum n (pos m) few low high = omega (arith, ints)
+small_sum n (negsuc m) few low high = omega (arith, ints)
 
 length-Assigns : (letters : List Message) (live kinds taken : List ℕ) → Assigns letters live kinds (slots_of taken) → length taken ≡ length kinds
 length-Assigns letters live [] [] a = refl
@@ -74,23 +87,59 @@ numbers_small letters live (kind ∷ kinds) [] r s a = absurd a
 numbers_small letters live (kind ∷ kinds) (n ∷ taken) r s a = let here = recorded_of letters live n r a.0.is_live in (omega (arith, here.1), numbers_small letters live kinds taken r s a.1)
 
 module _ (plan : Plan) (letters : List Message) (fitting : AllByRecursion (MessageFits plan) letters) where
-  int_fits : (taken : List ℕ) (place : Place) (ready : IntReady letters taken place) → FitsSigned w64 ready.value
-  int_fits taken place ready =
+  value_fits : (slots : Assignment) (place : Place) (type : Sort) (ready : IsReady letters slots place type) → ValueFits ready.value
+  value_fits slots place type ready =
       let message = each_at (MessageFits plan) letters (ready.number - 1) ready.message ready.recorded fitting in
-      each_at ValueFits ready.message.fields place.field (Int ready.value) ready.has_int message.values
+      each_at ValueFits ready.message.fields place.field ready.value ready.has message.values
 
-  item_fits : (taken : List ℕ) (i : Item) → ItemReady letters taken i → ItemFits i → IsText 120 (item_text letters (slots_of taken) i)
-  item_fits taken (item.Words (words.Fixed bytes)) ready fit = fit
-  item_fits taken (item.Words (words.Field place)) ready fit = absurd ready
-  item_fits taken (item.Plain place) ready fit =
-      let value = value_at_parts letters taken place ready.number ready.message (Int ready.value) ready.above_zero ready.takes ready.recorded ready.has_int in
-      subst (λ (bytes : List ℕ). IsText 120 bytes) (sym (ap (λ (v : Option Value). signed_decimal (int_of v)) value)) (decimal_fits ready.value (int_fits taken place ready))
-  item_fits taken (item.Sum term) ready fit = absurd ready
+  value_is : (slots : Assignment) (place : Place) (type : Sort) (ready : IsReady letters slots place type) → value_at letters slots place ≡ Some ready.value
+  value_is slots place type ready = value_at_parts letters slots place ready.number ready.message ready.value ready.filled ready.above_zero ready.recorded ready.has
 
-  line_parts : (taken : List ℕ) (items : List Item) → AllByRecursion (ItemReady letters taken) items → AllByRecursion ItemFits items → IsUtf8 (line_of letters (slots_of taken) items) × (length (line_of letters (slots_of taken) items) ≤ 120 * length items)
+  int_of_fits : (v : Value) → ValueFits v → is_of_sort sort.Int v ≡ true → FitsSigned w64 (int_of (Some v))
+  int_of_fits (Int n) fit typed = fit
+  int_of_fits (Words bytes) fit typed = absurd cc
+
+  words_of_fit : (v : Value) → ValueFits v → is_of_sort sort.Words v ≡ true → IsText 120 (words_of (Some v))
+  words_of_fit (Words bytes) fit typed = fit
+  words_of_fit (Int n) fit typed = absurd cc
+
+  int_fits : (slots : Assignment) (place : Place) → IsIntReady letters slots place → FitsSigned w64 (int_of (value_at letters slots place))
+  int_fits slots place ready =
+      subst (λ (o : Option Value). FitsSigned w64 (int_of o)) (sym (value_is slots place sort.Int ready)) (int_of_fits ready.value (value_fits slots place sort.Int ready) ready.of_type)
+
+  words_fit : (slots : Assignment) (w : WordsLeaf) → AreReady letters slots (words_needs w) → WordsFit w → IsText 120 (words_value letters slots w)
+  words_fit slots (words.Fixed bytes) ready fit = fit
+  words_fit slots (words.Field place) ready fit =
+      subst (λ (o : Option Value). IsText 120 (words_of o)) (sym (value_is slots place sort.Words ready.0)) (words_of_fit ready.0.value (value_fits slots place sort.Words ready.0) ready.0.of_type)
+
+  leaf_fits : (slots : Assignment) (l : Leaf) → AreReady letters slots (leaf_needs l) → LeafFits l → FitsSigned w64 (leaf_value letters slots l)
+  leaf_fits slots (leaf.Number n) ready fit = fit
+  leaf_fits slots (leaf.Field place) ready fit = int_fits slots place ready.0
+
+  signed_between : (minus : Bool) (z : ℤ) → FitsSigned w64 z → (neg_ℤ (pos (2 ^ 63)) ≤ℤ (if minus then neg_ℤ z else z)) × ((if minus then neg_ℤ z else z) ≤ℤ pos (2 ^ 63))
+  signed_between true z fit = (omega (arith, ints), omega (arith, ints))
+  signed_between false z fit = (omega (arith, ints), omega (arith, ints))
+
+  sum_between : (slots : Assignment) (leaves : List Signed) → AreReady letters slots (term_needs leaves) → AllByRecursion (λ (s : Signed). LeafFits s.leaf) leaves
+      → (neg_ℤ (pos (2 ^ 63 * length leaves)) ≤ℤ term_value letters slots leaves) × (term_value letters slots leaves ≤ℤ pos (2 ^ 63 * length leaves))
+  sum_between slots [] ready fit = (omega (arith, ints), omega (arith, ints))
+  sum_between slots (s ∷ more) ready fit =
+      let IsReadyNeed : Need → Type 0 = λ n. IsReady letters slots n.0 n.1 in
+      let here = signed_between s.minus (leaf_value letters slots s.leaf) (leaf_fits slots s.leaf (all_left IsReadyNeed (leaf_needs s.leaf) (term_needs more) ready) fit.0) in
+      let later = sum_between slots more (all_right IsReadyNeed (leaf_needs s.leaf) (term_needs more) ready) fit.1 in
+      (omega (arith, ints, here.0, later.0), omega (arith, ints, here.1, later.1))
+
+  item_fits : (slots : Assignment) (i : Item) → ItemReady letters slots i → ItemFits i → IsText 120 (item_text letters slots i)
+  item_fits slots (item.Words w) ready fit = words_fit slots w ready fit
+  item_fits slots (item.Plain place) ready fit = let small = int_fits slots place ready.0 in decimal_fits (int_of (value_at letters slots place)) (omega (arith, ints))
+  item_fits slots (item.Sum leaves) ready fit =
+      let between = sum_between slots leaves ready fit.each in
+      decimal_fits (term_value letters slots leaves) (small_sum (length leaves) (term_value letters slots leaves) fit.few between.0 between.1)
+
+  line_parts : (taken : List ℕ) (items : List Item) → AllByRecursion (ItemReady letters (slots_of taken)) items → AllByRecursion ItemFits items → IsUtf8 (line_of letters (slots_of taken) items) × (length (line_of letters (slots_of taken) items) ≤ 120 * length items)
   line_parts taken [] ready fit = (IsUtf8-nil, omega arith)
   line_parts taken (i ∷ items) ready fit =
-      let text = item_fits taken i ready.0 fit.0 in
+      let text = item_fits (slots_of taken) i ready.0 fit.0 in
       let rest = line_parts taken items ready.1 fit.1 in
       let short = text.short in
       let joined = length-append (item_text letters (slots_of taken) i) (line_of letters (slots_of taken) items) in
@@ -105,15 +154,15 @@ module _ (plan : Plan) (letters : List Message) (fitting : AllByRecursion (Messa
   body_prints taken (statement.Stop ∷ body) ready fit = absurd ready.0
 
   -- what a choice fires
-  pub firing_fits : (sorts : List (List Sort)) (rules : List Rule) → AreRunnable sorts rules → AllByRecursion RuleFits rules → (live : List ℕ) → All (IsRecorded letters) live → length letters < 2 ^ 32
+  pub firing_fits : (actors : ℕ) (sorts : List (List Sort)) (rules : List Rule) → AreRunnable actors sorts rules → AllByRecursion RuleFits rules → (live : List ℕ) → All (IsRecorded letters) live → length letters < 2 ^ 32
       → (o : Option Candidate) → IsChosen letters live (definitions_of rules) o → ChoiceReady rules letters o → IfSome (firing_of rules letters o) (λ f. FiringFits plan f × AllByRecursion PrintFits f.effects)
-  firing_fits sorts rules runnable texts live recorded small None chosen ready = tt
-  firing_fits sorts rules runnable texts live recorded small (Some c) chosen ready =
+  firing_fits actors sorts rules runnable texts live recorded small None chosen ready = tt
+  firing_fits actors sorts rules runnable texts live recorded small (Some c) chosen ready =
       let d : Definition = chosen.0.definition in
       let placed = place_of 1 (definitions_of rules) c.rule d chosen.0.numbered in
       let found = mapped_at (λ (r : Rule). r.definition) rules (c.rule - 1) d placed.found in
       let rule : Rule = found.0 in
-      let plain = (each_at (IsRunnable sorts) rules (c.rule - 1) rule found.1 runnable.each).definition in
+      let short = (each_at (IsRunnable actors sorts) rules (c.rule - 1) rule found.1 runnable.each).short in
       let Texts : Option Rule → Type 0 = λ o. AllByRecursion StatementFits (body_of o) in
       let text = subst Texts (sym found.1) (each_at RuleFits rules (c.rule - 1) rule found.1 texts) in
       let prints = body_prints c.taken (body_at rules c.rule) ready text in
@@ -121,8 +170,8 @@ module _ (plan : Plan) (letters : List Message) (fitting : AllByRecursion (Messa
       let below : c.rule < 1 + length rules = omega (arith, placed.below, definitions_count rules) in (
         record {
           rule = omega (arith, below, runnable.few);
-          some = omega (arith, count, plain.some);
-          few = omega (arith, count, plain.few);
+          some = omega (arith, count, short.some);
+          few = omega (arith, count, short.few);
           numbers = numbers_small letters live d.patterns c.taken recorded small chosen.0.assigns;
           effects = effects_fit plan (effects_of letters c.taken (body_at rules c.rule)) prints;
         },

@@ -19,8 +19,8 @@ use Rattle.actor_turn.specs.Step.{definitions_of, fits, letters_of, live_after, 
 use Rattle.script_types.specs.declared.plan.Rule.{Rule}
 use Rattle.pattern_core.specs.Choice.{choice}
 use Rattle.actor_turn.specs.Ready.{ChoiceReady}
-use Rattle.actor_turn.specs.Runnable.{AreRunnable}
-use Rattle.actor_turn.proofs.RunnableLemmas.{choice_ready}
+use Rattle.actor_turn.specs.Runnable.{AreRunnable, AreTestable}
+use Rattle.actor_turn.proofs.RunnableLemmas.{choice_ready, testable}
 use Rattle.actor_turn.proofs.StepLemmas.{number_of_newest}
 use Rattle.join_base.specs.declared.message.Source.{Source}
 use Rattle.join_base.specs.declared.message.Source.TheVariants.{Feed, Actor}
@@ -142,14 +142,18 @@ module _ (sorts : List (List Sort)) (letters : List Message) (entries : List Ent
       (subst (λ (x : List Entry). IsKept sorts pushed x end) (sym ee)
       (subst (λ (x : List Message). IsKept sorts x (entries ++ entry ∷ []) end) (sym ep) (kept_more entry own room o)))
 
+  -- the guards may be tested with the newest letter
+  pub testable_with : (actors : ℕ) (rules : List Rule) → AreRunnable actors sorts rules → (pushed : List Message) → pushed ≡ longer → AreTestable pushed rules
+  testable_with actors rules runnable pushed e = subst (λ (xs : List Message). AreTestable xs rules) (sym e) (testable sorts longer all_fit actors rules runnable)
+
   -- the body of the chosen rule can run at the choice with the newest letter
-  pub ready_with : (rules : List Rule) → AreRunnable sorts rules → (pushed : List Message) (number : ℕ) → pushed ≡ longer → number ≡ length pushed → ChoiceReady rules pushed (choice pushed (live ++ number ∷ []) (definitions_of rules))
-  ready_with rules runnable pushed number e n =
+  pub ready_with : (actors : ℕ) (rules : List Rule) → AreRunnable actors sorts rules → (pushed : List Message) (number : ℕ) → pushed ≡ longer → number ≡ length pushed → ChoiceReady rules pushed (choice pushed (live ++ number ∷ []) (definitions_of rules))
+  ready_with actors rules runnable pushed number e n =
       let end : List ℕ = live ++ length longer ∷ [] in
       subst (λ (m : ℕ). ChoiceReady rules pushed (choice pushed (live ++ m ∷ []) (definitions_of rules))) (sym n)
       (subst (λ (xs : List Message). ChoiceReady rules xs (choice xs (live ++ length xs ∷ []) (definitions_of rules))) (sym e)
-      (choice_ready sorts longer all_fit end all_recorded rules runnable))
+      (choice_ready sorts longer all_fit end all_recorded actors rules runnable))
 
-  pub ready_of_entries : (rules : List Rule) → AreRunnable sorts rules → ChoiceReady rules (letters_of entries ++ message ∷ []) (choice (letters_of entries ++ message ∷ []) (live ++ (length entries + 1) ∷ []) (definitions_of rules))
-  ready_of_entries rules runnable =
-      ready_with rules runnable (letters_of entries ++ message ∷ []) (length entries + 1) (ap (λ (xs : List Message). xs ++ message ∷ []) (sym k.same)) (sym (number_of_newest entries message))
+  pub ready_of_entries : (actors : ℕ) (rules : List Rule) → AreRunnable actors sorts rules → ChoiceReady rules (letters_of entries ++ message ∷ []) (choice (letters_of entries ++ message ∷ []) (live ++ (length entries + 1) ∷ []) (definitions_of rules))
+  ready_of_entries actors rules runnable =
+      ready_with actors rules runnable (letters_of entries ++ message ∷ []) (length entries + 1) (ap (λ (xs : List Message). xs ++ message ∷ []) (sym k.same)) (sym (number_of_newest entries message))

@@ -1,6 +1,6 @@
 pub mod Examples
 pub mod ListLemmas
-pub mod ReadyLemmas
+pub mod TypedLemmas
 pub mod RunnableLemmas
 pub mod StepLemmas
 pub mod KeptLemmas

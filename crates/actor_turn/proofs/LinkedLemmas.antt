@@ -23,7 +23,8 @@ use Rattle.actor_turn.specs.declared.run.Firing.{Firing}
 use Rattle.actor_turn.specs.declared.run.ActorRun.{ActorRun}
 use Rattle.actor_turn.specs.declared.run.Run.{Run}
 use Rattle.actor_turn.specs.Step.{Late, definitions_of, firing_of, fits, letters_of}
-use Rattle.actor_turn.specs.Fair.{Sent, fair, fair_run, late_counts, partials_of, rules_of, run_of, sorts_of}
+use Rattle.script_types.specs.Typed.{kind_types}
+use Rattle.actor_turn.specs.Fair.{Sent, fair, fair_run, late_counts, partials_of, rules_of, run_of}
 use Rattle.actor_turn.specs.Fits.{ActorRunFits, EntryFits, FiringFits, IsFrom1To, MessageFits, PostFits, RuleFits, SourceFits}
 use Rattle.actor_turn.specs.Held.{IsKept}
 use Rattle.actor_turn.specs.Linked.{arrived, effect_for, entry_effects, firing_effects, given, message_from, post_for, posts_of, rest_of, same_source, sources, taken_from, unfit_first, IsLinked, IsLinkedActor}
@@ -32,7 +33,7 @@ use Rattle.actor_turn.proofs.FairLemmas.{Ran, newest, ran_over, running_with}
 use Rattle.actor_turn.proofs.FitsLemmas.{PrintFits, firing_fits}
 use Rattle.actor_turn.proofs.KeptLemmas.{late_list_zero, ready_of_entries, recorded_with}
 use Rattle.actor_turn.proofs.ListLemmas.{each_append, each_map, each_replicate}
-use Rattle.actor_turn.proofs.RunnableLemmas.{plain_from_runnable}
+use Rattle.actor_turn.proofs.RunnableLemmas.{runnable_short}
 use Rattle.actor_turn.proofs.StepLemmas.{number_of_newest}
 
 -- the messages as the only feed sends them
@@ -57,7 +58,7 @@ pub record SentFits (plan : Plan) (sent : Sent) : Type 0 where
 sent_fits : (plan : Plan) (posts : List (ℕ × Message)) → AllByRecursion (PostFits plan) posts → AllByRecursion (SentFits plan) (sent_of posts)
 sent_fits plan posts h = each_map (PostFits plan) (SentFits plan) sent_post (λ post p. record { source = (omega arith, omega arith); message = p.message }) posts h
 
-kinds_fit : (plan : Plan) (sent : List Sent) → AllByRecursion (SentFits plan) sent → AllByRecursion (λ s. fits (sorts_of plan.kinds) s.1 ≡ true) sent
+kinds_fit : (plan : Plan) (sent : List Sent) → AllByRecursion (SentFits plan) sent → AllByRecursion (λ s. fits (kind_types plan.kinds) s.1 ≡ true) sent
 kinds_fit plan [] h = tt
 kinds_fit plan (s ∷ sent) h = (h.0.message.kind, kinds_fit plan sent h.1)
 
@@ -127,9 +128,9 @@ none_dropped : (source : Source) (xs : List Message) → map (with_source source
 none_dropped source [] = refl
 none_dropped source (x ∷ xs) = none_dropped source xs
 
-module _ (plan : Plan) (limits : Limits) (one : length plan.actors ≡ 1) (runnable : AreRunnable (sorts_of plan.kinds) (rules_of (slice_get plan.actors 0))) (texts : AllByRecursion RuleFits (rules_of (slice_get plan.actors 0))) (arrivals : 1000 ≤ limits.arrivals) (partials : 32016 ≤ limits.partials) where
+module _ (plan : Plan) (limits : Limits) (one : length plan.actors ≡ 1) (runnable : AreRunnable (length plan.actors) (kind_types plan.kinds) (rules_of (slice_get plan.actors 0))) (texts : AllByRecursion RuleFits (rules_of (slice_get plan.actors 0))) (arrivals : 1000 ≤ limits.arrivals) (partials : 32016 ≤ limits.partials) where
   abbrev sorts : List (List Sort)
-  sorts = sorts_of plan.kinds
+  sorts = kind_types plan.kinds
 
   abbrev rules : List Rule
   rules = rules_of (slice_get plan.actors 0)
@@ -142,14 +143,14 @@ module _ (plan : Plan) (limits : Limits) (one : length plan.actors ≡ 1) (runna
 
   -- a new entry fits the plan
   next_sound : (entries : List Entry) (live : List ℕ) → IsKept sorts (letters_of entries) entries live → length entries < 1000 → AllByRecursion (EntrySound plan) entries → (sent : Sent) → SentFits plan sent → fits sorts sent.1 ≡ true
-      → EntrySound plan (newest sorts rules limits runnable arrivals partials late entries live sent.0 sent.1)
+      → EntrySound plan (newest (length plan.actors) sorts rules limits runnable arrivals partials late entries live sent.0 sent.1)
   next_sound entries live kept room each sent s fit =
       let letters : List Message = letters_of entries ++ sent.1 ∷ [] in
       let count : length letters ≡ length entries + 1 = number_of_newest entries sent.1 in
       let numbers : List ℕ = live ++ (length entries + 1) ∷ [] in
       let fitting = each_append (MessageFits plan) (letters_of entries) (sent.1 ∷ []) (messages_fit plan entries each) (s.message, tt) in
       let recorded = recorded_with sorts (letters_of entries) entries live kept sent.1 fit letters (length entries + 1) refl (sym count) in
-      let fired = firing_fits plan letters fitting sorts rules runnable texts numbers recorded (omega arith) (choice letters numbers (definitions_of rules)) (choice_is_chosen letters numbers (definitions_of rules)) (ready_of_entries sorts (letters_of entries) entries live kept sent.1 fit rules runnable) in
+      let fired = firing_fits plan letters fitting (length plan.actors) sorts rules runnable texts numbers recorded (omega arith) (choice letters numbers (definitions_of rules)) (choice_is_chosen letters numbers (definitions_of rules)) (ready_of_entries sorts (letters_of entries) entries live kept sent.1 fit (length plan.actors) rules runnable) in
       let firing : Option Firing = firing_of rules letters (choice letters numbers (definitions_of rules)) in
       record {
         fit = record { number = omega arith; source = s.source; message = s.message; firing = firing_only plan firing fired };
@@ -161,13 +162,13 @@ module _ (plan : Plan) (limits : Limits) (one : length plan.actors ≡ 1) (runna
     kept_none = record { same = refl; fitting = λ k d l. absurd (omega arith); recorded = λ k d l. absurd (omega arith); few = omega arith; counted = omega arith; ascending = λ k l. absurd (omega arith) }
 
     abbrev ran_is : Type 0
-    ran_is = Ran sorts rules limits runnable arrivals partials late (EntrySound plan) [] (sent_of posts) (fair plan 0 limits 1 (sent_of posts))
+    ran_is = Ran (length plan.actors) sorts rules limits runnable arrivals partials late (EntrySound plan) [] (sent_of posts) (fair plan 0 limits 1 (sent_of posts))
 
     ran : ran_is
     ran =
         let count : length (sent_of posts) ≡ length posts = length-map posts sent_post in
         let sent = sent_fits plan posts each_post in
-        ran_over sorts rules limits runnable arrivals partials late (EntrySound plan) (SentFits plan) next_sound (sent_of posts) [] [] kept_none (omega arith) refl tt (kinds_fit plan (sent_of posts) sent) sent
+        ran_over (length plan.actors) sorts rules limits runnable arrivals partials late (EntrySound plan) (SentFits plan) next_sound (sent_of posts) [] [] kept_none (omega arith) refl tt (kinds_fit plan (sent_of posts) sent) sent
 
     -- the run of the only actor, by the entries and the live numbers of its state
     module _ (r : ran_is) where
@@ -243,14 +244,14 @@ module _ (plan : Plan) (limits : Limits) (one : length plan.actors ≡ 1) (runna
 
       own_fits : ActorRunFits plan 1 own
       own_fits =
-          let plain = plain_from_runnable sorts rules runnable in
-          let few_rules : length (definitions_of rules) ≤ 16 = omega (arith, length-map rules (λ (x : Rule). x.definition), plain.few) in
+          let short = runnable_short (length plan.actors) sorts rules runnable in
+          let few_rules : length (definitions_of rules) ≤ 16 = omega (arith, length-map rules (λ (x : Rule). x.definition), runnable.few) in
           let count = length-map r.entries (λ (e : Entry). e.message) in
           let posted : length (sent_of posts) ≡ length posts = length-map posts sent_post in
           let recorded : length (arrived r.entries) ≡ length (sent_of posts) = ap length r.arrived_is in
           let entries_count : length (arrived r.entries) ≡ length r.entries = length-map r.entries entry_sent in
           let low : length r.live ≤ 1000 = omega (arith, r.kept.few) in
-          let most = partial_count_most (letters_of r.entries) r.live (definitions_of rules) plain.each few_rules low in
+          let most = partial_count_most (letters_of r.entries) r.live (definitions_of rules) short few_rules low in
           record {
             entries = entries_fit r.entries r.each;
             late = tt;

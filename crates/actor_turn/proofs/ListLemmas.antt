@@ -1,12 +1,19 @@
 -- A fact that holds of each item of a list.
-use Rattle.std.proofs.Common.{◌≡◌, ◌∙◌, ℕ, zero, suc, ◌+◌, ◌<◌, ◌≤◌, sym, List, [], ◌∷◌, ◌++◌, take, get_or, length, slice_get, map, replicate, Some, refl, subst}
+use Rattle.std.proofs.Common.{◌≡◌, ◌∙◌, ℕ, zero, suc, ◌+◌, ◌<◌, ◌≤◌, sym, List, [], ◌∷◌, ◌++◌, take, get_or, length, slice_get, map, replicate, Some, refl, subst, arith}
+use Rattle.std.specs.Prelude.{All}
 use Rattle.std.specs.List.{AllByRecursion}
 use Rattle.std.proofs.lemmas.List.{take_more, take_all}
+pub use Rattle.guard_eval.proofs.ReadyLemmas.{each_at}
 
-pub each_at : {X : Type 0} (P : X → Type 0) (xs : List X) (i : ℕ) (x : X) → slice_get xs i ≡ Some x → AllByRecursion P xs → P x
-each_at P [] i x e h = absurd cc
-each_at {X} P (y ∷ xs) zero x e h = let same : y ≡ x = cc in subst P same h.0
-each_at P (y ∷ xs) (suc i) x e h = each_at P xs i x e h.1
+-- a fact that follows from another for each item
+pub each_from : {X : Type 0} (P Q : X → Type 0) → ((x : X) → P x → Q x) → (xs : List X) → AllByRecursion P xs → AllByRecursion Q xs
+each_from P Q h [] a = a
+each_from P Q h (x ∷ xs) a = (h x a.0, each_from P Q h xs a.1)
+
+-- from a fact of the item at each place
+pub each_from_All : {X : Type 0} (P : X → Type 0) (xs : List X) → All P xs → AllByRecursion P xs
+each_from_All P [] h = tt
+each_from_All P (x ∷ xs) h = (h 0 x (omega arith), each_from_All P xs (λ k d l. h (suc k) d (omega arith)))
 
 pub each_map : {X Y : Type 0} (P : X → Type 0) (Q : Y → Type 0) (f : X → Y) → ((x : X) → P x → Q (f x)) → (xs : List X) → AllByRecursion P xs → AllByRecursion Q (map f xs)
 each_map P Q f h [] a = a

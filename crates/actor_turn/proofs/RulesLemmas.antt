@@ -7,11 +7,12 @@ use Rattle.join_base.specs.declared.message.Message.{Message}
 use Rattle.pattern_core.specs.declared.candidate.Candidate.{Candidate}
 use Rattle.pattern_core.specs.Matches.{partial_matches, partial_count, complete_matches}
 use Rattle.pattern_core.specs.Choice.{candidate_of, choice, least, lesser_of, IsChosen}
-use Rattle.pattern_core.specs.Plain.{IsPlain}
+use Rattle.pattern_core.specs.Listing.{IsShort}
+use Rattle.pattern_core.specs.Suits.{DefinitionSuits}
 use Rattle.pattern_core.proofs.DefinitionsLemmas.{choice_more, partial_count_more, place_of}
 use Rattle.pattern_core.proofs.LawLemmas.{choice_is_chosen}
 use Rattle.script_types.specs.declared.plan.Rule.{Rule}
-use Rattle.actor_turn.specs.Runnable.{ArePlain}
+use Rattle.actor_turn.specs.Runnable.{AreTestable}
 use Rattle.actor_turn.specs.Step.{definitions_of}
 use Rattle.actor_turn.proofs.ListLemmas.{each_at}
 
@@ -24,8 +25,11 @@ definition_at rules i rule l e =
     at_map (r ∷ rs) zero h = let same : r ≡ rule = cc in ap (λ (x : Rule). Some x.definition) same
     at_map (r ∷ rs) (suc k) h = at_map rs k h
 
-pub plain_at : (rules : List Rule) (i : ℕ) (rule : Rule) → ArePlain rules → i < length rules → rule ≡ get_or rules i rule → IsPlain rule.definition
-plain_at rules i rule plain l e = each_at IsPlain (definitions_of rules) i rule.definition (definition_at rules i rule l e) plain.each
+pub short_at : (letters : List Message) (rules : List Rule) (i : ℕ) (rule : Rule) → AreTestable letters rules → i < length rules → rule ≡ get_or rules i rule → IsShort rule.definition
+short_at letters rules i rule t l e = each_at IsShort (definitions_of rules) i rule.definition (definition_at rules i rule l e) t.short
+
+pub suits_at : (letters : List Message) (rules : List Rule) (i : ℕ) (rule : Rule) → AreTestable letters rules → i < length rules → rule ≡ get_or rules i rule → DefinitionSuits letters rule.definition
+suits_at letters rules i rule t l e = each_at (DefinitionSuits letters) (definitions_of rules) i rule.definition (definition_at rules i rule l e) t.suits
 
 definitions_more : (rules : List Rule) (i : ℕ) (rule : Rule) → i < length rules → rule ≡ get_or rules i rule → definitions_of (take (i + 1) rules) ≡ definitions_of (take i rules) ++ rule.definition ∷ []
 definitions_more rules i rule l e =

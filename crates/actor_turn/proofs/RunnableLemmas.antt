@@ -1,137 +1,118 @@
--- The body of a runnable rule can run at every match over letters that fit.
-use Rattle.std.proofs.Common.{◌≡◌, ◌∙◌, ℕ, ℤ, zero, suc, ◌-◌, ◌<◌, List, [], ◌∷◌, length, get_or, Bool, true, false, ◌&&◌, Option, None, Some, inl, inr, refl, ap, sym, subst, arith, slice_get}
-use Rattle.std.specs.Prelude.{◌==◌, All}
+-- The definitions of runnable rules may be tested over letters that fit, and their bodies can run at every match.
+use Rattle.std.proofs.Common.{◌≡◌, ◌∙◌, ℕ, zero, suc, ◌-◌, List, [], ◌∷◌, true, Option, None, Some, refl, ap, sym, subst, slice_get, slice_index}
+use Rattle.std.specs.Prelude.{All}
 use Rattle.std.specs.List.{AllByRecursion}
-use Rattle.std.proofs.lemmas.Bool.Decides.{nat_tests}
-use Rattle.std.proofs.lemmas.Option.{slice_get-get_or}
+use Rattle.std.specs.Option.{option_and_then}
+use Rattle.std.proofs.lemmas.Option.{slice_get_within, get_or_from_slice_get}
 use Rattle.join_base.specs.declared.message.Sort.{Sort}
-use Rattle.join_base.specs.declared.message.Sort.TheVariants as sort
 use Rattle.join_base.specs.declared.message.Value.{Value}
-use Rattle.join_base.specs.declared.message.Value.TheVariants.{Int, Words}
 use Rattle.join_base.specs.declared.message.Message.{Message}
-use Rattle.guard_eval.specs.declared.term.Place.{Place}
-use Rattle.guard_eval.specs.declared.term.WordsLeaf.TheVariants as words
-use Rattle.guard_eval.specs.Meaning.{letter_at, is_of_sort}
+use Rattle.guard_eval.specs.Condition.{Condition}
+use Rattle.guard_eval.specs.Meaning.{Need, has_sort, is_of_sort, needs_of}
+use Rattle.guard_eval.proofs.ExtendLemmas.{both_true}
+use Rattle.guard_eval.proofs.ReadyLemmas.{each_at}
 use Rattle.pattern_core.specs.declared.definition.Definition.{Definition}
 use Rattle.pattern_core.specs.declared.candidate.Candidate.{Candidate}
-use Rattle.pattern_core.specs.Members.{IsIn}
-use Rattle.pattern_core.specs.Plain.{IsPlain}
-use Rattle.pattern_core.specs.Matches.{is_of_kind}
 use Rattle.pattern_core.specs.Assigns.{Assigns}
-use Rattle.pattern_core.specs.Suits.{IsRecorded}
+use Rattle.pattern_core.specs.Listing.{IsShort}
+use Rattle.pattern_core.specs.Suits.{DefinitionSuits, IsRecorded, KindHas, NeedSuits, SlotsSuit}
 use Rattle.pattern_core.specs.Choice.{slots_of, choice, IsChosen}
 use Rattle.pattern_core.proofs.DefinitionsLemmas.{place_of}
-use Rattle.pattern_core.proofs.LawLemmas.{choice_is_chosen}
+use Rattle.pattern_core.proofs.GuardLemmas.{ready_where_full}
+use Rattle.pattern_core.proofs.LawLemmas.{choice_is_chosen, is_full-slots_of}
+use Rattle.pattern_core.proofs.SuitsLemmas.{suits_from_assigns}
 use Rattle.script_types.specs.declared.plan.Rule.{Rule}
 use Rattle.script_types.specs.declared.plan.Item.{Item}
-use Rattle.script_types.specs.declared.plan.Item.TheVariants as item
 use Rattle.script_types.specs.declared.plan.Statement.{Statement}
 use Rattle.script_types.specs.declared.plan.Statement.TheVariants as statement
+use Rattle.script_types.specs.Typed.{HasType, IsTypedCondition, IsTypedItem, IsTypedStatement, Sorts}
 use Rattle.actor_turn.specs.Step.{are_of_sorts, body_of, definitions_of, fits, fits_sorts}
-use Rattle.actor_turn.specs.Ready.{IntReady, ItemReady, BodyReady, ChoiceReady}
-use Rattle.actor_turn.specs.Runnable.{PlaceTyped, ItemRunnable, StatementRunnable, IsRunnable, AreRunnable, ArePlain}
-use Rattle.actor_turn.proofs.ListLemmas.{each_at, each_map, mapped_at}
-use Rattle.actor_turn.proofs.ReadyLemmas.{letter_at-recorded}
+use Rattle.actor_turn.specs.Ready.{ItemReady, BodyReady, ChoiceReady, item_needs}
+use Rattle.actor_turn.specs.Runnable.{IsPrint, IsRunnable, AreRunnable, AreTestable}
+use Rattle.actor_turn.proofs.ListLemmas.{each_from, each_from_All, each_map, mapped_at}
+use Rattle.actor_turn.proofs.TypedLemmas.{AreTypedNeeds, condition_typed, item_typed}
 
--- a field of the type int holds an integer
-int_of_sort : (v : Value) → is_of_sort sort.Int v ≡ true → (z : ℤ) × (v ≡ Int z)
-int_of_sort (Int z) e = (z, refl)
-int_of_sort (Words bytes) e = absurd cc
-
-both : (a b : Bool) → (a && b) ≡ true → (a ≡ true) × (b ≡ true)
-both true b e = (refl, e)
-both false b e = absurd cc
-
-field_int : (types : List Sort) (values : List Value) (f : ℕ) → are_of_sorts types values ≡ true → slice_get types f ≡ Some sort.Int → (z : ℤ) × (slice_get values f ≡ Some (Int z))
-field_int [] [] f e h = absurd cc
-field_int [] (v ∷ values) f e h = absurd cc
-field_int (t ∷ types) [] f e h = absurd cc
-field_int (t ∷ types) (v ∷ values) zero e h =
-    let first = (both (is_of_sort t v) (are_of_sorts types values) e).0 in
-    let int : t ≡ sort.Int = cc in
-    let r = int_of_sort v (ap (λ (x : Sort). is_of_sort x v) (sym int) ∙ first) in
-    (r.0, ap Some r.1)
-field_int (t ∷ types) (v ∷ values) (suc f) e h = field_int types values f (both (is_of_sort t v) (are_of_sorts types values) e).1 h
+-- values of these types have one at each place of a type
+value_of_type : (types : List Sort) (values : List Value) (field : ℕ) (type : Sort) → are_of_sorts types values ≡ true → slice_get types field ≡ Some type → has_sort type (slice_get values field) ≡ true
+value_of_type [] [] field type e h = absurd cc
+value_of_type [] (v ∷ values) field type e h = absurd cc
+value_of_type (t ∷ types) [] field type e h = absurd cc
+value_of_type (t ∷ types) (v ∷ values) zero type e h =
+    let same : t ≡ type = cc in
+    ap (λ (x : Sort). is_of_sort x v) (sym same) ∙ (both_true (is_of_sort t v) (are_of_sorts types values) e).0
+value_of_type (t ∷ types) (v ∷ values) (suc field) type e h = value_of_type types values field type (both_true (is_of_sort t v) (are_of_sorts types values) e).1 h
 
 fits_of : (o : Option (List Sort)) (types : List Sort) (values : List Value) → o ≡ Some types → fits_sorts o values ≡ true → are_of_sorts types values ≡ true
 fits_of None types values e h = absurd cc
 fits_of (Some found) types values e h = let same : found ≡ types = cc in ap (λ (x : List Sort). are_of_sorts x values) (sym same) ∙ h
 
--- the number that an assignment gives a pattern, with its message
-pub record Taken (letters : List Message) (live taken : List ℕ) (p kind : ℕ) : Type 0 where
-  pub number : ℕ
-  pub takes : slice_get taken p ≡ Some number
-  pub is_live : IsIn number live
-  pub of_kind : is_of_kind (letter_at letters number) kind ≡ true
+steps_of : {X Y : Type 0} (f : X → Option Y) (o : Option X) (y : Y) → option_and_then f o ≡ Some y → (x : X) × (o ≡ Some x) × (f x ≡ Some y)
+steps_of f None y e = absurd cc
+steps_of f (Some x) y e = (x, refl, e)
 
-taken_at : (letters : List Message) (live kinds taken : List ℕ) (p kind : ℕ) → Assigns letters live kinds (slots_of taken) → slice_get kinds p ≡ Some kind → Taken letters live taken p kind
-taken_at letters live [] [] p kind a e = absurd cc
-taken_at letters live [] (n ∷ taken) p kind a e = absurd a
-taken_at letters live (k ∷ kinds) [] p kind a e = absurd a
-taken_at letters live (k ∷ kinds) (n ∷ taken) zero kind a e =
-    let same : k ≡ kind = cc in
-    record { number = n; takes = refl; is_live = a.0.is_live; of_kind = ap (is_of_kind (letter_at letters n)) (sym same) ∙ a.0.of_kind }
-taken_at letters live (k ∷ kinds) (n ∷ taken) (suc p) kind a e =
-    let r = taken_at letters live kinds taken p kind a.1 e in record { number = r.number; takes = r.takes; is_live = r.is_live; of_kind = r.of_kind }
+pub runnable_short : (actors : ℕ) (sorts : Sorts) (rules : List Rule) → AreRunnable actors sorts rules → AllByRecursion IsShort (definitions_of rules)
+runnable_short actors sorts rules runnable = each_map (IsRunnable actors sorts) IsShort (λ (rule : Rule). rule.definition) (λ rule h. h.short) rules runnable.each
 
-pub recorded_of : (letters : List Message) (live : List ℕ) (n : ℕ) → All (IsRecorded letters) live → IsIn n live → IsRecorded letters n
-recorded_of letters [] n h m = absurd m
-recorded_of letters (x ∷ live) n h (inl e) = subst (IsRecorded letters) e (h 0 0 (omega arith))
-recorded_of letters (x ∷ live) n h (inr m) = recorded_of letters live n (λ k d l. h (suc k) d (omega arith)) m
+module _ (sorts : Sorts) (letters : List Message) (fitting : All (λ m. fits sorts m ≡ true) letters) where
+  -- messages of a kind have values of its types
+  kind_has : (kind field : ℕ) (types : List Sort) (type : Sort) → slice_get sorts kind ≡ Some types → slice_get types field ≡ Some type → KindHas letters kind field type
+  kind_has kind field types type known typed =
+      each_from (λ (m : Message). fits sorts m ≡ true) (λ (m : Message). m.kind ≡ kind → has_sort type (slice_get m.fields field) ≡ true)
+      (λ m fit e. value_of_type types m.fields field type (fits_of (slice_get sorts m.kind) types m.fields (ap (slice_get sorts) e ∙ known) fit) typed)
+      letters (each_from_All (λ (m : Message). fits sorts m ≡ true) letters fitting)
 
-same_number : (a b : ℕ) → (a == b) ≡ true → a ≡ b
-same_number a b h = grind (arith, nat_tests)
+  need_suits : (kinds : List ℕ) (need : Need) → HasType sorts kinds need.1 need.0 → NeedSuits letters kinds need
+  need_suits kinds need typed =
+      let outer = steps_of (λ (types : List Sort). slice_get types need.0.field) (option_and_then (slice_get sorts) (slice_get kinds need.0.pattern)) need.1 typed in
+      let inner = steps_of (slice_get sorts) (slice_get kinds need.0.pattern) outer.0 outer.1 in
+      let kind : slice_index kinds need.0.pattern ≡ inner.0 = get_or_from_slice_get kinds need.0.pattern inner.0 0 inner.1 in
+      (slice_get_within kinds need.0.pattern inner.0 inner.1, kind_has (slice_index kinds need.0.pattern) need.0.field outer.0 need.1 (ap (slice_get sorts) kind ∙ inner.2) outer.2)
 
-kind_of : (o : Option Message) (m : Message) (kind : ℕ) → o ≡ Some m → is_of_kind o kind ≡ true → m.kind ≡ kind
-kind_of None m kind e h = absurd cc
-kind_of (Some found) m kind e h = let same : found ≡ m = cc in ap (λ (x : Message). x.kind) (sym same) ∙ same_number found.kind kind h
+  needs_suit : (kinds : List ℕ) (needs : List Need) → AreTypedNeeds sorts kinds needs → AllByRecursion (NeedSuits letters kinds) needs
+  needs_suit kinds needs typed = each_from (λ (n : Need). HasType sorts kinds n.1 n.0) (NeedSuits letters kinds) (need_suits kinds) needs typed
 
-module _ (sorts : List (List Sort)) (letters : List Message) (fitting : All (λ m. fits sorts m ≡ true) letters) (live : List ℕ) (recorded : All (IsRecorded letters) live) where
-  int_ready : (kinds taken : List ℕ) (place : Place) → Assigns letters live kinds (slots_of taken) → PlaceTyped sorts kinds place sort.Int → IntReady letters taken place
-  int_ready kinds taken place a t =
-      let n = taken_at letters live kinds taken place.pattern t.kind a t.pattern_is in
-      let r = recorded_of letters live n.number recorded n.is_live in
-      let within : n.number - 1 < length letters = omega (arith, r.0, r.1) in
-      let d : Message = record { kind = 0; fields = [] } in
-      let m : Message = get_or letters (n.number - 1) d in
-      let here = slice_get-get_or letters (n.number - 1) d within in
-      let kind = kind_of (letter_at letters n.number) m t.kind (letter_at-recorded letters n.number r.0 ∙ here) n.of_kind in
-      let fit = fits_of (slice_get sorts m.kind) t.fields m.fields (ap (slice_get sorts) kind ∙ t.kind_is) (fitting (n.number - 1) d within) in
-      let z = field_int t.fields m.fields place.field fit t.field_is in
-      record { number = n.number; message = m; value = z.0; takes = n.takes; above_zero = r.0; recorded = here; has_int = z.1 }
+  definition_suits : (actors : ℕ) (rule : Rule) → IsRunnable actors sorts rule → DefinitionSuits letters rule.definition
+  definition_suits actors rule runnable = record {
+    some = runnable.typed.some_patterns;
+    few = runnable.typed.few_patterns;
+    needs = each_from (IsTypedCondition sorts rule.definition.patterns) (λ (c : Condition). AllByRecursion (NeedSuits letters rule.definition.patterns) (needs_of c))
+        (λ c t. needs_suit rule.definition.patterns (needs_of c) (condition_typed sorts rule.definition.patterns c t))
+        rule.definition.conjuncts runnable.typed.guard;
+  }
 
-  items_ready : (kinds taken : List ℕ) (items : List Item) → Assigns letters live kinds (slots_of taken) → AllByRecursion (ItemRunnable sorts kinds) items → AllByRecursion (ItemReady letters taken) items
-  items_ready kinds taken [] a t = t
-  items_ready kinds taken (item.Words (words.Fixed bytes) ∷ items) a t = (tt, items_ready kinds taken items a t.1)
-  items_ready kinds taken (item.Words (words.Field place) ∷ items) a t = absurd t.0
-  items_ready kinds taken (item.Plain place ∷ items) a t = (int_ready kinds taken place a t.0, items_ready kinds taken items a t.1)
-  items_ready kinds taken (item.Sum term ∷ items) a t = absurd t.0
+  -- the guards of runnable rules may be tested
+  pub testable : (actors : ℕ) (rules : List Rule) → AreRunnable actors sorts rules → AreTestable letters rules
+  testable actors rules runnable = record {
+    few = runnable.few;
+    short = runnable_short actors sorts rules runnable;
+    suits = each_map (IsRunnable actors sorts) (DefinitionSuits letters) (λ (rule : Rule). rule.definition) (definition_suits actors) rules runnable.each;
+  }
 
-  body_ready : (kinds taken : List ℕ) (body : List Statement) → Assigns letters live kinds (slots_of taken) → AllByRecursion (StatementRunnable sorts kinds) body → BodyReady letters taken body
-  body_ready kinds taken [] a t = t
-  body_ready kinds taken (statement.Print items ∷ body) a t = ((items_ready kinds taken items a t.0.0, t.0.1), body_ready kinds taken body a t.1)
-  body_ready kinds taken (statement.Post target kind operands ∷ body) a t = absurd t.0
-  body_ready kinds taken (statement.Stop ∷ body) a t = absurd t.0
+  items_ready : (kinds taken : List ℕ) (items : List Item) → SlotsSuit letters kinds (slots_of taken) → AllByRecursion (IsTypedItem sorts kinds) items → AllByRecursion (ItemReady letters (slots_of taken)) items
+  items_ready kinds taken items suits typed =
+      each_from (IsTypedItem sorts kinds) (ItemReady letters (slots_of taken))
+      (λ i t. ready_where_full letters kinds (slots_of taken) (item_needs i) suits (needs_suit kinds (item_needs i) (item_typed sorts kinds i t)) (is_full-slots_of taken))
+      items typed
 
-  ready_by : (rules : List Rule) → AllByRecursion (IsRunnable sorts) rules → (o : Option Candidate) → IsChosen letters live (definitions_of rules) o → ChoiceReady rules letters o
-  ready_by rules runnable None h = tt
-  ready_by rules runnable (Some c) h =
-      let placed = place_of 1 (definitions_of rules) c.rule h.0.definition h.0.numbered in
-      let found = mapped_at (λ (r : Rule). r.definition) rules (c.rule - 1) h.0.definition placed.found in
-      let rule : Rule = found.0 in
-      let body = body_ready rule.definition.patterns c.taken rule.body
-      (subst (λ (d : Definition). Assigns letters live d.patterns (slots_of c.taken)) (sym found.2) h.0.assigns)
-      (each_at (IsRunnable sorts) rules (c.rule - 1) rule found.1 runnable).body in
-      let P : Option Rule → Type 0 = λ o. BodyReady letters c.taken (body_of o) in
-      subst P (sym found.1) body
+  body_ready : (actors : ℕ) (kinds taken : List ℕ) (body : List Statement) → SlotsSuit letters kinds (slots_of taken) → AllByRecursion IsPrint body → AllByRecursion (IsTypedStatement actors sorts kinds) body → BodyReady letters taken body
+  body_ready actors kinds taken [] suits prints typed = tt
+  body_ready actors kinds taken (statement.Print items ∷ body) suits prints typed = ((items_ready kinds taken items suits typed.0.each, typed.0.few), body_ready actors kinds taken body suits prints.1 typed.1)
+  body_ready actors kinds taken (statement.Post target kind operands ∷ body) suits prints typed = absurd prints.0
+  body_ready actors kinds taken (statement.Stop ∷ body) suits prints typed = absurd prints.0
 
-  -- the body of the chosen rule can run at the choice
-  pub choice_ready : (rules : List Rule) → AreRunnable sorts rules → ChoiceReady rules letters (choice letters live (definitions_of rules))
-  choice_ready rules runnable = ready_by rules runnable.each (choice letters live (definitions_of rules)) (choice_is_chosen letters live (definitions_of rules))
+  module _ (live : List ℕ) (recorded : All (IsRecorded letters) live) (actors : ℕ) where
+    ready_by : (rules : List Rule) → AllByRecursion (IsRunnable actors sorts) rules → (o : Option Candidate) → IsChosen letters live (definitions_of rules) o → ChoiceReady rules letters o
+    ready_by rules runnable None h = tt
+    ready_by rules runnable (Some c) h =
+        let placed = place_of 1 (definitions_of rules) c.rule h.0.definition h.0.numbered in
+        let found = mapped_at (λ (r : Rule). r.definition) rules (c.rule - 1) h.0.definition placed.found in
+        let rule : Rule = found.0 in
+        let runs = each_at (IsRunnable actors sorts) rules (c.rule - 1) rule found.1 runnable in
+        let assigns = subst (λ (d : Definition). Assigns letters live d.patterns (slots_of c.taken)) (sym found.2) h.0.assigns in
+        let body = body_ready actors rule.definition.patterns c.taken rule.body (suits_from_assigns letters live rule.definition.patterns (slots_of c.taken) recorded assigns) runs.prints runs.typed.body in
+        let P : Option Rule → Type 0 = λ o. BodyReady letters c.taken (body_of o) in
+        subst P (sym found.1) body
 
--- what is asked of the definitions alone
-pub plain_from_runnable : (sorts : List (List Sort)) (rules : List Rule) → AreRunnable sorts rules → ArePlain rules
-plain_from_runnable sorts rules r = record {
-  few = r.few;
-  each = each_map (IsRunnable sorts) IsPlain (λ (rule : Rule). rule.definition) (λ rule h. h.definition) rules r.each;
-}
+    -- the body of the chosen rule can run at the choice
+    pub choice_ready : (rules : List Rule) → AreRunnable actors sorts rules → ChoiceReady rules letters (choice letters live (definitions_of rules))
+    choice_ready rules runnable = ready_by rules runnable.each (choice letters live (definitions_of rules)) (choice_is_chosen letters live (definitions_of rules))

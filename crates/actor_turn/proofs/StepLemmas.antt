@@ -19,7 +19,7 @@ use Rattle.actor_turn.specs.Body.{stops}
 use Rattle.actor_turn.specs.declared.run.Outcome.{Outcome}
 use Rattle.actor_turn.specs.Step.{Late, State, Setting, Stepped, Arrival, fits, is_refused, letters_of, letters_with, live_with, recorded, firing_of, live_after, by_choice, body_at, definitions_of, fair_step, outcome_of}
 use Rattle.actor_turn.specs.Ready.{BodyReady, ChoiceReady}
-use Rattle.actor_turn.specs.Runnable.{ArePlain}
+use Rattle.actor_turn.specs.Runnable.{AreTestable}
 
 -- a body that only prints does not stop
 no_stop : (letters : List Message) (taken : List ℕ) (body : List Statement) → BodyReady letters taken body → stops body ≡ false
@@ -47,11 +47,11 @@ module _ (sorts : List (List Sort)) (rules : List Rule) (limits : Limits) (entri
   not_refused : length entries < 1000 → 1000 ≤ limits.arrivals → fits sorts message ≡ true → is_refused setting state message ≡ false
   not_refused room arrivals fit = let no : nat_le limits.arrivals (length entries) ≡ false = grind arith in rw (no, fit) refl
 
-  few_partials : ArePlain rules → length entries < 1000 → length live ≤ length entries → 32016 ≤ limits.partials → nat_lt limits.partials (partial_count (letters_with arrival) (live_with arrival) (definitions_of rules)) ≡ false
-  few_partials plain room few most =
+  few_partials : AreTestable (letters_of entries ++ message ∷ []) rules → length entries < 1000 → length live ≤ length entries → 32016 ≤ limits.partials → nat_lt limits.partials (partial_count (letters_with arrival) (live_with arrival) (definitions_of rules)) ≡ false
+  few_partials testable room few most =
       let long = length-append live ((length entries + 1) ∷ []) in
-      let few_rules : length (definitions_of rules) ≤ 16 = omega (arith, length-map rules (λ (r : Rule). r.definition), plain.few) in
-      let count = partial_count_most (letters_with arrival) (live_with arrival) (definitions_of rules) plain.each few_rules (omega arith) in
+      let few_rules : length (definitions_of rules) ≤ 16 = omega (arith, length-map rules (λ (r : Rule). r.definition), testable.few) in
+      let count = partial_count_most (letters_with arrival) (live_with arrival) (definitions_of rules) testable.short few_rules (omega arith) in
       let low : partial_count (letters_with arrival) (live_with arrival) (definitions_of rules) ≤ limits.partials = omega arith in
       grind arith
 
@@ -59,8 +59,8 @@ module _ (sorts : List (List Sort)) (rules : List Rule) (limits : Limits) (entri
   chosen_step None ready low = rw low refl
   chosen_step (Some c) ready low = let goes_on = no_stop (letters_with arrival) c.taken (body_at rules c.rule) ready in rw goes_on refl
 
-  pub plain_step : ArePlain rules → length entries < 1000 → 1000 ≤ limits.arrivals → 32016 ≤ limits.partials → length live ≤ length entries → fits sorts message ≡ true → ChoiceReady rules (letters_with arrival) chosen → fair_step setting state source message ≡ result_of chosen
-  plain_step plain room arrivals partials few fit ready = rw (not_refused room arrivals fit) (chosen_step chosen ready (few_partials plain room few partials))
+  pub limitless_step : AreTestable (letters_of entries ++ message ∷ []) rules → length entries < 1000 → 1000 ≤ limits.arrivals → 32016 ≤ limits.partials → length live ≤ length entries → fits sorts message ≡ true → ChoiceReady rules (letters_with arrival) chosen → fair_step setting state source message ≡ result_of chosen
+  limitless_step testable room arrivals partials few fit ready = rw (not_refused room arrivals fit) (chosen_step chosen ready (few_partials testable room few partials))
 
 -- what was concluded, over the letters with the newest
 pub record Concluded (rules : List Rule) (entries : List Entry) (live : List ℕ) (source : Source) (message : Message) (pushed : List Message) (number : ℕ) (own : Message) (entries' : List Entry) (live' : List ℕ) (outcome : Outcome) : Type 0 where
@@ -76,14 +76,14 @@ number_of_newest entries message = length-append (letters_of entries) (message �
 
 -- it is the fair step
 pub concluded_step : (sorts : List (List Sort)) (rules : List Rule) (limits : Limits) (entries : List Entry) (live : List ℕ) (late : Late) (source : Source) (message : Message)
-    → ArePlain rules → length entries < 1000 → 1000 ≤ limits.arrivals → 32016 ≤ limits.partials → length live ≤ length entries → fits sorts message ≡ true
+    → AreTestable (letters_of entries ++ message ∷ []) rules → length entries < 1000 → 1000 ≤ limits.arrivals → 32016 ≤ limits.partials → length live ≤ length entries → fits sorts message ≡ true
     → ChoiceReady rules (letters_of entries ++ message ∷ []) (choice (letters_of entries ++ message ∷ []) (live ++ (length entries + 1) ∷ []) (definitions_of rules))
     → (pushed : List Message) (number : ℕ) (own : Message) (entries' : List Entry) (live' : List ℕ) (outcome : Outcome) → Concluded rules entries live source message pushed number own entries' live' outcome
     → fair_step (record { sorts = sorts; rules = rules; limits = limits }) (record { entries = entries; live = live; ending = Running; late = late }) source message
     ≡ (record { entries = entries'; live = live'; ending = Running; late = late }, outcome)
-concluded_step sorts rules limits entries live late source message plain room arrivals partials few fit ready pushed number own entries' live' outcome f =
+concluded_step sorts rules limits entries live late source message testable room arrivals partials few fit ready pushed number own entries' live' outcome f =
     let newest : number ≡ length entries + 1 = f.number_is ∙ ap length f.letters ∙ number_of_newest entries message in
-    let step = plain_step sorts rules limits entries live late source message plain room arrivals partials few fit ready in
+    let step = limitless_step sorts rules limits entries live late source message testable room arrivals partials few fit ready in
     let o : List Message → ℕ → Option Candidate = λ letters n. choice letters (live ++ n ∷ []) (definitions_of rules) in
     let result : List Message → ℕ → Message → Stepped
     = λ letters n m. (record { entries = entries ++ record { number = n; source = source; message = m; firing = firing_of rules letters (o letters n) } ∷ []; live = live_after (live ++ n ∷ []) (o letters n); ending = Running; late = late }, outcome_of (o letters n)) in

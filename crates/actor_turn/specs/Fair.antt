@@ -1,13 +1,12 @@
 -- The fair semantics: the fair steps of a list of messages, one after the other, and the run that a state shows.
-use Rattle.std.specs.Prelude.{ℕ, ◌+◌, List, [], ◌∷◌, ◌++◌, ◌==◌, Option, None, Some, map, slice_get, if◌then◌else◌, length}
+use Rattle.std.specs.Prelude.{ℕ, ◌+◌, List, [], ◌∷◌, ◌++◌, ◌==◌, Option, None, Some, slice_get, if◌then◌else◌, length}
 use Rattle.join_base.specs.declared.message.Message.{Message}
 use Rattle.join_base.specs.declared.message.Source.{Source}
 use Rattle.join_base.specs.declared.message.Source.TheVariants.{Feed, Actor}
-use Rattle.join_base.specs.declared.message.Sort.{Sort}
 use Rattle.script_types.specs.declared.plan.Plan.{Plan}
-use Rattle.script_types.specs.declared.plan.Kind.{Kind}
 use Rattle.script_types.specs.declared.plan.ActorPlan.{ActorPlan}
 use Rattle.script_types.specs.declared.plan.Rule.{Rule}
+use Rattle.script_types.specs.Typed.{kind_types}
 use Rattle.actor_turn.specs.declared.run.Limits.{Limits}
 use Rattle.actor_turn.specs.declared.run.ActorRun.{ActorRun}
 use Rattle.pattern_core.specs.Matches.{partial_count}
@@ -25,12 +24,8 @@ abbrev pub rules_of : Option ActorPlan → List Rule
 rules_of None = []
 rules_of (Some actor) = actor.rules
 
--- the types of the fields of each kind
-abbrev pub sorts_of : List Kind → List (List Sort)
-sorts_of kinds = map (λ kind. map (λ (field : List ℕ × Sort). field.1) kind.fields) kinds
-
 abbrev pub setting_of : Plan → ℕ → Limits → Setting
-setting_of plan index limits = record { sorts = sorts_of plan.kinds; rules = rules_of (slice_get plan.actors index); limits = limits }
+setting_of plan index limits = record { sorts = kind_types plan.kinds; rules = rules_of (slice_get plan.actors index); limits = limits }
 
 -- the state of the actor after the messages, from the opening state
 abbrev pub fair : Plan → ℕ → Limits → ℕ → List Sent → State

@@ -1,5 +1,5 @@
 -- A run that fits a plan: what its types allow and a log of it can say.
-use Rattle.std.specs.Prelude.{◌≡◌, ℕ, ◌+◌, ◌-◌, ◌^◌, ◌<◌, ◌≤◌, length, map, true, IfSome, FitsSigned}
+use Rattle.std.specs.Prelude.{◌≡◌, ℕ, ◌+◌, ◌-◌, ◌^◌, ◌<◌, ◌≤◌, List, length, map, true, IfSome, FitsSigned}
 use Rattle.std.specs.Int.{w64}
 use Rattle.std.specs.List.{AllByRecursion}
 use Rattle.std.specs.List.Sorted.{IsStrictlyIncreasing}
@@ -9,6 +9,9 @@ use Rattle.join_base.specs.declared.message.Value.TheVariants.{Int, Words}
 use Rattle.join_base.specs.declared.message.Message.{Message}
 use Rattle.join_base.specs.declared.message.Source.{Source}
 use Rattle.join_base.specs.declared.message.Source.TheVariants.{Feed, Actor}
+use Rattle.guard_eval.specs.declared.term.Leaf.{Leaf}
+use Rattle.guard_eval.specs.declared.term.Leaf.TheVariants as leaf
+use Rattle.guard_eval.specs.declared.term.Signed.{Signed}
 use Rattle.guard_eval.specs.declared.term.WordsLeaf.{WordsLeaf}
 use Rattle.guard_eval.specs.declared.term.WordsLeaf.TheVariants as words
 use Rattle.guard_eval.specs.declared.term.Operand.{Operand}
@@ -26,7 +29,7 @@ use Rattle.actor_turn.specs.declared.run.Entry.{Entry}
 use Rattle.actor_turn.specs.declared.run.ActorRun.{ActorRun}
 use Rattle.actor_turn.specs.declared.run.Run.{Run}
 use Rattle.actor_turn.specs.Step.{fits}
-use Rattle.actor_turn.specs.Fair.{sorts_of}
+use Rattle.script_types.specs.Typed.{kind_types}
 
 -- a 64-bit integer, or UTF-8 of at most 120 bytes
 abbrev pub ValueFits : Value → Type 0
@@ -34,7 +37,7 @@ ValueFits (Int n) = FitsSigned w64 n
 ValueFits (Words bytes) = IsText 120 bytes
 
 pub record MessageFits (plan : Plan) (message : Message) : Type 0 where
-  pub kind : fits (sorts_of plan.kinds) message ≡ true
+  pub kind : fits (kind_types plan.kinds) message ≡ true
   pub values : AllByRecursion ValueFits message.fields
 
 -- a message for an actor of the plan
@@ -63,15 +66,23 @@ pub record EntryFits (plan : Plan) (feeds : ℕ) (entry : Entry) : Type 0 where
   pub message : MessageFits plan entry.message
   pub firing : IfSome entry.firing (FiringFits plan)
 
--- a rule whose fixed texts are texts
+-- a rule whose fixed texts are texts, and whose numbers are of 64 bits
 abbrev pub WordsFit : WordsLeaf → Type 0
 WordsFit (words.Fixed bytes) = IsText 120 bytes
 WordsFit (words.Field place) = Unit {0}
 
+abbrev pub LeafFits : Leaf → Type 0
+LeafFits (leaf.Number n) = FitsSigned w64 n
+LeafFits (leaf.Field place) = Unit {0}
+
+pub record TermFits (leaves : List Signed) : Type 0 where
+  pub few : length leaves ≤ 64
+  pub each : AllByRecursion (λ (signed : Signed). LeafFits signed.leaf) leaves
+
 abbrev pub ItemFits : Item → Type 0
 ItemFits (item.Words leaf) = WordsFit leaf
 ItemFits (item.Plain place) = Unit {0}
-ItemFits (item.Sum term) = Unit {0}
+ItemFits (item.Sum term) = TermFits term
 
 abbrev pub OperandFits : Operand → Type 0
 OperandFits (operand.Sum term) = Unit {0}

@@ -7,11 +7,16 @@ use Rattle.join_base.specs.declared.message.Source.{Source}
 use Rattle.join_base.specs.declared.message.Sort.{Sort}
 use Rattle.pattern_core.specs.Suits.{IsRecorded}
 use Rattle.actor_turn.specs.declared.run.Entry.{Entry}
+use Rattle.actor_turn.specs.Runnable.{AreRunnable}
 use Rattle.actor_turn.specs.Step.{Setting, State, fits, letters_of}
 
 pub record Held : Type 0 where
   pub setting : Setting
   pub state : State
+
+-- the rules can run; there is a late count for each actor
+abbrev pub CanRun : Held → Type 0
+CanRun held = AreRunnable (length held.state.late.actors) held.setting.sorts held.setting.rules
 
 -- the letters are those of the entries and fit, and the live numbers are those of letters, ascending
 pub record IsKept (sorts : List (List Sort)) (letters : List Message) (entries : List Entry) (live : List ℕ) : Type 0 where

@@ -1,42 +1,36 @@
--- What a body asks of the messages of its match.
-use Rattle.std.specs.Prelude.{◌≡◌, ℕ, ℤ, ◌-◌, ◌≤◌, List, Option, None, Some, length, slice_get}
+-- What a body asks of the messages of its match: each variable has a recorded message and a value of its type.
+use Rattle.std.specs.Prelude.{ℕ, ◌≤◌, List, [], ◌∷◌, Option, None, Some, length}
 use Rattle.std.specs.List.{AllByRecursion}
 use Rattle.join_base.specs.declared.message.Message.{Message}
-use Rattle.join_base.specs.declared.message.Value.TheVariants.{Int}
-use Rattle.guard_eval.specs.declared.term.WordsLeaf.TheVariants as words
-use Rattle.guard_eval.specs.declared.term.Place.{Place}
+use Rattle.join_base.specs.declared.message.Sort.TheVariants as sort
+use Rattle.guard_eval.specs.Meaning.{Assignment, Need, term_needs, words_needs}
+use Rattle.guard_eval.specs.Ready.{AreReady}
 use Rattle.script_types.specs.declared.plan.Item.{Item}
 use Rattle.script_types.specs.declared.plan.Item.TheVariants as item
 use Rattle.script_types.specs.declared.plan.Statement.{Statement}
 use Rattle.script_types.specs.declared.plan.Statement.TheVariants as statement
 use Rattle.script_types.specs.declared.plan.Rule.{Rule}
 use Rattle.pattern_core.specs.declared.candidate.Candidate.{Candidate}
+use Rattle.pattern_core.specs.Choice.{slots_of}
 use Rattle.actor_turn.specs.Step.{body_at}
 
--- the variable's pattern takes the number of a recorded message, which has an integer at the field
-pub record IntReady (letters : List Message) (taken : List ℕ) (place : Place) : Type 0 where
-  pub number : ℕ
-  pub message : Message
-  pub value : ℤ
-  pub takes : slice_get taken place.pattern ≡ Some number
-  pub above_zero : 1 ≤ number
-  pub recorded : slice_get letters (number - 1) ≡ Some message
-  pub has_int : slice_get message.fields place.field ≡ Some (Int value)
+-- the variables of an item
+abbrev pub item_needs : Item → List Need
+item_needs (item.Words text) = words_needs text
+item_needs (item.Plain place) = (place, sort.Int) ∷ []
+item_needs (item.Sum term) = term_needs term
 
--- an item without a sum whose variable has a message and a value of its type
-abbrev pub ItemReady : List Message → List ℕ → Item → Type 0
-ItemReady letters taken (item.Words (words.Fixed bytes)) = Unit {0}
-ItemReady letters taken (item.Words (words.Field place)) = ⊥
-ItemReady letters taken (item.Plain place) = IntReady letters taken place
-ItemReady letters taken (item.Sum term) = ⊥
+abbrev pub ItemReady : List Message → Assignment → Item → Type 0
+ItemReady letters slots i = AreReady letters slots (item_needs i)
 
-abbrev pub StatementReady : List Message → List ℕ → Statement → Type 0
-StatementReady letters taken (statement.Print items) = AllByRecursion (ItemReady letters taken) items × (length items ≤ 16)
-StatementReady letters taken (statement.Post target kind operands) = ⊥
-StatementReady letters taken statement.Stop = ⊥
+-- a print of at most 16 such items
+abbrev pub StatementReady : List Message → Assignment → Statement → Type 0
+StatementReady letters slots (statement.Print items) = AllByRecursion (ItemReady letters slots) items × (length items ≤ 16)
+StatementReady letters slots (statement.Post target kind operands) = ⊥
+StatementReady letters slots statement.Stop = ⊥
 
 abbrev pub BodyReady : List Message → List ℕ → List Statement → Type 0
-BodyReady letters taken body = AllByRecursion (StatementReady letters taken) body
+BodyReady letters taken body = AllByRecursion (StatementReady letters (slots_of taken)) body
 
 -- the body of the chosen rule can run at the choice, if there is one
 abbrev pub ChoiceReady : List Rule → List Message → Option Candidate → Type 0

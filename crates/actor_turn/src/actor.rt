@@ -3,7 +3,7 @@ ghost use Rattle.std.specs.Prelude.{◌≡◌, ◌+◌, ◌<◌, ◌≤◌, true
 ghost use Rattle.actor_turn.specs.Step.{fair_step, fits, opening};
 ghost use Rattle.actor_turn.specs.Fair.{partials_of, run_of, setting_of};
 ghost use Rattle.actor_turn.specs.Fits.{RuleFits};
-ghost use Rattle.actor_turn.specs.Runnable.{AreRunnable};
+ghost use Rattle.actor_turn.specs.Held.{CanRun};
 ghost use Rattle.std.specs.List.{AllByRecursion};
 ghost use Rattle.std.specs.List.Sorted.{IsStrictlyIncreasing};
 
@@ -58,7 +58,7 @@ impl Model for Actor {
 
 impl Actor {
     /// The actor of the plan with this index, counted from 0, before its first arrival.
-    /// Its caller is told too that the fixed texts of its rules are texts, as their type says.
+    /// Its caller is told too that the fixed texts of its rules are texts and their numbers are of 64 bits, as their types say.
     /// `NoMemory` where there is no memory for what it keeps of the plan.
     pub fn new(
         alloc: Global,
@@ -101,7 +101,7 @@ impl Actor {
         message: &Message,
         steps: &mut Steps<L>,
     ) -> Result<Outcome, NoMemory>
-        requires runnable { AreRunnable self.old.setting.sorts self.old.setting.rules }
+        requires runnable { CanRun self.old }
         requires running { self.old.state.ending ≡ Ending.Running }
         requires room { length self.old.state.entries < 1000 }
         requires arrivals { 1000 ≤ self.old.setting.limits.arrivals }
@@ -142,7 +142,7 @@ impl Actor {
 
     /// The number of partial matches over all definitions.
     pub fn partials(&self) -> u64
-        requires runnable { AreRunnable self.now.setting.sorts self.now.setting.rules }
+        requires runnable { CanRun self.now }
 
         ensures count { result ≡ partials_of self.now.setting.rules self.now.state }
     {
@@ -164,7 +164,7 @@ impl Actor {
 
     /// The run that the actor shows. It takes no memory.
     pub fn into_run(self) -> ActorRun
-        requires runnable { AreRunnable self.setting.sorts self.setting.rules }
+        requires runnable { CanRun self }
 
         ensures run { result ≡ run_of self.setting.rules self.state }
         ensures ascending { IsStrictlyIncreasing result.left }

@@ -3,7 +3,7 @@ ghost use Rattle.std.specs.Prelude.{◌≡◌, ◌≤◌, ◌<◌, ◌^◌, All,
 ghost use Rattle.pattern_core.specs.Choice.{choice};
 ghost use Rattle.pattern_core.specs.Matches.{partial_count};
 ghost use Rattle.pattern_core.specs.Suits.{IsRecorded};
-ghost use Rattle.actor_turn.specs.Runnable.{ArePlain};
+ghost use Rattle.actor_turn.specs.Runnable.{AreTestable};
 ghost use Rattle.actor_turn.specs.Step.{definitions_of};
 
 use join_base::{Items, Letters, Steps};
@@ -18,7 +18,7 @@ fn best_match<L: Ledger>(
     letters: &Letters,
     steps: &mut Steps<L>,
 ) -> Option<Candidate>
-    requires plain { ArePlain rules.now }
+    requires testable { AreTestable letters.now rules.now }
     requires recorded { All (IsRecorded letters.now) live.now }
 
     ensures { result ≡ choice letters.now live.now (definitions_of rules.now) }
@@ -38,7 +38,7 @@ pub fn choose<L: Ledger>(
     letters: &Letters,
     steps: &mut Steps<L>,
 ) -> Option<Candidate>
-    requires plain { ArePlain rules.now }
+    requires testable { AreTestable letters.now rules.now }
     requires recorded { All (IsRecorded letters.now) live.now }
 
     ensures chosen { result ≡ choice letters.now live.now (definitions_of rules.now) }
@@ -49,7 +49,7 @@ pub fn choose<L: Ledger>(
 
 /// The number of partial matches over the definitions of the rules.
 pub fn count_all(rules: &Items<Rule>, live: &[u32], letters: &Letters) -> u64
-    requires plain { ArePlain rules.now }
+    requires testable { AreTestable letters.now rules.now }
     requires recorded { All (IsRecorded letters.now) live.now }
     requires few { length live.now < 2 ^ 32 }
 

@@ -3,7 +3,7 @@ ghost use Rattle.std.specs.Prelude.{◌≡◌, ◌≤◌, [], ◌∷◌, ◌++�
 ghost use Rattle.pattern_core.specs.Choice.{choice};
 ghost use Rattle.pattern_core.specs.Suits.{IsRecorded};
 ghost use Rattle.actor_turn.specs.Ready.{BodyReady, ChoiceReady};
-ghost use Rattle.actor_turn.specs.Runnable.{ArePlain};
+ghost use Rattle.actor_turn.specs.Runnable.{AreTestable};
 ghost use Rattle.actor_turn.specs.Step.{body_at, contains_number, definitions_of, firing_of, live_after, without, outcome_of};
 
 use crate::body::run_body;
@@ -60,7 +60,7 @@ pub fn conclude<L: Ledger>(
     mut entry: Entry,
     steps: &mut Steps<L>,
 ) -> Result<Outcome, NoMemory>
-    requires plain { ArePlain rules.now }
+    requires testable { AreTestable letters.now rules.now }
     requires newest { entry.number ≡ length letters.now }
     requires unfired { entry.firing ≡ None }
     requires recorded { All (IsRecorded letters.now) (live.old.items ++ entry.number ∷ []) }

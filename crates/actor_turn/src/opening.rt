@@ -1,7 +1,7 @@
 //! What a new actor is told.
 ghost use Rattle.std.specs.Prelude.{◌≡◌, IfOk, map, replicate, List, ℕ};
 ghost use Rattle.join_base.specs.declared.message.Sort.{Sort as FieldSort};
-ghost use Rattle.actor_turn.specs.Fair.{sorts_of};
+ghost use Rattle.script_types.specs.Typed.{kind_types};
 
 use join_base::{Items, Name, NoMemory, Sort};
 use script_types::{Kind, Rule};
@@ -20,7 +20,7 @@ fn field_sorts(alloc: Global, fields: &Items<(Name, Sort)>) -> Result<Items<Sort
 
 /// The types of the fields of each kind.
 pub fn kind_sorts(alloc: Global, kinds: &Items<Kind>) -> Result<Items<Items<Sort>>, NoMemory>
-    ensures { IfOk result (λ s. s ≡ sorts_of kinds.now) }
+    ensures { IfOk result (λ s. s ≡ kind_types kinds.now) }
 {
     let mut sorts = Items::new(alloc);
     for kind in kinds.as_slice() {

@@ -1,17 +1,20 @@
-ghost use Rattle.std.specs.Prelude.{◌≡◌, ◌≤◌, ◌<◌, ◌∷◌, [], All, IfOk, length, map, replicate, slice_get, true, ℕ, List};
+ghost use Rattle.std.specs.Prelude.{◌≡◌, ◌≤◌, ◌<◌, ◌∷◌, [], All, IfOk, length, replicate, slice_get, true, false};
+ghost use Rattle.std.specs.List.{AllByRecursion};
 ghost use Rattle.join_base.specs.Text.{is_name};
-ghost use Rattle.join_base.specs.declared.message.Sort.{Sort as FieldSort};
 ghost use Rattle.join_base.specs.declared.message.Sort.TheVariants as sort;
 ghost use Rattle.guard_eval.specs.declared.term.WordsLeaf.TheVariants as words;
 ghost use Rattle.script_types.specs.declared.plan.Item.TheVariants as item;
 ghost use Rattle.script_types.specs.declared.plan.Statement.TheVariants as statement;
-ghost use Rattle.actor_turn.specs.Fair.{rules_of, sorts_of};
+ghost use Rattle.script_types.specs.Typed.{IsTypedCondition, IsTypedStatement, field_types, kind_types};
+ghost use Rattle.actor_turn.specs.Fair.{rules_of};
 ghost use Rattle.actor_turn.specs.Step.{fits};
-ghost use Rattle.actor_turn.specs.Runnable.{AreRunnable, IsRunnable};
+ghost use Rattle.actor_turn.specs.Runnable.{AreRunnable, IsPrint, IsRunnable};
 
 use crate::{Actor, ActorRun, Effect, Ending, Entry, Limits};
-use guard_eval::{ConjunctList, Place, WordsLeaf};
-use join_base::{Bytes, Fields, Items, Message, Name, NoMemory, Sort, Source, Steps, Text, Value};
+use guard_eval::{Atom, Conjunct, ConjunctList, Leaf, Operand, Place, Signed, Term, WordsLeaf};
+use join_base::{
+    Bytes, Fields, Items, Message, Name, NoMemory, Relation, Sort, Source, Steps, Text, Value,
+};
 use pattern_core::Definition;
 use script_types::{ActorPlan, Item, Kind, Plan, Rule, Statement};
 use std::alloc::Global;
@@ -24,13 +27,14 @@ const USUAL: Limits = Limits {
     partials: 65536,
 };
 
-// A kind with one integer field.
+// A kind with an integer field and a text field.
 fn kind(alloc: Global, name: &[u8]) -> Result<Kind, Fail>
     requires { is_name name.now ≡ true }
-    ensures { IfOk result (λ k. map (λ (field : List ℕ × FieldSort). field.1) k.fields ≡ sort.Int ∷ []) }
+    ensures { IfOk result (λ k. field_types k ≡ sort.Int ∷ sort.Words ∷ []) }
 {
     let mut fields = Items::new(alloc);
     fields.push((Name::from_bytes(alloc, b"x")?, Sort::Int))?;
+    fields.push((Name::from_bytes(alloc, b"t")?, Sort::Words))?;
     Ok(Kind {
         name: Name::from_bytes(alloc, name)?,
         fields,
@@ -39,7 +43,7 @@ fn kind(alloc: Global, name: &[u8]) -> Result<Kind, Fail>
 
 // Three such kinds.
 fn kinds(alloc: Global) -> Result<Items<Kind>, Fail>
-    ensures { IfOk result (λ k. sorts_of k ≡ replicate 3 (sort.Int ∷ [])) }
+    ensures { IfOk result (λ k. kind_types k ≡ replicate 3 (sort.Int ∷ sort.Words ∷ [])) }
 {
     let first = kind(alloc, b"a")?;
     let second = kind(alloc, b"b")?;
@@ -51,21 +55,74 @@ fn kinds(alloc: Global) -> Result<Items<Kind>, Fail>
     Ok(kinds)
 }
 
-// A rule without a body.
-fn silent(alloc: Global, patterns: &[u32]) -> Result<Rule, Fail>
-    requires some { 1 ≤ length patterns.now }
-    requires few { length patterns.now ≤ 2 }
-    ensures { IfOk result (λ r. IsRunnable (replicate 3 (sort.Int ∷ [])) r) }
+// A row of `_`, one for each field.
+fn row(alloc: Global) -> Result<Items<Option<Name>>, Fail>
+    ensures { IfOk result (λ r. length r ≡ 2) }
 {
-    let patterns = Items::from_vec(patterns.to_vec(alloc)?);
+    let mut row = Items::new(alloc);
+    row.push(None)?;
+    row.push(None)?;
+    Ok(row)
+}
+
+// A rule of one pattern without a body.
+fn silent(alloc: Global, kind: u32) -> Result<Rule, Fail>
+    requires { kind < 3 }
+    ensures { IfOk result (λ r. IsRunnable 1 (replicate 3 (sort.Int ∷ sort.Words ∷ [])) r) }
+{
+    let mut patterns = Items::new(alloc);
+    patterns.push(kind)?;
+    let mut variables = Items::new(alloc);
+    variables.push(row(alloc)?)?;
     Ok(Rule {
         definition: Definition {
             patterns,
             conjuncts: ConjunctList::new(alloc),
         },
-        variables: Items::new(alloc),
+        variables,
         body: Items::new(alloc),
     })
+}
+
+// A rule of two patterns whose body only prints.
+fn pair(
+    alloc: Global,
+    first: u32,
+    second: u32,
+    conjuncts: ConjunctList,
+    body: Items<Statement>,
+) -> Result<Rule, Fail>
+    requires first { first < 3 }
+    requires second { second < 3 }
+    requires guard { AllByRecursion (IsTypedCondition (replicate 3 (sort.Int ∷ sort.Words ∷ [])) (first ∷ second ∷ [])) conjuncts }
+    requires few { length body ≤ 16 }
+    requires typed { AllByRecursion (IsTypedStatement 1 (replicate 3 (sort.Int ∷ sort.Words ∷ [])) (first ∷ second ∷ [])) body }
+    requires prints { AllByRecursion IsPrint body }
+    ensures { IfOk result (λ r. IsRunnable 1 (replicate 3 (sort.Int ∷ sort.Words ∷ [])) r) }
+{
+    let mut patterns = Items::new(alloc);
+    patterns.push(first)?;
+    patterns.push(second)?;
+    let mut variables = Items::new(alloc);
+    variables.push(row(alloc)?)?;
+    variables.push(row(alloc)?)?;
+    Ok(Rule {
+        definition: Definition {
+            patterns,
+            conjuncts,
+        },
+        variables,
+        body,
+    })
+}
+
+fn silent_pair(alloc: Global, first: u32, second: u32) -> Result<Rule, Fail>
+    requires first { first < 3 }
+    requires second { second < 3 }
+    ensures { IfOk result (λ r. IsRunnable 1 (replicate 3 (sort.Int ∷ sort.Words ∷ [])) r) }
+{
+    let conjuncts = ConjunctList::new(alloc);
+    pair(alloc, first, second, conjuncts, Items::new(alloc))
 }
 
 // Prints a text and the variables of two patterns.
@@ -92,25 +149,87 @@ fn print(alloc: Global, text: &[u8]) -> Result<Items<Statement>, Fail>
 fn printing(alloc: Global, first: u32, second: u32, text: &[u8]) -> Result<Rule, Fail>
     requires first { first < 3 }
     requires second { second < 3 }
-    ensures { IfOk result (λ r. IsRunnable (replicate 3 (sort.Int ∷ [])) r) }
+    ensures { IfOk result (λ r. IsRunnable 1 (replicate 3 (sort.Int ∷ sort.Words ∷ [])) r) }
 {
-    let mut patterns = Items::new(alloc);
-    patterns.push(first)?;
-    patterns.push(second)?;
     let body = print(alloc, text)?;
-    Ok(Rule {
-        definition: Definition {
-            patterns,
-            conjuncts: ConjunctList::new(alloc),
-        },
-        variables: Items::new(alloc),
-        body,
-    })
+    let conjuncts = ConjunctList::new(alloc);
+    pair(alloc, first, second, conjuncts, body)
+}
+
+// The sum of a pattern's integer alone.
+fn variable(alloc: Global, pattern: u32) -> Result<Operand, Fail>
+    ensures { IfOk result (λ o. o ≡ Operand.Sum (record { minus = false; leaf = Leaf.Field (record { pattern = pattern; field = 0 }) } ∷ [])) }
+{
+    let mut leaves = Items::new(alloc);
+    leaves.push(Signed {
+        minus: false,
+        leaf: Leaf::Field(Place { pattern, field: 0 }),
+    })?;
+    Ok(Operand::Sum(Term::new(leaves)))
+}
+
+// A rule of two patterns whose integers compare so, which prints them.
+fn guarded(alloc: Global, first: u32, relation: Relation, second: u32) -> Result<Rule, Fail>
+    requires first { first < 3 }
+    requires second { second < 3 }
+    ensures { IfOk result (λ r. IsRunnable 1 (replicate 3 (sort.Int ∷ sort.Words ∷ [])) r) }
+{
+    let left = variable(alloc, 0)?;
+    let right = variable(alloc, 1)?;
+    let mut conjunct = Conjunct::new(alloc);
+    conjunct.push(Atom::Compare {
+        left,
+        relation,
+        right,
+    })?;
+    let mut conjuncts = ConjunctList::new(alloc);
+    conjuncts.push(conjunct)?;
+    let body = print(alloc, b"")?;
+    pair(alloc, first, second, conjuncts, body)
+}
+
+// The sum of the integers of two patterns.
+fn both_integers(alloc: Global) -> Result<Term, Fail>
+    ensures { IfOk result (λ t. t ≡ record { minus = false; leaf = Leaf.Field (record { pattern = 0; field = 0 }) } ∷ record { minus = false; leaf = Leaf.Field (record { pattern = 1; field = 0 }) } ∷ []) }
+{
+    let mut leaves = Items::new(alloc);
+    leaves.push(Signed {
+        minus: false,
+        leaf: Leaf::Field(Place {
+            pattern: 0,
+            field: 0,
+        }),
+    })?;
+    leaves.push(Signed {
+        minus: false,
+        leaf: Leaf::Field(Place {
+            pattern: 1,
+            field: 0,
+        }),
+    })?;
+    Ok(Term::new(leaves))
+}
+
+// A rule of the first two kinds that prints the text of the one and the sum of both integers.
+fn adding(alloc: Global) -> Result<Rule, Fail>
+    ensures { IfOk result (λ r. IsRunnable 1 (replicate 3 (sort.Int ∷ sort.Words ∷ [])) r) }
+{
+    let sum = both_integers(alloc)?;
+    let mut items = Items::new(alloc);
+    items.push(Item::Words(WordsLeaf::Field(Place {
+        pattern: 0,
+        field: 1,
+    })))?;
+    items.push(Item::Sum(sum))?;
+    let mut body = Items::new(alloc);
+    body.push(Statement::Print(items))?;
+    let conjuncts = ConjunctList::new(alloc);
+    pair(alloc, 0, 1, conjuncts, body)
 }
 
 fn one(alloc: Global, rule: Rule) -> Result<Items<Rule>, Fail>
-    requires { IsRunnable (replicate 3 (sort.Int ∷ [])) rule }
-    ensures { IfOk result (λ r. AreRunnable (replicate 3 (sort.Int ∷ [])) r) }
+    requires { IsRunnable 1 (replicate 3 (sort.Int ∷ sort.Words ∷ [])) rule }
+    ensures { IfOk result (λ r. AreRunnable 1 (replicate 3 (sort.Int ∷ sort.Words ∷ [])) r) }
 {
     let mut rules = Items::new(alloc);
     rules.push(rule)?;
@@ -118,9 +237,9 @@ fn one(alloc: Global, rule: Rule) -> Result<Items<Rule>, Fail>
 }
 
 fn both(alloc: Global, first: Rule, second: Rule) -> Result<Items<Rule>, Fail>
-    requires first { IsRunnable (replicate 3 (sort.Int ∷ [])) first }
-    requires second { IsRunnable (replicate 3 (sort.Int ∷ [])) second }
-    ensures { IfOk result (λ r. AreRunnable (replicate 3 (sort.Int ∷ [])) r) }
+    requires first { IsRunnable 1 (replicate 3 (sort.Int ∷ sort.Words ∷ [])) first }
+    requires second { IsRunnable 1 (replicate 3 (sort.Int ∷ sort.Words ∷ [])) second }
+    ensures { IfOk result (λ r. AreRunnable 1 (replicate 3 (sort.Int ∷ sort.Words ∷ [])) r) }
 {
     let mut rules = Items::new(alloc);
     rules.push(first)?;
@@ -130,7 +249,7 @@ fn both(alloc: Global, first: Rule, second: Rule) -> Result<Items<Rule>, Fail>
 
 // The plan of one actor with these rules.
 fn plan(alloc: Global, rules: Items<Rule>) -> Result<Plan, Fail>
-    ensures kinds { IfOk result (λ p. sorts_of p.kinds ≡ replicate 3 (sort.Int ∷ [])) }
+    ensures kinds { IfOk result (λ p. kind_types p.kinds ≡ replicate 3 (sort.Int ∷ sort.Words ∷ [])) }
     ensures actor { IfOk result (λ p. rules_of (slice_get p.actors 0) ≡ rules) }
     ensures one { IfOk result (λ p. length p.actors ≡ 1) }
 {
@@ -141,14 +260,18 @@ fn plan(alloc: Global, rules: Items<Rule>) -> Result<Plan, Fail>
     Ok(Plan { kinds, actors })
 }
 
-// The message of a kind with its integer.
+// The message of a kind with its integer and a text.
 fn message(alloc: Global, kind: u32, value: i64) -> Result<Message, Fail>
     requires { kind < 3 }
-    ensures { IfOk result (λ m. fits (replicate 3 (sort.Int ∷ [])) m ≡ true) }
+    ensures { IfOk result (λ m. fits (replicate 3 (sort.Int ∷ sort.Words ∷ [])) m ≡ true) }
 {
     let mut fields = Fields::new(alloc);
+    let text = Text::from_bytes(alloc, b"hall ")?;
     match fields.push(Value::Int(value)) {
-        Ok(()) => Ok(Message { kind, fields }),
+        Ok(()) => match fields.push(Value::Words(text)) {
+            Ok(()) => Ok(Message { kind, fields }),
+            Err(_) => Err(Fail::from(NoMemory)),
+        },
         Err(_) => Err(Fail::from(NoMemory)),
     }
 }
@@ -160,7 +283,7 @@ fn run_with<L: Ledger>(
     feed: &[(u32, i64)],
     blank: Blank,
 ) -> Result<ActorRun, Fail>
-    requires runnable { AreRunnable (replicate 3 (sort.Int ∷ [])) rules }
+    requires runnable { AreRunnable 1 (replicate 3 (sort.Int ∷ sort.Words ∷ [])) rules }
     requires kinds { All (λ row. row.0 < 3) feed.now }
     requires few { length feed.now ≤ 1000 }
     requires name { blank.name ≡ L.name }
@@ -178,7 +301,7 @@ fn run_with<L: Ledger>(
 }
 
 fn run(alloc: Global, rules: Items<Rule>, feed: &[(u32, i64)]) -> Result<ActorRun, Fail>
-    requires runnable { AreRunnable (replicate 3 (sort.Int ∷ [])) rules }
+    requires runnable { AreRunnable 1 (replicate 3 (sort.Int ∷ sort.Words ∷ [])) rules }
     requires kinds { All (λ row. row.0 < 3) feed.now }
     requires few { length feed.now ≤ 1000 }
 {
@@ -257,6 +380,47 @@ fn the_older_of_two_is_taken(rt: HostRuntime) -> Result<(), Fail> {
     Ok(())
 }
 
+// The oldest message is passed over, since its value is another.
+#[test]
+fn two_messages_of_equal_values_join(rt: HostRuntime) -> Result<(), Fail> {
+    let alloc = rt.alloc();
+    let rules = one(alloc, guarded(alloc, 0, Relation::Equal, 1)?)?;
+    let run = run(alloc, rules, &[(0, 1), (0, 2), (1, 2)])?;
+    assert_eq!(rt;
+        shown(alloc, &run)?.bytes(),
+        b" 1 -; 2 -; 3 rule 1 2 3 22; left 1 2".as_slice()
+    );
+    Ok(())
+}
+
+#[test]
+fn the_greater_of_one_kind_twice_stands_first(rt: HostRuntime) -> Result<(), Fail> {
+    let alloc = rt.alloc();
+    let rules = one(alloc, guarded(alloc, 0, Relation::Greater, 0)?)?;
+    let run = run(alloc, rules, &[(0, 4), (0, 4), (0, 7)])?;
+    assert_eq!(rt;
+        shown(alloc, &run)?.bytes(),
+        b" 1 -; 2 -; 3 rule 1 3 1 74; left 2 3".as_slice()
+    );
+    Ok(())
+}
+
+#[test]
+fn a_text_and_a_sum_beyond_64_bits_are_printed(rt: HostRuntime) -> Result<(), Fail> {
+    let alloc = rt.alloc();
+    let rules = one(alloc, adding(alloc)?)?;
+    let run = run(
+        alloc,
+        rules,
+        &[(0, 9223372036854775807), (1, 9223372036854775807)],
+    )?;
+    assert_eq!(rt;
+        shown(alloc, &run)?.bytes(),
+        b" 1 -; 2 rule 1 1 2 hall 18446744073709551614; left 1".as_slice()
+    );
+    Ok(())
+}
+
 #[test]
 fn two_patterns_of_one_kind_take_two_messages(rt: HostRuntime) -> Result<(), Fail> {
     let alloc = rt.alloc();
@@ -272,7 +436,7 @@ fn two_patterns_of_one_kind_take_two_messages(rt: HostRuntime) -> Result<(), Fai
 #[test]
 fn the_older_message_goes_before_the_earlier_definition(rt: HostRuntime) -> Result<(), Fail> {
     let alloc = rt.alloc();
-    let rules = both(alloc, silent(alloc, &[0, 1])?, silent(alloc, &[2, 1])?)?;
+    let rules = both(alloc, silent_pair(alloc, 0, 1)?, silent_pair(alloc, 2, 1)?)?;
     let run = run(alloc, rules, &[(2, 1), (0, 2), (1, 3)])?;
     assert_eq!(rt;
         shown(alloc, &run)?.bytes(),
@@ -284,7 +448,7 @@ fn the_older_message_goes_before_the_earlier_definition(rt: HostRuntime) -> Resu
 #[test]
 fn a_longer_match_with_an_older_message_wins(rt: HostRuntime) -> Result<(), Fail> {
     let alloc = rt.alloc();
-    let rules = both(alloc, silent(alloc, &[1])?, silent(alloc, &[0, 1])?)?;
+    let rules = both(alloc, silent(alloc, 1)?, silent_pair(alloc, 0, 1)?)?;
     let run = run(alloc, rules, &[(0, 1), (1, 2)])?;
     assert_eq!(rt;
         shown(alloc, &run)?.bytes(),
@@ -296,7 +460,7 @@ fn a_longer_match_with_an_older_message_wins(rt: HostRuntime) -> Result<(), Fail
 #[test]
 fn the_earlier_of_equal_definitions_fires(rt: HostRuntime) -> Result<(), Fail> {
     let alloc = rt.alloc();
-    let rules = both(alloc, silent(alloc, &[0, 1])?, silent(alloc, &[0, 1])?)?;
+    let rules = both(alloc, silent_pair(alloc, 0, 1)?, silent_pair(alloc, 0, 1)?)?;
     let run = run(alloc, rules, &[(0, 1), (1, 2)])?;
     assert_eq!(rt;
         shown(alloc, &run)?.bytes(),

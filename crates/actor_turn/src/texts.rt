@@ -1,8 +1,8 @@
-//! What the types of a plan say of its texts. These calls only tell it to their callers.
+//! What the types of a plan say of its texts and numbers. These calls only tell it to their callers.
 ghost use Rattle.std.specs.List.{AllByRecursion};
-ghost use Rattle.actor_turn.specs.Fits.{ItemFits, OperandFits, RuleFits, StatementFits, WordsFit};
+ghost use Rattle.actor_turn.specs.Fits.{ItemFits, LeafFits, OperandFits, RuleFits, StatementFits, TermFits, WordsFit};
 
-use guard_eval::{Operand, WordsLeaf};
+use guard_eval::{Leaf, Operand, Term, WordsLeaf};
 use join_base::Items;
 use script_types::{Item, Rule, Statement};
 
@@ -17,13 +17,30 @@ fn leaf_text(leaf: &WordsLeaf)
     }
 }
 
+fn leaf_number(leaf: Leaf)
+    ensures { LeafFits leaf }
+{
+    match leaf {
+        Leaf::Number(_) => {}
+        Leaf::Field(_) => {}
+    }
+}
+
+fn term_numbers(term: &Term)
+    ensures { TermFits term.now }
+{
+    for signed in term.leaves() {
+        leaf_number(signed.leaf);
+    }
+}
+
 fn item_text(item: &Item)
     ensures { ItemFits item.now }
 {
     match item {
         Item::Words(leaf) => leaf_text(leaf),
         Item::Plain(_) => {}
-        Item::Sum(_) => {}
+        Item::Sum(term) => term_numbers(term),
     }
 }
 

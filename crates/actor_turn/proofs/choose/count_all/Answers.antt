@@ -1,11 +1,15 @@
 use Rattle.std.proofs.Common.{sym, subst, arith}
-use Rattle.actor_turn.specs.Runnable.{ArePlain}
-use Rattle.actor_turn.proofs.RulesLemmas.{plain_at, count_more}
+use Rattle.actor_turn.specs.Runnable.{AreTestable}
+use Rattle.actor_turn.proofs.RulesLemmas.{short_at, suits_at, count_more}
 use Rattle.actor_turn.proofs.choose.count_all.Goals as goal
 
-pub count_partials-count-requires-clause-plain : goal.count_partials-count-requires-clause-plain
-count_partials-count-requires-clause-plain c =
-    plain_at c.as_slice-rule-items.result.now c.loop-rule.rule-index c.rule-item.result (subst ArePlain (sym c.as_slice-rule-items.ensures.same) c.requires.plain) c.loop-rule-test.true c.rule-item.is
+pub count_partials-count-requires-clause-short : goal.count_partials-count-requires-clause-short
+count_partials-count-requires-clause-short c =
+    short_at c.args.letters.now c.as_slice-rule-items.result.now c.loop-rule.rule-index c.rule-item.result (subst (AreTestable c.args.letters.now) (sym c.as_slice-rule-items.ensures.same) c.requires.testable) c.loop-rule-test.true c.rule-item.is
+
+pub count_partials-count-requires-clause-suits : goal.count_partials-count-requires-clause-suits
+count_partials-count-requires-clause-suits c =
+    suits_at c.args.letters.now c.as_slice-rule-items.result.now c.loop-rule.rule-index c.rule-item.result (subst (AreTestable c.args.letters.now) (sym c.as_slice-rule-items.ensures.same) c.requires.testable) c.loop-rule-test.true c.rule-item.is
 
 pub loop-rule-preserved : goal.loop-rule-preserved
 loop-rule-preserved c = record {

@@ -1,6 +1,6 @@
 use Rattle.std.proofs.Common.{◌≡◌, take}
-use Rattle.actor_turn.specs.Fair.{sorts_of}
+use Rattle.script_types.specs.Typed.{kind_types}
 use Rattle.actor_turn.proofs.opening.kind_sorts.Given as goal
 
 abbrev pub invariant-loop-kind : goal.invariant-loop-kind
-invariant-loop-kind l = l.sorts ≡ sorts_of (take l.kind-index l.kind-items)
+invariant-loop-kind l = l.sorts ≡ kind_types (take l.kind-index l.kind-items)

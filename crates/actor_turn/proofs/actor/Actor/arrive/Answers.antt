@@ -1,19 +1,21 @@
-use Rattle.std.proofs.Common.{◌≡◌, ◌∙◌, ◌<◌, ◌≤◌, [], ◌∷◌, ◌++◌, length, true, ap, sym, subst, arith}
+use Rattle.std.proofs.Common.{◌≡◌, ◌∙◌, List, ◌<◌, ◌≤◌, [], ◌∷◌, ◌++◌, length, true, ap, sym, subst, arith}
 use Rattle.std.proofs.lemmas.List.{length-map}
 use Rattle.join_base.specs.declared.message.Message.{Message}
 use Rattle.actor_turn.specs.declared.run.Ending.TheVariants.{Running}
-use Rattle.actor_turn.specs.Step.{Late, fits, fair_step}
+use Rattle.actor_turn.specs.Step.{Late, fits, fair_step, letters_of}
 use Rattle.actor_turn.specs.declared.run.Entry.{Entry}
-use Rattle.actor_turn.specs.Held.{Held}
-use Rattle.actor_turn.specs.Runnable.{AreRunnable}
-use Rattle.actor_turn.proofs.RunnableLemmas.{plain_from_runnable}
-use Rattle.actor_turn.proofs.KeptLemmas.{popped, IsKept-same, recorded_with, kept_by, ready_with, ready_of_entries}
+use Rattle.actor_turn.specs.Held.{CanRun, Held}
+use Rattle.actor_turn.proofs.KeptLemmas.{popped, IsKept-same, recorded_with, kept_by, ready_with, ready_of_entries, testable_with}
 use Rattle.actor_turn.proofs.StepLemmas.{Concluded, concluded_step}
 use Rattle.actor_turn.proofs.actor.Actor.arrive.Goals as goal
 
-pub conclude-requires-clause-plain : goal.conclude-requires-clause-plain
-conclude-requires-clause-plain g c =
-    plain_from_runnable c.self.inside.sorts c.self.inside.rules (subst (λ (h : Held). AreRunnable h.setting.sorts h.setting.rules) (sym c.self.view_is) c.requires.runnable)
+pub conclude-requires-clause-testable : goal.conclude-requires-clause-testable
+conclude-requires-clause-testable g c =
+    let a = c.self.inside in
+    let back = sym c.self.view_is in
+    let fit = subst (λ (h : Held). fits h.setting.sorts c.args.message.now ≡ true) back c.requires.fits in
+    let letters = c.in_ok-push.ensures.ok ∙ ap (λ (m : Message). a.letters ++ m ∷ []) c.in_ok-letter.ensures.equal in
+    testable_with a.sorts a.letters a.entries a.live.items c.self.invariant.0 c.args.message.now fit (length a.late_actors.items) a.rules (subst CanRun back c.requires.runnable) c.push.new.self letters
 
 pub conclude-requires-clause-recorded : goal.conclude-requires-clause-recorded
 conclude-requires-clause-recorded g c =
@@ -26,10 +28,10 @@ pub conclude-requires-clause-ready : goal.conclude-requires-clause-ready
 conclude-requires-clause-ready g c =
     let a = c.self.inside in
     let back = sym c.self.view_is in
-    let runnable = subst (λ (h : Held). AreRunnable h.setting.sorts h.setting.rules) back c.requires.runnable in
+    let runnable = subst CanRun back c.requires.runnable in
     let fit = subst (λ (h : Held). fits h.setting.sorts c.args.message.now ≡ true) back c.requires.fits in
     let letters = c.in_ok-push.ensures.ok ∙ ap (λ (m : Message). a.letters ++ m ∷ []) c.in_ok-letter.ensures.equal in
-    ready_with a.sorts a.letters a.entries a.live.items c.self.invariant.0 c.args.message.now fit a.rules runnable c.push.new.self c.len.result letters c.len.ensures.count
+    ready_with a.sorts a.letters a.entries a.live.items c.self.invariant.0 c.args.message.now fit (length a.late_actors.items) a.rules runnable c.push.new.self c.len.result letters c.len.ensures.count
 
 pub invariant_of-self-in-Ok : goal.invariant_of-self-in-Ok
 invariant_of-self-in-Ok g c =
@@ -56,12 +58,13 @@ returns-in-Ok-clause-step g c =
     let late : Late = record { feeds = a.late_feeds.items; actors = a.late_actors.items } in
     let back = sym c.self.view_is in
     let running : a.ending ≡ Running = ap (λ (h : Held). h.state.ending) c.self.view_is ∙ c.requires.running in
-    let runnable = subst (λ (h : Held). AreRunnable h.setting.sorts h.setting.rules) back c.requires.runnable in
+    let runnable = subst CanRun back c.requires.runnable in
     let room = subst (λ (h : Held). length h.state.entries < 1000) back c.requires.room in
     let arrivals = subst (λ (h : Held). 1000 ≤ h.setting.limits.arrivals) back c.requires.arrivals in
     let partials = subst (λ (h : Held). 32016 ≤ h.setting.limits.partials) back c.requires.partials in
     let fit = subst (λ (h : Held). fits h.setting.sorts message ≡ true) back c.requires.fits in
-    let ready = ready_of_entries a.sorts a.letters a.entries a.live.items c.self.invariant.0 message fit a.rules runnable in
+    let ready = ready_of_entries a.sorts a.letters a.entries a.live.items c.self.invariant.0 message fit (length a.late_actors.items) a.rules runnable in
+    let testable = testable_with a.sorts a.letters a.entries a.live.items c.self.invariant.0 message fit (length a.late_actors.items) a.rules runnable (letters_of a.entries ++ message ∷ []) (ap (λ (xs : List Message). xs ++ message ∷ []) (sym c.self.invariant.0.same)) in
     let few : length a.live.items ≤ length a.entries = omega (arith, c.self.invariant.0.few, ap length c.self.invariant.0.same, length-map a.entries (λ (e : Entry). e.message)) in
     let letters = c.in_ok-push.ensures.ok ∙ (λ i. c.self.invariant.0.same i ++ c.in_ok-letter.ensures.equal i ∷ []) in
     let concluded : Concluded a.rules a.entries a.live.items c.args.source message c.push.new.self c.len.result c.in_ok-own.own c.conclude.new.entries c.conclude.new.live.items c.in-Ok.outcome
@@ -69,6 +72,6 @@ returns-in-Ok-clause-step g c =
     ap (λ (h : Held). fair_step h.setting h.state c.args.source message) back
     ∙ (λ i. fair_step (record { sorts = a.sorts; rules = a.rules; limits = a.limits }) (record { entries = a.entries; live = a.live.items; ending = running i; late = late }) c.args.source message)
     ∙ concluded_step a.sorts a.rules a.limits a.entries a.live.items late c.args.source message
-    (plain_from_runnable a.sorts a.rules runnable) room arrivals partials few fit ready
+    testable room arrivals partials few fit ready
     c.push.new.self c.len.result c.in_ok-own.own c.conclude.new.entries c.conclude.new.live.items c.in-Ok.outcome concluded
     ∙ (λ i. (record { entries = c.conclude.new.entries; live = c.conclude.new.live.items; ending = sym running i; late = late }, c.in-Ok.outcome))
