@@ -10,7 +10,7 @@ use Rattle.first_form.specs.declared.refusal.Refusal.{Refusal}
 use Rattle.first_form.specs.declared.refusal.Refusal.TheVariants.{NotBuilt, NoMemory}
 use Rattle.first_form.specs.Gives.{IsRefusal}
 use Rattle.first_form.specs.Whole.{both, where_true, all_of, behind}
-use Rattle.first_form.specs.FirstFeed.{Post, with_line, ended_lines, is_line_end, line_post}
+use Rattle.first_form.specs.FirstFeed.{Post, with_line, ended_lines, line_post}
 
 -- the posts of further lines behind posts that were read, at most 1,000 in all
 abbrev pub posts_behind : Plan → List Post → List (List ℕ) → Option (List Post)
@@ -81,5 +81,5 @@ module _ (plan : Plan) (posts : List Post) (line : List ℕ) where
     feed_is_long full so_far = sym so_far ∙ here ∙ too_many (ended_lines rest) full
 
 -- a text has a part
-pub has_part : (text : List ℕ) → 0 < length (slice_split is_line_end text)
-has_part text = omega (arith, length-slice_split is_line_end text)
+pub has_part : (p : ℕ → Bool) (text : List ℕ) → 0 < length (slice_split p text)
+has_part p text = omega (arith, length-slice_split p text)

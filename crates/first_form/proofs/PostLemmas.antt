@@ -4,35 +4,37 @@ use Rattle.std.specs.Prelude.{ℤ, neg_ℤ, FitsSigned, nat_le, ◌&&◌, ◌==�
 use Rattle.first_form.specs.Gives.{Gives}
 use Rattle.first_form.specs.declared.refusal.Refusal.{Refusal}
 use Rattle.std.specs.Int.{w64}
-use Rattle.std.specs.List.{AllByRecursion, slice_split}
+use Rattle.std.specs.List.{AllByRecursion, list_all, slice_split}
 use Rattle.std.specs.Option.{option_map, option_and_then}
 use Rattle.std.proofs.lemmas.Option.{slice_get-map}
-use Rattle.join_base.specs.Integer.{are_digits, integer_of, natural_of, negative, positive, value_of}
+use Rattle.join_base.specs.Integer.{are_digits, integer_of, natural_of, negative, positive, value_of as digits_value}
+use Rattle.join_base.specs.Text.{is_text}
 use Rattle.join_base.specs.declared.message.Sort.{Sort}
 use Rattle.join_base.specs.declared.message.Sort.TheVariants as sort
 use Rattle.join_base.specs.declared.message.Value.{Value}
 use Rattle.join_base.specs.declared.message.Value.TheVariants as value
 use Rattle.join_base.specs.declared.message.Message.{Message}
+use Rattle.guard_eval.specs.Meaning.{is_of_sort}
+use Rattle.script_types.specs.Typed.{field_types, kind_types}
 use Rattle.script_types.specs.declared.plan.Kind.{Kind}
 use Rattle.script_types.specs.declared.plan.Plan.{Plan}
 use Rattle.actor_turn.specs.Step.{are_of_sorts, fits_sorts}
-use Rattle.actor_turn.specs.Fair.{sorts_of}
 use Rattle.actor_turn.specs.Fits.{MessageFits, PostFits, ValueFits}
-use Rattle.actor_turn.proofs.ListLemmas.{each_at}
 use Rattle.first_form.specs.Whole.{all_of}
 use Rattle.first_form.specs.Names.{number_of}
-use Rattle.first_form.specs.FirstForm.{AreFirstPosts, IsFirstPlan, IsIntKind}
-use Rattle.first_form.specs.FirstFeed.{Post, ended_lines, feed_of, int_value, is_comma, is_line_end, line_post, message_of_parts, message_with, name_of_actor, name_of_kind, of_count, post_of, post_with, posts_of_lines}
-use Rattle.first_form.proofs.OptionLemmas.{all_of-each, all_of-length, and-right, both_value, map_value, then_value, where_value}
-use Rattle.first_form.proofs.KindLemmas.{counted_kind, le_true, position_within}
+use Rattle.first_form.specs.FirstForm.{AreFirstPosts}
+use Rattle.first_form.specs.FirstFeed.{Post, ended_lines, feed_of, is_comma, is_line_end, is_plain, line_post, message_of_kind, message_of_parts, message_with, name_of_actor, name_of_kind, post_of, post_with, posts_of_lines, value_of, values_of}
+use Rattle.first_form.proofs.OptionLemmas.{all_of-each, all_of-length, and-left, and-right, both_value, map_value, then_value, where_value}
+use Rattle.first_form.proofs.KindLemmas.{le_true, position_within}
+use Rattle.first_form.proofs.TextLemmas.{text_test}
 
 -- ---- integers
 
 natural_small : (max : ℕ) (text : List ℕ) (n : ℕ) → natural_of max text ≡ Some n → n ≤ max
 natural_small max text n is =
-    let w = where_value (are_digits text && nat_le (value_of text) max) (Some (value_of text)) n is in
-    let same : value_of text ≡ n = let v = w.value in cc in
-    subst (λ (k : ℕ). k ≤ max) same (le_true (value_of text) max (and-right (are_digits text) (nat_le (value_of text) max) w.test))
+    let w = where_value (are_digits text && nat_le (digits_value text) max) (Some (digits_value text)) n is in
+    let same : digits_value text ≡ n = let v = w.value in cc in
+    subst (λ (k : ℕ). k ≤ max) same (le_true (digits_value text) max (and-right (are_digits text) (nat_le (digits_value text) max) w.test))
 
 negative_fits : (n : ℕ) → n ≤ 2 ^ 63 → FitsSigned w64 (neg_ℤ (pos n))
 negative_fits zero small = record { sfits = omega arith }
@@ -56,47 +58,51 @@ fits_by text z false is = fits_positive (natural_of (2 ^ 63 - 1) text) z (natura
 integer_fits : (text : List ℕ) (z : ℤ) → integer_of text ≡ Some z → FitsSigned w64 z
 integer_fits text z is = fits_by text z (slice_index text 0 == 45) is
 
+-- ---- values
+
+-- a value of this type, which a message may have
+pub record FitsField (type : Sort) (v : Value) : Type 0 where
+  pub of_type : is_of_sort type v ≡ true
+  pub fits : ValueFits v
+
+value_fits : (type : Sort) (text : List ℕ) (v : Value) → value_of type text ≡ Some v → FitsField type v
+value_fits sort.Int text v is =
+    let m = map_value (λ (n : ℤ). value.Int n) (integer_of text) v is in
+    subst (FitsField sort.Int) m.result (record { of_type = refl; fits = integer_fits text m.first m.value })
+value_fits sort.Words text v is =
+    let w = where_value (is_text 120 text && list_all is_plain text) (Some (value.Words text)) v is in
+    let e : value.Words text ≡ v = let same = w.value in cc in
+    subst (FitsField sort.Words) e (record { of_type = refl; fits = text_test 120 text (and-left (is_text 120 text) (list_all is_plain text) w.test) })
+
+pub record FitFields (types : List Sort) (values : List Value) : Type 0 where
+  pub of_types : are_of_sorts types values ≡ true
+  pub fit : AllByRecursion ValueFits values
+
+values_fit : (types : List Sort) (parts : List (List ℕ)) (values : List Value) → values_of types parts ≡ Some values → FitFields types values
+values_fit [] [] values is = let e : [] ≡ values = cc in subst (FitFields []) e (record { of_types = refl; fit = tt })
+values_fit [] (part ∷ parts) values is = absurd cc
+values_fit (type ∷ types) [] values is = absurd cc
+values_fit (type ∷ types) (part ∷ parts) values is =
+    let b = both_value (λ (v : Value) (vs : List Value). v ∷ vs) (value_of type part) (values_of types parts) values is in
+    let one = value_fits type part b.first b.one in
+    let more = values_fit types parts b.second b.other in
+    subst (FitFields (type ∷ types)) b.result (record {
+      of_types = ap (λ (t : Bool). t && are_of_sorts types b.second) one.of_type ∙ more.of_types;
+      fit = (one.fits, more.fit);
+    })
+
 -- ---- messages
 
-abbrev IsInt : Value → Type 0
-IsInt (value.Int n) = FitsSigned w64 n
-IsInt (value.Words bytes) = ⊥
-
-int_fits : (text : List ℕ) (v : Value) → int_value text ≡ Some v → IsInt v
-int_fits text v is =
-    let m = map_value (λ (n : ℤ). value.Int n) (integer_of text) v is in
-    subst IsInt m.result (integer_fits text m.first m.value)
-
-values_fit : (values : List Value) → AllByRecursion IsInt values → AllByRecursion ValueFits values
-values_fit [] ints = tt
-values_fit (value.Int n ∷ values) ints = (ints.0, values_fit values ints.1)
-values_fit (value.Words bytes ∷ values) ints = absurd ints.0
-
-ints_of_sorts : (fields : List (List ℕ × Sort)) (values : List Value) → AllByRecursion (λ (field : List ℕ × Sort). field.1 ≡ sort.Int) fields → AllByRecursion IsInt values
-    → length values ≡ length fields → are_of_sorts (map (λ (field : List ℕ × Sort). field.1) fields) values ≡ true
-ints_of_sorts [] [] sorts ints same = refl
-ints_of_sorts [] (v ∷ values) sorts ints same = absurd (omega arith)
-ints_of_sorts (f ∷ fields) [] sorts ints same = absurd (omega arith)
-ints_of_sorts (f ∷ fields) (value.Words bytes ∷ values) sorts ints same = absurd ints.0
-ints_of_sorts (f ∷ fields) (value.Int n ∷ values) sorts ints same =
-    rw sorts.0 (ints_of_sorts fields values sorts.1 ints.1 (omega arith))
-
-module _ (plan : Plan) (first : IsFirstPlan plan) where
+module _ (plan : Plan) where
   message_fits : (parts : List (List ℕ)) (message : Message) → message_of_parts plan.kinds parts ≡ Some message → MessageFits plan message
   message_fits [] message is = absurd cc
-  message_fits (name ∷ values) message is =
-      let b = both_value message_with (option_and_then (of_count plan.kinds (length values)) (number_of name_of_kind plan.kinds name)) (all_of int_value values) message is in
-      let k = counted_kind plan.kinds (length values) (number_of name_of_kind plan.kinds name) b.first b.one in
-      let ints : AllByRecursion IsInt b.second = all_of-each int_value IsInt int_fits values b.second b.other in
-      let count : length b.second ≡ length values = all_of-length int_value values b.second b.other in
-      let kind : IsIntKind k.kind = each_at IsIntKind plan.kinds b.first k.kind k.kind_is first.kinds in
-      let sorts : slice_get (sorts_of plan.kinds) b.first ≡ Some (map (λ (field : List ℕ × Sort). field.1) k.kind.fields) =
-      slice_get-map (λ (kind : Kind). map (λ (field : List ℕ × Sort). field.1) kind.fields) plan.kinds b.first ∙ ap (option_map (λ (kind : Kind). map (λ (field : List ℕ × Sort). field.1) kind.fields)) k.kind_is in
-      let Fits : Message → Type 0 = MessageFits plan in
-      subst Fits b.result (record {
-        kind = ap (λ (s : Option (List Sort)). fits_sorts s b.second) sorts ∙ ints_of_sorts k.kind.fields b.second kind.ints ints (omega (arith, count, k.count_is));
-        values = values_fit b.second ints;
-      })
+  message_fits (name ∷ parts) message is =
+      let n = then_value (message_of_kind plan.kinds parts) (number_of name_of_kind plan.kinds name) message is in
+      let m = map_value (message_with n.first) (option_and_then (λ (kind : Kind). values_of (field_types kind) parts) (slice_get plan.kinds n.first)) message n.result in
+      let k = then_value (λ (kind : Kind). values_of (field_types kind) parts) (slice_get plan.kinds n.first) m.first m.value in
+      let fit = values_fit (field_types k.first) parts m.first k.result in
+      let types : slice_get (kind_types plan.kinds) n.first ≡ Some (field_types k.first) = slice_get-map field_types plan.kinds n.first ∙ ap (option_map field_types) k.value in
+      subst (MessageFits plan) m.result (record { kind = ap (λ (s : Option (List Sort)). fits_sorts s m.first) types ∙ fit.of_types; values = fit.fit })
 
   post_fits : (parts : List (List ℕ)) (post : Post) → post_of plan parts ≡ Some post → PostFits plan post
   post_fits [] post is = absurd cc
@@ -119,6 +125,6 @@ module _ (plan : Plan) (first : IsFirstPlan plan) where
       }
 
 -- the same of an answer
-pub first_answer : (plan : Plan) → IsFirstPlan plan → (bytes : List ℕ) (result : Result (List Post) Refusal) → Gives result (feed_of plan bytes) → IfOk result (AreFirstPosts plan)
-first_answer plan first bytes (Ok posts) is = first_posts plan first bytes posts is
-first_answer plan first bytes (Err refusal) is = tt
+pub first_answer : (plan : Plan) (bytes : List ℕ) (result : Result (List Post) Refusal) → Gives result (feed_of plan bytes) → IfOk result (AreFirstPosts plan)
+first_answer plan bytes (Ok posts) is = first_posts plan bytes posts is
+first_answer plan bytes (Err refusal) is = tt

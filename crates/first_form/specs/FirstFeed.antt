@@ -1,14 +1,18 @@
--- The posts of a feed of the first form: at most 1,000 lines, each ended by LF, each an actor's name, a kind's name and its integers, with commas between them.
-use Rattle.std.specs.Prelude.{ℕ, List, [], ◌∷◌, Bool, false, ◌==◌, nat_le, length, slice_get, Option, None, Some}
-use Rattle.std.specs.List.{slice_split}
+-- The posts of a feed of the first form: at most 1,000 lines, each ended by LF, each an actor's name, a kind's name and its values, with commas between them.
+use Rattle.std.specs.Prelude.{ℕ, List, [], ◌∷◌, Bool, not, ◌&&◌, ◌||◌, ◌==◌, nat_le, length, slice_get, Option, None, Some}
+use Rattle.std.specs.List.{list_all, slice_split}
 use Rattle.std.specs.Option.{option_map, option_and_then}
 use Rattle.join_base.specs.Integer.{integer_of}
+use Rattle.join_base.specs.Text.{is_text}
+use Rattle.join_base.specs.declared.message.Sort.{Sort}
+use Rattle.join_base.specs.declared.message.Sort.TheVariants as sort
 use Rattle.join_base.specs.declared.message.Value.{Value}
 use Rattle.join_base.specs.declared.message.Value.TheVariants as value
 use Rattle.join_base.specs.declared.message.Message.{Message}
 use Rattle.script_types.specs.declared.plan.Plan.{Plan}
 use Rattle.script_types.specs.declared.plan.Kind.{Kind}
 use Rattle.script_types.specs.declared.plan.ActorPlan.{ActorPlan}
+use Rattle.script_types.specs.Typed.{field_types}
 use Rattle.first_form.specs.Whole.{both, where_true, all_of}
 use Rattle.first_form.specs.Names.{number_of}
 
@@ -23,15 +27,6 @@ name_of_actor actor = actor.name
 -- the name by which a line calls a kind
 abbrev pub name_of_kind : Kind → List ℕ
 name_of_kind kind = kind.name
-
--- whether there is a kind, with so many fields
-abbrev pub has_fields : ℕ → Option Kind → Bool
-has_fields count None = false
-has_fields count (Some kind) = length kind.fields == count
-
--- the number of a kind, where that kind has so many fields
-abbrev pub of_count : List Kind → ℕ → ℕ → Option ℕ
-of_count kinds count number = where_true (has_fields count (slice_get kinds number)) (Some number)
 
 -- LF
 abbrev pub is_line_end : ℕ → Bool
@@ -60,14 +55,37 @@ ended_lines (part ∷ other ∷ parts) = option_map (with_line part) (ended_line
 abbrev pub int_value : List ℕ → Option Value
 int_value bytes = option_map (λ n. value.Int n) (integer_of bytes)
 
+-- neither a quote nor CR; a comma or LF ends a value
+abbrev pub is_plain : ℕ → Bool
+is_plain b = not (b == 34 || b == 13)
+
+-- UTF-8 of at most 120 plain bytes
+abbrev pub words_value : List ℕ → Option Value
+words_value bytes = where_true (is_text 120 bytes && list_all is_plain bytes) (Some (value.Words bytes))
+
+-- the value of a field of this type
+abbrev pub value_of : Sort → List ℕ → Option Value
+value_of sort.Int bytes = int_value bytes
+value_of sort.Words bytes = words_value bytes
+
+-- a value for each of these types, which are as many as the parts
+abbrev pub values_of : List Sort → List (List ℕ) → Option (List Value)
+values_of [] [] = Some []
+values_of [] (part ∷ parts) = None
+values_of (type ∷ types) [] = None
+values_of (type ∷ types) (part ∷ parts) = both (λ v values. v ∷ values) (value_of type part) (values_of types parts)
+
 -- the message of the kind of this number with these values
 abbrev pub message_with : ℕ → List Value → Message
 message_with kind values = record { kind = kind; fields = values }
 
--- the message of a named kind, with as many integers as the kind has fields
+-- the message of the kind of this number whose values these parts are
+abbrev pub message_of_kind : List Kind → List (List ℕ) → ℕ → Option Message
+message_of_kind kinds parts number = option_map (message_with number) (option_and_then (λ (kind : Kind). values_of (field_types kind) parts) (slice_get kinds number))
+
+-- the message of a named kind, with a value for each of its fields
 abbrev pub message_of : List Kind → List ℕ → List (List ℕ) → Option Message
-message_of kinds name values =
-    both message_with (option_and_then (of_count kinds (length values)) (number_of name_of_kind kinds name)) (all_of int_value values)
+message_of kinds name parts = option_and_then (message_of_kind kinds parts) (number_of name_of_kind kinds name)
 
 -- a kind's name and its values
 abbrev pub message_of_parts : List Kind → List (List ℕ) → Option Message

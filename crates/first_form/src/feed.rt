@@ -1,16 +1,18 @@
 //! The posts of a feed of the first form.
-ghost use Rattle.std.specs.Prelude.{List, ℕ, ◌≡◌, ◌+◌, ◌≤◌, ◌<◌, ◌∷◌, [], ◌==◌, ◌++◌, length, MatchOption, IfOk, IfSome, OnOk, OnErr, Err, count_by};
-ghost use Rattle.std.specs.List.{AllByRecursion, position, slice_split};
-ghost use Rattle.std.specs.Option.{option_and_then, option_map};
+ghost use Rattle.std.specs.Prelude.{List, ℕ, ◌≡◌, ◌+◌, ◌≤◌, ◌<◌, ◌∷◌, [], ◌==◌, ◌++◌, length, map, MatchOption, IfOk, IfSome, OnOk, OnErr, Err, Some};
+ghost use Rattle.std.specs.List.{AllByRecursion, list_all, position, slice_split};
 ghost use Rattle.first_form.specs.Gives.{Gives};
-ghost use Rattle.first_form.specs.Whole.{all_of};
-ghost use Rattle.first_form.specs.FirstFeed.{feed_of, int_value, is_comma, is_line_end, line_post, message_of, message_of_parts, name_of_kind, of_count};
-ghost use Rattle.first_form.specs.Names.{number_of};
-ghost use Rattle.first_form.specs.FirstForm.{AreFirstPosts, IsFirstPlan, IsIntKind};
+ghost use Rattle.script_types.specs.Typed.{IsTypedKind};
+ghost use Rattle.join_base.specs.declared.message.Sort.{Sort};
+ghost use Rattle.first_form.specs.FirstFeed.{feed_of, int_value, is_comma, is_line_end, is_plain, line_post, message_of, message_of_parts, value_of, values_of, words_value};
+ghost use Rattle.first_form.specs.Parts.{parts_in};
+ghost use Rattle.first_form.specs.FirstForm.{AreFirstPosts, IsFirstPlan};
 
 use crate::names::number_of;
 use crate::refusal::Refusal;
-use join_base::{Fields, Message, Posts, PushFault, Value, read_integer};
+use join_base::{
+    Fields, Message, Name, Posts, PushFault, Sort, Text, TextFault, Value, read_integer,
+};
 use script_types::{Kind, Plan};
 use std::alloc::Global;
 
@@ -32,26 +34,43 @@ fn cut(text: &[u8], byte: u8) -> Option<(&[u8], &[u8])>
     }
 }
 
-fn comma_count(text: &[u8]) -> usize
-    ensures { result ≡ count_by is_comma text.now }
-{
-    text.iter().filter(|b| **b == b',').count()
-}
-
-// How many parts commas make of a text.
-#[tactic(auto, using(crate::proofs::CutLemmas::part_counts))]
-fn part_count(text: &[u8]) -> usize
-    ensures { result ≡ length (slice_split is_comma text.now) }
-{
-    comma_count(text) + 1
-}
-
 fn int_value(text: &[u8]) -> Result<Value, Refusal>
     ensures { Gives result (int_value text.now) }
 {
     match read_integer(text) {
         Some(n) => Ok(Value::Int(n)),
         None => Err(Refusal::NotBuilt),
+    }
+}
+
+fn are_plain(text: &[u8]) -> bool
+    ensures { result ≡ list_all is_plain text.now }
+{
+    text.iter().all(|b| !(*b == b'"' || *b == b'\r'))
+}
+
+// A text without a quote and CR.
+fn words_value(alloc: Global, text: &[u8]) -> Result<Value, Refusal>
+    ensures { Gives result (words_value text.now) }
+{
+    if !are_plain(text) {
+        return Err(Refusal::NotBuilt);
+    }
+    match Text::from_bytes(alloc, text) {
+        Ok(words) => Ok(Value::Words(words)),
+        Err(TextFault::NoMemory) => Err(Refusal::NoMemory),
+        Err(TextFault::NotText) => Err(Refusal::NotBuilt),
+        Err(TextFault::TooLong) => Err(Refusal::NotBuilt),
+    }
+}
+
+// The value of a field of this type.
+fn value_of(alloc: Global, sort: Sort, text: &[u8]) -> Result<Value, Refusal>
+    ensures { Gives result (value_of sort text.now) }
+{
+    match sort {
+        Sort::Int => int_value(text),
+        Sort::Words => words_value(alloc, text),
     }
 }
 
@@ -68,72 +87,67 @@ fn append(values: &mut Fields, value: Value) -> Result<(), Refusal>
     }
 }
 
-// The values of at most 8 parts.
-fn values_of(alloc: Global, text: &[u8]) -> Result<Fields, Refusal>
-    requires { length (slice_split is_comma text.now) ≤ 8 }
-    ensures { Gives result (all_of int_value (slice_split is_comma text.now)) }
+// The first part of a text, and the text behind the comma, where there is one.
+fn first_part(text: &[u8]) -> (&[u8], Option<&[u8]>)
+    ensures { slice_split is_comma text.now ≡ result.0.now ∷ parts_in result.1 }
+{
+    match cut(text, b',') {
+        None => (text, None),
+        Some((part, more)) => (part, Some(more)),
+    }
+}
+
+// The values of these fields, which are the parts of a text.
+fn values_of(alloc: Global, fields: &[(Name, Sort)], text: Option<&[u8]>) -> Result<Fields, Refusal>
+    requires few { length fields.now ≤ 8 }
+    ensures { Gives result (values_of (map (λ (field : List ℕ × Sort). field.1) fields.now) (parts_in text.entry)) }
 {
     let mut values = Fields::new(alloc);
     let mut rest = text;
-    'parts: while let Some((part, more)) = cut(rest, b',') {
-        let value = int_value(part)?;
+    for (_, sort) in fields {
+        let Some(left) = rest else {
+            return Err(Refusal::NotBuilt);
+        };
+        let (part, more) = first_part(left);
+        let value = value_of(alloc, *sort, part)?;
         append(&mut values, value)?;
         rest = more;
     }
-    let value = int_value(rest)?;
-    append(&mut values, value)?;
+    if rest.is_some() {
+        return Err(Refusal::NotBuilt);
+    }
     Ok(values)
 }
 
-// The number of a kind with this name and so many fields.
-fn kind_of_count(kinds: &[Kind], name: &[u8], count: usize) -> Option<u32>
-    requires { length kinds.now ≤ 64 }
-    ensures { result ≡ option_and_then (of_count kinds.now count) (number_of name_of_kind kinds.now name.now) }
-{
-    let number = number_of(kinds, name)?;
-    if kinds[number].fields.len() == count {
-        Some(number as u32)
-    } else {
-        None
-    }
-}
-
-// The message of a kind whose values stand in this text.
-fn message_of(alloc: Global, kinds: &[Kind], name: &[u8], values: &[u8]) -> Result<Message, Refusal>
+// The message of a kind whose values stand in this text; without one it has none.
+fn message_of(
+    alloc: Global,
+    kinds: &[Kind],
+    name: &[u8],
+    values: Option<&[u8]>,
+) -> Result<Message, Refusal>
     requires few { length kinds.now ≤ 64 }
-    requires kinds { AllByRecursion IsIntKind kinds.now }
-    ensures message { Gives result (message_of kinds.now name.now (slice_split is_comma values.now)) }
+    requires kinds { AllByRecursion IsTypedKind kinds.now }
+    ensures message { Gives result (message_of kinds.now name.now (parts_in values.entry)) }
 {
-    let Some(kind) = kind_of_count(kinds, name, part_count(values)) else {
+    let Some(number) = number_of(kinds, name) else {
         return Err(Refusal::NotBuilt);
     };
-    let fields = values_of(alloc, values)?;
-    Ok(Message { kind, fields })
-}
-
-// The message of a kind without values.
-fn empty_message_of(alloc: Global, kinds: &[Kind], name: &[u8]) -> Result<Message, Refusal>
-    requires few { length kinds.now ≤ 64 }
-    requires kinds { AllByRecursion IsIntKind kinds.now }
-    ensures message { Gives result (message_of kinds.now name.now []) }
-{
-    let Some(kind) = kind_of_count(kinds, name, 0) else {
-        return Err(Refusal::NotBuilt);
-    };
-    let fields = Fields::new(alloc);
-    Ok(Message { kind, fields })
+    let fields = values_of(alloc, kinds[number].fields.as_slice(), values)?;
+    Ok(Message {
+        kind: number as u32,
+        fields,
+    })
 }
 
 // The message that a kind's name and the values behind it give.
 fn rest_message(alloc: Global, kinds: &[Kind], text: &[u8]) -> Result<Message, Refusal>
     requires few { length kinds.now ≤ 64 }
-    requires kinds { AllByRecursion IsIntKind kinds.now }
+    requires kinds { AllByRecursion IsTypedKind kinds.now }
     ensures message { Gives result (message_of_parts kinds.now (slice_split is_comma text.now)) }
 {
-    match cut(text, b',') {
-        None => empty_message_of(alloc, kinds, text),
-        Some((name, values)) => message_of(alloc, kinds, name, values),
-    }
+    let (name, values) = first_part(text);
+    message_of(alloc, kinds, name, values)
 }
 
 fn line_post(alloc: Global, plan: &Plan, line: &[u8]) -> Result<(u32, Message), Refusal>
@@ -171,8 +185,8 @@ fn posts_of(alloc: Global, plan: &Plan, bytes: &[u8]) -> Result<Posts, Refusal>
 }
 
 /// The posts of a feed of the first form: at most 1,000 lines, each ended by LF, each an actor's name, a kind's name
-/// and as many integers as the kind has fields, with commas between them. `NotBuilt` exactly where the bytes are
-/// not of this form.
+/// and a value for each field of the kind, with commas between them. An integer has an optional `-` and digits, a text
+/// is UTF-8 of at most 120 bytes without `,`, `"`, CR and LF. `NotBuilt` exactly where the bytes are not of this form.
 pub fn feed_of(alloc: Global, plan: &Plan, bytes: &[u8]) -> Result<Posts, Refusal>
     requires plan { IsFirstPlan plan.now }
     ensures posts { Gives result (feed_of plan.now bytes.now) }

@@ -3,78 +3,36 @@ ghost use Rattle.std.specs.Prelude.{◌≡◌, true};
 ghost use Rattle.std.specs.List.{list_all};
 ghost use Rattle.script_types.specs.Typed.{IsTyped};
 ghost use Rattle.first_form.specs.FirstForm.{IsFirstPlan};
-ghost use Rattle.first_form.specs.Runs.{actor_runs, can_run, is_int, item_runs, kind_runs, rule_runs, statement_runs};
+ghost use Rattle.first_form.specs.Runs.{actor_runs, can_run, is_print, rule_runs};
 
-use guard_eval::WordsLeaf;
-use join_base::Sort;
-use script_types::{ActorPlan, Item, Kind, Plan, Rule, Statement};
+use script_types::{ActorPlan, Plan, Rule, Statement};
 
-fn is_int(sort: Sort) -> bool
-    ensures { result ≡ is_int sort }
-{
-    match sort {
-        Sort::Int => true,
-        Sort::Words => false,
-    }
-}
-
-fn kind_runs(kind: &Kind) -> bool
-    ensures { result ≡ kind_runs kind.now }
-{
-    kind.fields.as_slice().iter().all(|field| is_int(field.1))
-}
-
-fn item_runs(item: &Item) -> bool
-    ensures { result ≡ item_runs item.now }
-{
-    match item {
-        Item::Words(WordsLeaf::Fixed(_)) => true,
-        Item::Words(WordsLeaf::Field(_)) => false,
-        Item::Plain(_) => true,
-        Item::Sum(_) => false,
-    }
-}
-
-fn items_run(items: &[Item]) -> bool
-    ensures { result ≡ list_all item_runs items.now }
-{
-    items.iter().all(item_runs)
-}
-
-fn statement_runs(statement: &Statement) -> bool
-    ensures { result ≡ statement_runs statement.now }
+fn is_print(statement: &Statement) -> bool
+    ensures { result ≡ is_print statement.now }
 {
     match statement {
-        Statement::Print(items) => items_run(items.as_slice()),
+        Statement::Print(_) => true,
         Statement::Post { .. } => false,
         Statement::Stop => false,
     }
 }
 
 fn body_runs(body: &[Statement]) -> bool
-    ensures { result ≡ list_all statement_runs body.now }
+    ensures { result ≡ list_all is_print body.now }
 {
-    body.iter().all(statement_runs)
+    body.iter().all(is_print)
 }
 
 fn rule_runs(rule: &Rule) -> bool
     ensures { result ≡ rule_runs rule.now }
 {
-    rule.definition.patterns.len() <= 2
-        && rule.definition.conjuncts.len() == 0
-        && body_runs(rule.body.as_slice())
+    rule.definition.patterns.len() <= 2 && body_runs(rule.body.as_slice())
 }
 
 fn actor_runs(actor: &ActorPlan) -> bool
     ensures { result ≡ actor_runs actor.now }
 {
     actor.rules.as_slice().iter().all(rule_runs)
-}
-
-fn kinds_run(kinds: &[Kind]) -> bool
-    ensures { result ≡ list_all kind_runs kinds.now }
-{
-    kinds.iter().all(kind_runs)
 }
 
 fn actors_run(actors: &[ActorPlan]) -> bool
@@ -86,13 +44,10 @@ fn actors_run(actors: &[ActorPlan]) -> bool
 fn plan_runs(plan: &Plan) -> bool
     ensures { result ≡ can_run plan.now }
 {
-    plan.actors.len() == 1
-        && kinds_run(plan.kinds.as_slice())
-        && actors_run(plan.actors.as_slice())
+    plan.actors.len() == 1 && actors_run(plan.actors.as_slice())
 }
 
-/// Whether a plan runs so far: it has one actor, no text field, no guard, at most two patterns in a definition, and its
-/// bodies print texts of the script and integer variables.
+/// Whether a plan runs so far: it has one actor, at most two patterns in a definition, and bodies that only print.
 #[tactic(auto, using(crate::proofs::RunsLemmas::first_plan))]
 pub fn can_run(plan: &Plan) -> bool
     requires typed { IsTyped plan.now }

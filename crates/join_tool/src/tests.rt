@@ -18,9 +18,12 @@ const FEED: &[u8] = b"m,a,1\nm,b,2\n";
 const LOG: &[u8] =
     b"joinlog 1 arrivals 50000 partials 65536 feeds 1\nactor m\n1 from feed 1 a(1)\n2 from feed 1 b(2)\nfire rule 1 take 1,2\nprint \"hit 12\"\nend running left - partials 1\n";
 
-// The same script with a guard, whose plan does not run yet.
+// The same script with a guard.
 const GUARDED: &[u8] =
     b"message a(x: int) message b(x: int) actor m { when a(x) & b(y) if x == y { print \"hit \" x y; } }";
+
+// A script whose plan does not run yet.
+const POSTING: &[u8] = b"message a(x: int) actor m { when a(x) { post m a(x); } }";
 
 // How each log of the actor m begins.
 const HEAD: &[u8] = b"joinlog 1 arrivals 50000 partials 65536 feeds 1\nactor m\n";
@@ -143,6 +146,121 @@ fn of_all_matches_the_oldest_is_taken(rt: HostRuntime) -> Result<(), Fail> {
         let mut log = bytes_of(alloc, HEAD)?;
         log.push_all(rest)?;
         answers(&rt, alloc, RUN, &mut inputs, Status::Done, log.bytes())?;
+    }
+    Ok(())
+}
+
+// The log of a script and a feed, behind the first two lines.
+fn logs(
+    rt: &impl Abort,
+    alloc: Global,
+    script: &[u8],
+    feed: &[u8],
+    rest: &[u8],
+) -> Result<(), Fail> {
+    let mut inputs = inputs_of(alloc, script, feed)?;
+    let log = joined(alloc, &[HEAD, rest])?;
+    answers(rt, alloc, RUN, &mut inputs, Status::Done, log.bytes())
+}
+
+#[test]
+fn a_guard_decides_which_messages_are_joined(rt: HostRuntime) -> Result<(), Fail> {
+    let twice: &[u8] =
+        b"message a(x: int) message b(x: int) actor m { when a(x) & a(y) if x > y { print x y; } }";
+    let cases: [(&[u8], &[u8], &[u8]); 6] = [
+        (
+            GUARDED,
+            b"m,a,1\nm,a,2\nm,b,2\n",
+            b"1 from feed 1 a(1)\n2 from feed 1 a(2)\n3 from feed 1 b(2)\nfire rule 1 take 2,3\nprint \"hit 22\"\nend running left 1 partials 2\n",
+        ),
+        (
+            twice,
+            b"m,a,1\nm,a,2\n",
+            b"1 from feed 1 a(1)\n2 from feed 1 a(2)\nfire rule 1 take 2,1\nprint \"21\"\nend running left - partials 1\n",
+        ),
+        (
+            twice,
+            b"m,a,1\n",
+            b"1 from feed 1 a(1)\nend running left 1 partials 3\n",
+        ),
+        // A conjunct over one pattern cuts a partial match, and one without a variable stops complete matches alone.
+        (
+            b"message a(x: int) message b(x: int) actor m { when a(x) & b(y) if x == 1 && x == y { } }",
+            b"m,a,1\nm,a,2\nm,b,7\n",
+            b"1 from feed 1 a(1)\n2 from feed 1 a(2)\n3 from feed 1 b(7)\nend running left 1,2,3 partials 3\n",
+        ),
+        (
+            b"message a(x: int) actor m { when a(x) & a(y) if 1 == 2 { } }",
+            b"m,a,1\nm,a,2\n",
+            b"1 from feed 1 a(1)\n2 from feed 1 a(2)\nend running left 1,2 partials 5\n",
+        ),
+        (
+            b"message a(x: int) message b(x: int) actor m { when a(x) & b(y) if !x == y || (x > 5 || y > 5) { } }",
+            b"m,a,3\nm,b,3\nm,b,4\n",
+            b"1 from feed 1 a(3)\n2 from feed 1 b(3)\n3 from feed 1 b(4)\nfire rule 1 take 1,3\nend running left 2 partials 2\n",
+        ),
+    ];
+    for (script, feed, rest) in cases {
+        logs(&rt, rt.alloc(), script, feed, rest)?;
+    }
+    Ok(())
+}
+
+#[test]
+fn bodies_print_texts_and_exact_sums(rt: HostRuntime) -> Result<(), Fail> {
+    let cases: [(&[u8], &[u8], &[u8]); 4] = [
+        (
+            b"message say(s: text) message a(x: int) actor m { when say(s) & a(x) if s == \"go\" || x > 5 { print s (x + x - 1); } }",
+            b"m,say,no\nm,a,3\nm,a,6\n",
+            b"1 from feed 1 say(\"no\")\n2 from feed 1 a(3)\n3 from feed 1 a(6)\nfire rule 1 take 1,3\nprint \"no11\"\nend running left 2 partials 2\n",
+        ),
+        (
+            b"message n(v: int) actor m { when n(v) { print (v + 1) \" \" (-v) \" \" v; } }",
+            b"m,n,9223372036854775807\nm,n,-9223372036854775808\n",
+            b"1 from feed 1 n(9223372036854775807)\nfire rule 1 take 1\nprint \"9223372036854775808 -9223372036854775807 9223372036854775807\"\n2 from feed 1 n(-9223372036854775808)\nfire rule 1 take 2\nprint \"-9223372036854775807 9223372036854775808 -9223372036854775808\"\nend running left - partials 1\n",
+        ),
+        (
+            b"message n(v: int) actor m { when n(v) & n(w) if v + w == 9223372036854775807 + 9223372036854775807 { } when n(v) & n(w) if v - w < 0 - 9223372036854775807 - 9223372036854775807 { } }",
+            b"m,n,-9223372036854775808\nm,n,9223372036854775807\nm,n,9223372036854775807\nm,n,9223372036854775807\n",
+            b"1 from feed 1 n(-9223372036854775808)\n2 from feed 1 n(9223372036854775807)\nfire rule 2 take 1,2\n3 from feed 1 n(9223372036854775807)\n4 from feed 1 n(9223372036854775807)\nfire rule 1 take 3,4\nend running left - partials 2\n",
+        ),
+        (
+            b"message say(s: text) actor m { when say(s) & say(t) if s != t { print s \"|\" t; } }",
+            b"m,say,\nm,say,\nm,say,a b\n",
+            b"1 from feed 1 say(\"\")\n2 from feed 1 say(\"\")\n3 from feed 1 say(\"a b\")\nfire rule 1 take 1,3\nprint \"|a b\"\nend running left 2 partials 3\n",
+        ),
+    ];
+    for (script, feed, rest) in cases {
+        logs(&rt, rt.alloc(), script, feed, rest)?;
+    }
+    Ok(())
+}
+
+// A script with texts, and a text of 120 bytes.
+const SAY: &[u8] = b"message say(s: text) actor m { when say(s) { } }";
+
+const LONGEST: &[u8] =
+    b"kkkkkkkkkkkkkkkkkkkkkkkkkkkkkkkkkkkkkkkkkkkkkkkkkkkkkkkkkkkkkkkkkkkkkkkkkkkkkkkkkkkkkkkkkkkkkkkkkkkkkkkkkkkkkkkkkkkkkkkk";
+
+#[test]
+fn texts_of_a_feed_have_at_most_120_bytes(rt: HostRuntime) -> Result<(), Fail> {
+    let alloc = rt.alloc();
+    let feed = joined(alloc, &[b"m,say,", LONGEST, b"\n"])?;
+    let end: &[u8] = b"\")\nfire rule 1 take 1\nend running left - partials 1\n";
+    let log = joined(alloc, &[b"1 from feed 1 say(\"", LONGEST, end])?;
+    logs(&rt, alloc, SAY, feed.bytes(), log.bytes())?;
+    let longer = joined(alloc, &[b"m,say,", LONGEST, b"k\n"])?;
+    let feeds: [&[u8]; 5] = [
+        longer.bytes(),
+        b"m,say,a\"b\n",
+        b"m,say,a\rb\n",
+        b"m,say,\xFF\n",
+        b"m,say\n",
+    ];
+    for feed in feeds {
+        let mut inputs = inputs_of(alloc, SAY, feed)?;
+        let refused: &[u8] = b"refused feed NotBuilt\n";
+        answers(&rt, alloc, RUN, &mut inputs, Status::FeedRefused, refused)?;
     }
     Ok(())
 }
@@ -277,15 +395,11 @@ fn a_script_that_is_cut_is_refused(rt: HostRuntime) -> Result<(), Fail> {
 #[test]
 fn plans_that_cannot_run_yet_are_refused(rt: HostRuntime) -> Result<(), Fail> {
     let alloc = rt.alloc();
-    let rests: [&[u8]; 8] = [
+    let rests: [&[u8]; 4] = [
         b"} actor n { }",
-        b"} message s(t: text)",
-        b"when a(x) if x == 1 { } }",
         b"when a(x) & a(y) & a(z) { } }",
-        b"when a(x) { post m a(x); } }",
+        b"when a(x) { print x; } when a(x) { post m a(x); } }",
         b"when a(x) { stop; } }",
-        b"when a(x) { print (x + 1); } }",
-        b"when a(x) { } when a(x) { print x; print (x); } }",
     ];
     for rest in rests {
         let script = joined(alloc, &[INT, rest])?;
@@ -467,7 +581,7 @@ fn nothing_is_fetched_behind_a_refusal(rt: HostRuntime) -> Result<(), Fail> {
         b"refused usage\n",
     )?;
     answers(&rt, alloc, RUN, &mut inputs, Status::ReadFault, b"")?;
-    let mut inputs = inputs_of(alloc, GUARDED, FEED)?;
+    let mut inputs = inputs_of(alloc, POSTING, FEED)?;
     inputs.fail(2)?;
     let refused: &[u8] = b"refused script NotBuilt\n";
     answers(&rt, alloc, RUN, &mut inputs, Status::ScriptRefused, refused)?;

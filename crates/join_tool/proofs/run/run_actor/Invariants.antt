@@ -11,5 +11,6 @@ invariant-loop-message g l = record {
   setting : l.actor.setting ≡ setting_of l.plan 0 default_limits;
   state : l.actor.state ≡ after_all (setting_of l.plan 0 default_limits) (opening 1 (length l.plan.actors)) (sent_of (take l.message-index l.message-items));
   running : l.actor.state.ending ≡ Running;
+  late : length l.actor.state.late.actors ≡ length l.plan.actors;
   count : length l.actor.state.entries ≡ l.message-index;
 }
