@@ -1,5 +1,5 @@
 -- The posts of a feed of the first form fit the plan.
-use Rattle.std.proofs.Common.{◌≡◌, ℕ, zero, suc, ◌-◌, ◌^◌, ◌≤◌, Bool, true, false, List, [], ◌∷◌, length, map, slice_get, Option, None, Some, refl, ap, ◌∙◌, subst, arith, pos}
+use Rattle.std.proofs.Common.{◌≡◌, ℕ, zero, suc, ◌-◌, ◌^◌, ◌≤◌, Bool, true, false, List, [], ◌∷◌, length, slice_get, Option, None, Some, refl, ap, ◌∙◌, subst, arith, pos}
 use Rattle.std.specs.Prelude.{ℤ, neg_ℤ, FitsSigned, nat_le, ◌&&◌, ◌==◌, slice_index, drop, if◌then◌else◌, Result, Ok, Err, IfOk}
 use Rattle.first_form.specs.Gives.{Gives}
 use Rattle.first_form.specs.declared.refusal.Refusal.{Refusal}

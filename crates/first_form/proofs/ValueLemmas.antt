@@ -1,9 +1,8 @@
 -- Values that are read in turn.
-use Rattle.std.proofs.Common.{◌≡◌, ◌∙◌, ℕ, ◌<◌, ◌≤◌, true, false, List, [], ◌∷◌, length, map, drop, slice_get, Option, None, Some, refl, sym, ap, subst, arith, Bor}
+use Rattle.std.proofs.Common.{◌≡◌, ◌∙◌, ℕ, ◌<◌, true, List, [], ◌∷◌, length, slice_get, Option, None, Some, refl, ap, arith, Bor}
 use Rattle.std.specs.Prelude.{is_some}
 use Rattle.std.specs.List.{slice_split}
 use Rattle.std.specs.Option.{option_map, option_and_then}
-use Rattle.join_base.specs.declared.message.Sort.{Sort}
 use Rattle.join_base.specs.declared.message.Value.{Value}
 use Rattle.script_types.specs.declared.plan.Kind.{Kind}
 use Rattle.script_types.specs.Typed.{field_types}

@@ -1,8 +1,8 @@
 -- What a file that was fetched gives.
-use Rattle.std.proofs.Common.{◌≡◌, ℕ, ◌≤◌, List, length, Option, None, Some, refl, sym, ap, ◌∙◌, subst, inl}
+use Rattle.std.proofs.Common.{ℕ, ◌≤◌, List, length, Option, None, Some, inl}
 use Rattle.std.specs.Prelude.{Result, Ok, Err}
 use Rattle.join_base.specs.declared.message.Message.{Message}
-use Rattle.join_base.specs.Outside.{Files, Told, FetchTells}
+use Rattle.join_base.specs.Outside.{Told, FetchTells}
 use Rattle.script_types.specs.declared.plan.Plan.{Plan}
 use Rattle.join_tool.specs.declared.load.LoadFault.{LoadFault}
 use Rattle.join_tool.specs.declared.load.LoadFault.TheVariants as load

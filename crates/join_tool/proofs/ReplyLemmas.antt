@@ -1,9 +1,9 @@
 -- From files that were loaded to the reply.
-use Rattle.std.proofs.Common.{◌≡◌, ◌⊎◌, inl, inr, ℕ, List, [], ◌∷◌, ◌++◌, append_assoc, Option, None, Some, true, false, refl, sym, ap, ◌∙◌, subst}
+use Rattle.std.proofs.Common.{◌≡◌, ◌⊎◌, inl, inr, ℕ, List, [], ◌∷◌, ◌++◌, append_assoc, Option, None, Some, true, false, refl, sym, ◌∙◌, subst}
 use Rattle.std.proofs.lemmas.List.{append-nil}
 use Rattle.std.specs.Prelude.{Result, Ok, Err}
 use Rattle.join_base.specs.declared.message.Message.{Message}
-use Rattle.join_base.specs.Outside.{Files, Told, with_asked}
+use Rattle.join_base.specs.Outside.{Told, with_asked}
 use Rattle.script_types.specs.declared.plan.Plan.{Plan}
 use Rattle.join_tool.specs.declared.load.LoadFault.{LoadFault}
 use Rattle.join_tool.specs.declared.load.LoadFault.TheVariants as load

@@ -1,9 +1,9 @@
 -- From what was prepared and written to the answer.
-use Rattle.std.proofs.Common.{◌≡◌, ◌⊎◌, inl, inr, ℕ, ◌≤◌, ◌<◌, List, [], ◌∷◌, ◌++◌, length, Option, None, Some, true, false, refl, sym, ap, ◌∙◌, subst, arith}
-use Rattle.std.specs.Prelude.{Result, Ok, Err}
+use Rattle.std.proofs.Common.{◌≡◌, inl, inr, ℕ, List, length, Option, None, Some, true, false, sym, ap, ◌∙◌, subst, arith}
+use Rattle.std.specs.Prelude.{Ok, Err}
 use Rattle.join_base.specs.declared.outside.Failed.{Failed}
 use Rattle.join_base.specs.declared.message.Message.{Message}
-use Rattle.join_base.specs.Outside.{Files, Told, Rose, content_of}
+use Rattle.join_base.specs.Outside.{Files, Told, content_of}
 use Rattle.script_types.specs.declared.plan.Plan.{Plan}
 use Rattle.script_grammar.specs.declared.tree.Tree.{Tree}
 use Rattle.script_reader.specs.declared.fault.ScriptCause.{ScriptCause}
@@ -19,7 +19,7 @@ use Rattle.join_tool.specs.declared.status.Status.TheVariants as status
 use Rattle.join_tool.specs.declared.reply.Reply.{Reply}
 use Rattle.join_tool.specs.declared.reply.Reply.TheVariants as reply
 use Rattle.join_tool.specs.Command.{Command, Run, Check, command_of}
-use Rattle.join_tool.specs.Verdict.{Words, Feeds, Verdict, GivesFeed, GivesPlan, GivesRunnable, GivesScript, Holds, HoldsTooMany, IsScriptFault, IsTooLong, OfCheck, OfCommand, OfRun, OfWords, RefusesScript, Usage, TooLong, ScriptRefused, NotBuilt, FeedRefused, Checks, Runs, max_file}
+use Rattle.join_tool.specs.Verdict.{Words, Feeds, Verdict, GivesFeed, GivesPlan, GivesRunnable, GivesScript, Holds, HoldsTooMany, IsScriptFault, IsTooLong, OfCheck, OfCommand, OfRun, OfWords, RefusesScript, Usage, TooLong, ScriptRefused, NotBuilt, FeedRefused, Checks, Runs}
 use Rattle.join_tool.specs.Loading.{Tells}
 use Rattle.join_tool.specs.Replying.{IsReplyStatus, verdict_of}
 use Rattle.join_tool.specs.Writing.{Writes}

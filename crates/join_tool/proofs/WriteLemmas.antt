@@ -1,10 +1,10 @@
 -- Writing piece by piece.
-use Rattle.std.proofs.Common.{◌≡◌, ℕ, ◌+◌, ◌≤◌, List, [], ◌∷◌, ◌++◌, append_assoc, length, take, drop, Option, None, Some, refl, sym, ap, ◌∙◌, subst}
+use Rattle.std.proofs.Common.{◌≡◌, ℕ, ◌+◌, ◌≤◌, List, [], ◌++◌, append_assoc, length, take, drop, Option, None, Some, refl, sym, ap, ◌∙◌, subst}
 use Rattle.std.proofs.lemmas.List.{append-nil}
 use Rattle.std.proofs.Math.Seq.{take-add}
-use Rattle.std.specs.Prelude.{Result, Ok, Err}
+use Rattle.std.specs.Prelude.{Ok, Err}
 use Rattle.join_base.specs.Outside.{WriteTells}
-use Rattle.join_tool.specs.Writing.{TakesFront, Writes}
+use Rattle.join_tool.specs.Writing.{Writes}
 
 -- a sink that tells took these bytes
 abbrev pub Took : Option (List ℕ) → Option (List ℕ) → List ℕ → Type 0

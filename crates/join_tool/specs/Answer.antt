@@ -1,5 +1,5 @@
 -- What the program answers, where the inputs tell what they hold and the sink what it took.
-use Rattle.std.specs.Prelude.{◌≡◌, ℕ, List, [], ◌∷◌, ◌++◌, Option, None, Some}
+use Rattle.std.specs.Prelude.{◌≡◌, ℕ, List, [], ◌++◌, Option, Some}
 use Rattle.join_base.specs.Outside.{Files, Told}
 use Rattle.join_tool.specs.declared.status.Status.{Status}
 use Rattle.join_tool.specs.declared.status.Status.TheVariants as status

@@ -1,11 +1,10 @@
 -- What loading a file answers.
-use Rattle.std.specs.Prelude.{◌≡◌, ◌⊎◌, ℕ, ◌≤◌, List, [], ◌∷◌, Option, None, Some, Result, Ok, Err}
+use Rattle.std.specs.Prelude.{◌≡◌, ◌⊎◌, ℕ, ◌≤◌, List, Option, None, Some, Result, Ok, Err}
 use Rattle.join_base.specs.declared.outside.FetchFault.{FetchFault}
 use Rattle.join_base.specs.declared.outside.FetchFault.TheVariants as fetch
 use Rattle.join_base.specs.declared.message.Message.{Message}
 use Rattle.join_base.specs.Outside.{Files, Told, Rose, with_asked}
 use Rattle.script_types.specs.declared.plan.Plan.{Plan}
-use Rattle.script_reader.specs.declared.fault.ScriptCause.{ScriptCause}
 use Rattle.script_reader.specs.declared.fault.ScriptFault.{ScriptFault}
 use Rattle.script_reader.specs.declared.fault.ScriptFault.TheVariants as script
 use Rattle.first_form.specs.FirstFeed.{feed_of}

@@ -1,5 +1,5 @@
 -- How a reply stands to the verdict.
-use Rattle.std.specs.Prelude.{◌≡◌, ◌⊎◌, ℕ, ◌≤◌, List, [], ◌∷◌, ◌++◌, Option, None, Some, Result, Ok, Err}
+use Rattle.std.specs.Prelude.{◌≡◌, ℕ, ◌≤◌, List, [], ◌∷◌, ◌++◌, None, Result, Ok, Err}
 use Rattle.join_base.specs.Outside.{Told, Rose}
 use Rattle.first_form.specs.FirstForm.{AreFirstPosts, IsFirstPlan}
 use Rattle.join_tool.specs.declared.load.LoadFault.{LoadFault}

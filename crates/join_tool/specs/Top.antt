@@ -4,7 +4,6 @@ use Rattle.join_base.specs.Outside.{Files, Told, Rose}
 use Rattle.join_tool.specs.declared.status.Status.{Status}
 use Rattle.join_tool.specs.declared.status.Status.TheVariants as status
 use Rattle.join_tool.specs.declared.reply.Reply.{Reply}
-use Rattle.join_tool.specs.declared.reply.Reply.TheVariants as reply
 use Rattle.join_tool.specs.declared.reply.Unanswered.{Unanswered}
 use Rattle.join_tool.specs.declared.reply.Unanswered.TheVariants as unanswered
 use Rattle.join_tool.specs.Command.{command_of}

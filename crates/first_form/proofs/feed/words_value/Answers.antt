@@ -1,6 +1,5 @@
-use Rattle.std.proofs.Common.{◌≡◌, ◌∙◌, sym, ap, false, Some, rules, arith}
+use Rattle.std.proofs.Common.{◌∙◌, sym, ap, Some, arith}
 use Rattle.std.specs.Prelude.{Err}
-use Rattle.join_base.specs.declared.text.TextFault.TheVariants.{NotText, TooLong}
 use Rattle.join_base.specs.declared.message.Value.TheVariants.{Words}
 use Rattle.first_form.proofs.TextLemmas.{text_read, words_given, words_not_text}
 use Rattle.first_form.proofs.feed.words_value.Goals as goal

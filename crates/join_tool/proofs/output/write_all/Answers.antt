@@ -1,8 +1,6 @@
 use Rattle.std.proofs.Common.{◌∙◌, ◌≡◌, ◌+◌, ◌≤◌, ℕ, List, ◌++◌, length, sym, ap, take, drop, arith, subst}
-use Rattle.std.specs.Prelude.{Option}
 use Rattle.std.proofs.lemmas.List.{take-append-drop, length-drop}
 use Rattle.join_base.specs.declared.outside.Failed.{Failed}
-use Rattle.join_base.specs.Outside.{WriteTells}
 use Rattle.join_tool.proofs.WriteLemmas.{Took, took_more, took_some, front_more}
 use Rattle.join_tool.proofs.output.write_all.Goals as goal
 

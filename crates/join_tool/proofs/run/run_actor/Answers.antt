@@ -1,4 +1,4 @@
-use Rattle.std.proofs.Common.{◌∙◌, sym, ap, arith, length}
+use Rattle.std.proofs.Common.{◌∙◌, ap, arith, length}
 use Rattle.actor_turn.specs.Step.{Late, opening}
 use Rattle.actor_turn.specs.Fair.{setting_of}
 use Rattle.join_tool.specs.Verdict.{default_limits}
