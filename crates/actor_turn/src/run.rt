@@ -1,5 +1,5 @@
 //! What a run shows.
-use join_base::{Items, Line, Message, Numbers, Source};
+use join_base::{Items, Line, Message, Numbers, Source, Value};
 
 /// The limits of each actor of a run, both from 1 to 1,000,000.
 #[derive(Clone, Copy, PartialEq, Eq, Debug)]
@@ -40,6 +40,8 @@ pub enum Effect {
     Print(Line),
     /// A message for an actor, which is counted from 0.
     Post { target: u32, message: Message },
+    /// A value for whoever sent the arrival with this number.
+    Reply { number: u32, value: Value },
 }
 
 /// The match that fired at an arrival.
@@ -60,6 +62,9 @@ pub struct Entry {
     pub number: u32,
     pub source: Source,
     pub message: Message,
+    /// 1 more than the greater of the arrival's before it, or 0, and the one that the message carried.
+    /// In a run of version 1 it is 0.
+    pub stamp: u64,
     pub firing: Option<Firing>,
 }
 
@@ -80,6 +85,8 @@ pub struct ActorRun {
 /// The run of a plan.
 #[derive(Drop)]
 pub struct Run {
+    /// 1 without stamps, 2 with them.
+    pub version: u32,
     pub limits: Limits,
     /// How many feeds there were, from 1 to 16.
     pub feeds: u32,

@@ -17,7 +17,7 @@ pub use integer::{read_integer, write_number};
 pub use items::{Items, NoMemory};
 pub use memory::{MemoryInputs, MemorySink};
 pub use message::{
-    FeedList, Fields, Letters, Message, Posts, PushFault, Relation, Sort, Source, Value,
+    FeedList, Fields, Letters, Message, Posts, PushFault, Relation, Sort, Source, Stamped, Value,
 };
 pub use outside::{Failed, FetchFault, Inputs, Sink};
 pub use quoted::{

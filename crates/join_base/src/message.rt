@@ -128,6 +128,28 @@ impl Message {
     }
 }
 
+/// A message with the stamp that it carries: that of the arrival whose body sent it, or 0 where it is from a feed.
+#[derive(Drop)]
+pub struct Stamped {
+    pub message: Message,
+    /// At most `Stamped::GREATEST`.
+    pub stamp: u64,
+}
+
+impl Stamped {
+    /// The greatest stamp that there is.
+    pub const GREATEST: u64 = 4294967295;
+
+    pub fn copy(&self, alloc: Global) -> Result<Stamped, NoMemory>
+        ensures equal { IfOk result (λ s. s ≡ self.now) }
+    {
+        Ok(Stamped {
+            message: self.message.copy(alloc)?,
+            stamp: self.stamp,
+        })
+    }
+}
+
 /// Where a message came from: a feed counted from 1, or an actor counted from 0.
 #[derive(Clone, Copy, PartialEq, Eq, Debug)]
 pub enum Source {
