@@ -5,5 +5,6 @@ pub mod Memory
 pub mod Numbers
 pub mod Outside
 pub mod Quoted
+pub mod Stamps
 pub mod Text
 pub mod Unquoted

@@ -181,6 +181,25 @@ fn messages_have_at_most_eight_values(rt: HostRuntime) {
     }
 }
 
+#[test]
+fn a_copy_of_a_stamped_message_has_its_stamp(rt: HostRuntime) {
+    let message = Message {
+        kind: 2,
+        fields: Fields::new(rt.alloc()),
+    };
+    let stamped = Stamped {
+        message,
+        stamp: Stamped::GREATEST,
+    };
+    match stamped.copy(rt.alloc()) {
+        Ok(copy) => {
+            assert_eq!(rt; copy.message.kind, 2);
+            assert_eq!(rt; copy.stamp, 4294967295);
+        }
+        Err(_) => assert!(rt; false),
+    }
+}
+
 fn fetched(inputs: &mut MemoryInputs, alloc: Global, name: &str, max: u64) -> Result<Bytes, Fail> {
     match inputs.fetch(alloc, name, max) {
         Ok(bytes) => Ok(bytes),
