@@ -1,5 +1,5 @@
 -- How many partial matches definitions of one or two patterns have.
-use Rattle.std.proofs.Common.{◌≡◌, ◌⊎◌, inl, inr, ℕ, zero, suc, ◌+◌, ◌*◌, ◌≤◌, List, [], ◌∷◌, ◌++◌, length, map, cond, Bool, true, false, ◌&&◌, Some, None, refl, ap, sym, ◌∙◌, subst, arith, zero-add, slice_index}
+use Rattle.std.proofs.Common.{◌≡◌, ◌⊎◌, inl, inr, ℕ, zero, suc, ◌+◌, ◌*◌, ◌≤◌, List, [], ◌∷◌, ◌++◌, length, map, cond, Bool, true, false, ◌&&◌, Option, Some, None, refl, ap, sym, ◌∙◌, subst, arith, zero-add, slice_index}
 use Rattle.std.specs.List.{AllByRecursion, filter, flat_map, count_by}
 use Rattle.std.proofs.lemmas.List.Sums.{length-filter, count_by-le-length, sum_by-append, sum_by-cons}
 use Rattle.join_base.specs.declared.message.Message.{Message}
@@ -36,9 +36,9 @@ count_none : {X : Type 0} (xs : List X) → count_by (λ x. false) xs ≡ 0
 count_none [] = refl
 count_none {X} (x ∷ xs) = count_cons (λ (y : X). false) x xs ∙ zero-add _ ∙ count_none xs
 
-module _ (letters : List Message) (live : List ℕ) (conjuncts : List Condition) where
+module _ (letters : List Message) (live : List ℕ) (conjuncts : List Condition) (window : Option ℕ) where
   abbrev short : List ℕ → Definition
-  short kinds = record { patterns = kinds; conjuncts = conjuncts }
+  short kinds = record { patterns = kinds; conjuncts = conjuncts; window = window }
 
   -- an agreeable assignment counts once
   counts : (slots : Assignment) → is_agreeable letters conjuncts slots ≡ true → ◌≡◌ {A = ℕ} (cond (is_agreeable letters conjuncts slots) 1 0) 1
@@ -108,13 +108,13 @@ module _ (letters : List Message) (live : List ℕ) (conjuncts : List Condition)
 module _ (letters : List Message) (live : List ℕ) where
   pub count_single : (d : Definition) → length d.patterns ≡ 1 → length (partial_matches letters live d) ≡ 1
   count_single d one =
-      subst (λ (kinds : List ℕ). length (partial_matches letters live (record { patterns = kinds; conjuncts = d.conjuncts })) ≡ 1) (sym (one_of d.patterns one))
-      (count_of_one letters live d.conjuncts (slice_index d.patterns 0))
+      subst (λ (kinds : List ℕ). length (partial_matches letters live (record { patterns = kinds; conjuncts = d.conjuncts; window = d.window })) ≡ 1) (sym (one_of d.patterns one))
+      (count_of_one letters live d.conjuncts d.window (slice_index d.patterns 0))
 
   pub count_pair : (d : Definition) → length d.patterns ≡ 2 → length (partial_matches letters live d) ≡ 1 + count_alone letters live d 0 + count_alone letters live d 1
   count_pair d two =
-      let P : List ℕ → Type 0 = λ kinds. let e : Definition = record { patterns = kinds; conjuncts = d.conjuncts } in length (partial_matches letters live e) ≡ 1 + count_alone letters live e 0 + count_alone letters live e 1 in
-      subst P (sym (two_of d.patterns two)) (count_of_two letters live d.conjuncts (slice_index d.patterns 0) (slice_index d.patterns 1))
+      let P : List ℕ → Type 0 = λ kinds. let e : Definition = record { patterns = kinds; conjuncts = d.conjuncts; window = d.window } in length (partial_matches letters live e) ≡ 1 + count_alone letters live e 0 + count_alone letters live e 1 in
+      subst P (sym (two_of d.patterns two)) (count_of_two letters live d.conjuncts d.window (slice_index d.patterns 0) (slice_index d.patterns 1))
 
   one_or_two : (n : ℕ) → 1 ≤ n → n ≤ 2 → (n ≡ 1) ⊎ (n ≡ 2)
   one_or_two zero l h = absurd (omega arith)

@@ -6,3 +6,4 @@ pub mod Choice
 pub mod Law
 pub mod Suits
 pub mod Listing
+pub mod Window

@@ -6,10 +6,12 @@ use join_base::{Items, NoMemory};
 use std::alloc::Global;
 
 /// The kinds that a definition joins, 1 to 8, and the conjuncts of its guard. Kinds are counted from 0.
+/// With a window of n, from 1, it sees the latest n recorded messages alone.
 #[derive(Drop)]
 pub struct Definition {
     pub patterns: Items<u32>,
     pub conjuncts: ConjunctList,
+    pub window: Option<u32>,
 }
 
 // An equal list of kinds.
@@ -28,6 +30,7 @@ impl Definition {
         Ok(Definition {
             patterns: copy_patterns(alloc, &self.patterns)?,
             conjuncts: self.conjuncts.copy(alloc)?,
+            window: self.window,
         })
     }
 }

@@ -8,6 +8,7 @@ mod extend;
 mod key;
 mod law;
 mod listing;
+mod window;
 
 pub use candidate::Candidate;
 pub use count::count_partials;
@@ -16,6 +17,7 @@ pub use extend::{complete, has_kind, try_extend};
 pub use key::{better, fair_cmp};
 pub use law::choice_law;
 pub use listing::least_match;
+pub use window::oldest_seen;
 
 #[cfg(test)]
 mod tests;

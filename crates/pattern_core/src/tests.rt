@@ -22,6 +22,7 @@ fn pair(alloc: Global) -> Result<Definition, Fail>
     Ok(Definition {
         patterns,
         conjuncts,
+        window: None,
     })
 }
 

@@ -1,6 +1,6 @@
 -- A plan is well typed: each number names something, each place has the type that is wanted there, and nothing is too many.
-use Rattle.std.specs.Prelude.{◌≡◌, ℕ, ◌<◌, ◌≤◌, List, [], ◌∷◌, Option, Some, length, map, slice_get}
-use Rattle.std.specs.List.{AllByRecursion}
+use Rattle.std.specs.Prelude.{◌≡◌, ℕ, ◌<◌, ◌≤◌, ◌==◌, List, [], ◌∷◌, Option, None, Some, length, map, slice_get}
+use Rattle.std.specs.List.{AllByRecursion, IsDistinct, filter_map}
 use Rattle.std.specs.Option.{option_and_then, option_map}
 use Rattle.join_base.specs.declared.message.Relation.{Relation}
 use Rattle.join_base.specs.declared.message.Relation.TheVariants as relation
@@ -108,17 +108,30 @@ abbrev pub IsTypedStatement : ℕ → Sorts → List ℕ → Statement → Type 
 IsTypedStatement actors sorts patterns (statement.Print items) = IsTypedPrint sorts patterns items
 IsTypedStatement actors sorts patterns (statement.Post target kind operands) = IsTypedPost actors sorts patterns target kind operands
 IsTypedStatement actors sorts patterns statement.Stop = Unit
+IsTypedStatement actors sorts patterns (statement.Reply pattern operand) = (pattern < length patterns) × IsTypedOperand sorts patterns operand
 
 abbrev pub IsNoStop : Statement → Type 0
 IsNoStop (statement.Print items) = Unit
 IsNoStop (statement.Post target kind operands) = Unit
 IsNoStop statement.Stop = ⊥
+IsNoStop (statement.Reply pattern operand) = Unit
 
 -- a stop stands nowhere but last
 abbrev pub StopsLast : List Statement → Type 0
 StopsLast [] = Unit
 StopsLast (last ∷ []) = Unit
 StopsLast (first ∷ next ∷ others) = IsNoStop first × StopsLast (next ∷ others)
+
+-- the pattern whose message is replied to
+abbrev pub replied_by : Statement → Option ℕ
+replied_by (statement.Print items) = None
+replied_by (statement.Post target kind operands) = None
+replied_by statement.Stop = None
+replied_by (statement.Reply pattern operand) = Some pattern
+
+-- no message is replied to twice
+abbrev pub ReplyOnce : List Statement → Type 0
+ReplyOnce body = IsDistinct (λ a b. a == b) (filter_map replied_by body)
 
 -- ---- rules, actors and the plan
 
@@ -132,14 +145,20 @@ TakeFields sorts [] [] = Unit
 TakeFields sorts (kind ∷ kinds) (variables ∷ rows) = TakesFields sorts kind variables × TakeFields sorts kinds rows
 TakeFields sorts _ _ = ⊥
 
+abbrev pub IsTypedWindow : Option ℕ → Type 0
+IsTypedWindow None = Unit
+IsTypedWindow (Some window) = (1 ≤ window) × (window ≤ 1000000)
+
 pub record IsTypedRule (actors : ℕ) (sorts : Sorts) (rule : Rule) : Type 0 where
   pub some_patterns : 1 ≤ length rule.definition.patterns
   pub few_patterns : length rule.definition.patterns ≤ 8
   pub variables : TakeFields sorts rule.definition.patterns rule.variables
+  pub window : IsTypedWindow rule.definition.window
   pub guard : AllByRecursion (IsTypedCondition sorts rule.definition.patterns) rule.definition.conjuncts
   pub few_statements : length rule.body ≤ 16
   pub body : AllByRecursion (IsTypedStatement actors sorts rule.definition.patterns) rule.body
   pub stop_last : StopsLast rule.body
+  pub reply_once : ReplyOnce rule.body
 
 pub record IsTypedActor (actors : ℕ) (sorts : Sorts) (actor : ActorPlan) : Type 0 where
   pub few : length actor.rules ≤ 16

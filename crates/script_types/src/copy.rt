@@ -58,6 +58,10 @@ impl Statement {
                 operands: copy_operands(alloc, operands)?,
             }),
             Statement::Stop => Ok(Statement::Stop),
+            Statement::Reply { pattern, operand } => Ok(Statement::Reply {
+                pattern: *pattern,
+                operand: operand.copy(alloc)?,
+            }),
         }
     }
 }

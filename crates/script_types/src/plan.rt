@@ -46,6 +46,11 @@ pub enum Statement {
     },
     /// The actor ends. It stands last.
     Stop,
+    /// The value of the operand, in reply to the message that the pattern takes. Patterns are counted from 0.
+    Reply {
+        pattern: u32,
+        operand: Operand,
+    },
 }
 
 /// What a print writes: words, an integer variable as it is, or a sum.

@@ -66,6 +66,7 @@ fn a_rule_is_copied(rt: HostRuntime) -> Result<(), Fail> {
     let definition = Definition {
         patterns,
         conjuncts: ConjunctList::new(alloc),
+        window: None,
     };
     assert!(rt; definition.copy(alloc).is_ok());
     let mut body = Items::new(alloc);
