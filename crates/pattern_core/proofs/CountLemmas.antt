@@ -6,7 +6,8 @@ use Rattle.join_base.specs.declared.message.Message.{Message}
 use Rattle.guard_eval.specs.Condition.{Condition}
 use Rattle.guard_eval.specs.Meaning.{Assignment, letter_at}
 use Rattle.pattern_core.specs.declared.definition.Definition.{Definition}
-use Rattle.pattern_core.specs.Matches.{is_of_kind, is_agreeable, usable, with_pattern, assignments, is_partial_match, partial_matches, partial_count}
+use Rattle.pattern_core.specs.Window.{is_seen, seen_of}
+use Rattle.pattern_core.specs.Matches.{is_of_kind, is_agreeable, usable, with_pattern, assignments, is_partial_match, partial_among, partial_matches, partial_count}
 use Rattle.pattern_core.specs.Listing.{IsShort, count_alone}
 use Rattle.pattern_core.proofs.AgreeLemmas.{agreeable_empty}
 use Rattle.pattern_core.proofs.ListingLemmas.{one_of, two_of}
@@ -44,12 +45,12 @@ module _ (letters : List Message) (live : List ℕ) (conjuncts : List Condition)
   counts : (slots : Assignment) → is_agreeable letters conjuncts slots ≡ true → ◌≡◌ {A = ℕ} (cond (is_agreeable letters conjuncts slots) 1 0) 1
   counts slots e = ap (λ (b : Bool). cond b 1 0) e
 
-  count_of_one : (kind : ℕ) → length (partial_matches letters live (short (kind ∷ []))) ≡ 1
+  count_of_one : (kind : ℕ) → length (partial_among letters live (short (kind ∷ []))) ≡ 1
   count_of_one kind =
       let partial : Assignment → Bool = is_partial_match letters (short (kind ∷ [])) in
       let ns : List ℕ = usable letters live kind [] in
       let full : List Assignment = map (λ (n : ℕ). Some n ∷ []) ns in
-      let whole : length (partial_matches letters live (short (kind ∷ []))) ≡ cond (is_agreeable letters conjuncts (None ∷ [])) 1 0 + count_by partial (full ++ []) =
+      let whole : length (partial_among letters live (short (kind ∷ []))) ≡ cond (is_agreeable letters conjuncts (None ∷ [])) 1 0 + count_by partial (full ++ []) =
       length-filter partial (assignments letters live (kind ∷ [])) ∙ count_cons partial (None ∷ []) (full ++ [])
       in
       let last : count_by partial (full ++ []) ≡ count_by partial full + 0 = count_append partial full [] in
@@ -84,7 +85,7 @@ module _ (letters : List Message) (live : List ℕ) (conjuncts : List Condition)
         ∙ ap (λ (n : ℕ). cond (agree m) 1 0 + n) (both ∙ second_alone ms)
         ∙ sym (count_cons agree m ms)
 
-    count_of_two : length (partial_matches letters live (short (first ∷ second ∷ []))) ≡ 1 + count_alone letters live (short (first ∷ second ∷ [])) 0 + count_alone letters live (short (first ∷ second ∷ [])) 1
+    count_of_two : length (partial_among letters live (short (first ∷ second ∷ []))) ≡ 1 + count_alone letters live (short (first ∷ second ∷ [])) 0 + count_alone letters live (short (first ∷ second ∷ [])) 1
     count_of_two =
         let ns : List ℕ = usable letters live first (None ∷ []) in
         let ms : List ℕ = usable letters live second [] in
@@ -92,7 +93,7 @@ module _ (letters : List Message) (live : List ℕ) (conjuncts : List Condition)
         let agree_second : ℕ → Bool = λ n. is_agreeable letters conjuncts (None ∷ Some n ∷ []) in
         let rest : List Assignment = flat_map (with_pattern letters live first) (map (λ (m : ℕ). Some m ∷ []) ms ++ []) in
         let fronts : List Assignment = map (λ (n : ℕ). Some n ∷ None ∷ []) ns in
-        let whole : length (partial_matches letters live (short (first ∷ second ∷ []))) ≡ cond (is_agreeable letters conjuncts (None ∷ None ∷ [])) 1 0 + count (fronts ++ rest) =
+        let whole : length (partial_among letters live (short (first ∷ second ∷ []))) ≡ cond (is_agreeable letters conjuncts (None ∷ None ∷ [])) 1 0 + count (fronts ++ rest) =
         length-filter partial (assignments letters live (first ∷ second ∷ [])) ∙ count_cons partial (None ∷ None ∷ []) (fronts ++ rest)
         in
         let parts : count (fronts ++ rest) ≡ count fronts + count rest = count_append partial fronts rest in
@@ -106,14 +107,14 @@ module _ (letters : List Message) (live : List ℕ) (conjuncts : List Condition)
         omega arith
 
 module _ (letters : List Message) (live : List ℕ) where
-  pub count_single : (d : Definition) → length d.patterns ≡ 1 → length (partial_matches letters live d) ≡ 1
+  pub count_single : (d : Definition) → length d.patterns ≡ 1 → length (partial_among letters live d) ≡ 1
   count_single d one =
-      subst (λ (kinds : List ℕ). length (partial_matches letters live (record { patterns = kinds; conjuncts = d.conjuncts; window = d.window })) ≡ 1) (sym (one_of d.patterns one))
+      subst (λ (kinds : List ℕ). length (partial_among letters live (record { patterns = kinds; conjuncts = d.conjuncts; window = d.window })) ≡ 1) (sym (one_of d.patterns one))
       (count_of_one letters live d.conjuncts d.window (slice_index d.patterns 0))
 
-  pub count_pair : (d : Definition) → length d.patterns ≡ 2 → length (partial_matches letters live d) ≡ 1 + count_alone letters live d 0 + count_alone letters live d 1
+  pub count_pair : (d : Definition) → length d.patterns ≡ 2 → length (partial_among letters live d) ≡ 1 + count_alone letters live d 0 + count_alone letters live d 1
   count_pair d two =
-      let P : List ℕ → Type 0 = λ kinds. let e : Definition = record { patterns = kinds; conjuncts = d.conjuncts; window = d.window } in length (partial_matches letters live e) ≡ 1 + count_alone letters live e 0 + count_alone letters live e 1 in
+      let P : List ℕ → Type 0 = λ kinds. let e : Definition = record { patterns = kinds; conjuncts = d.conjuncts; window = d.window } in length (partial_among letters live e) ≡ 1 + count_alone letters live e 0 + count_alone letters live e 1 in
       subst P (sym (two_of d.patterns two)) (count_of_two letters live d.conjuncts d.window (slice_index d.patterns 0) (slice_index d.patterns 1))
 
   one_or_two : (n : ℕ) → 1 ≤ n → n ≤ 2 → (n ≡ 1) ⊎ (n ≡ 2)
@@ -122,8 +123,8 @@ module _ (letters : List Message) (live : List ℕ) where
   one_or_two (suc (suc zero)) l h = inr refl
   one_or_two (suc (suc (suc n))) l h = absurd (omega arith)
 
-  pub count_most : (d : Definition) → IsShort d → length (partial_matches letters live d) ≤ 2 * length live + 1
-  count_most d p =
+  count_among : (d : Definition) → IsShort d → length (partial_among letters live d) ≤ 2 * length live + 1
+  count_among d p =
       elim (one_or_two (length d.patterns) p.some p.few) [
         | inl one ↦ let e = count_single d one in omega arith
         | inr two ↦
@@ -132,6 +133,13 @@ module _ (letters : List Message) (live : List ℕ) where
             let b : count_alone letters live d 1 ≤ length live = count_by-le-length _ live in
             omega arith
       ]
+
+module _ (letters : List Message) (live : List ℕ) where
+  few_seen : (d : Definition) → length (seen_of d (length letters) live) ≤ length live
+  few_seen d = let e = length-filter (is_seen d.window (length letters)) live in let l : count_by (is_seen d.window (length letters)) live ≤ length live = count_by-le-length _ live in omega arith
+
+  pub count_most : (d : Definition) → IsShort d → length (partial_matches letters live d) ≤ 2 * length live + 1
+  count_most d p = let a = count_among letters (seen_of d (length letters) live) d p in let b = few_seen d in omega arith
 
   count_each : (ds : List Definition) → AllByRecursion IsShort ds → length live ≤ 1000 → partial_count letters live ds ≤ length ds * 2001
   count_each [] p l = omega arith

@@ -1,11 +1,12 @@
 -- The choice that computes is the choice in words.
-use Rattle.std.proofs.Common.{◌≡◌, inl, inr, ℕ, ◌+◌, List, [], ◌∷◌, Bool, true, false, ◌&&◌, Option, Some, None, refl, ap, sym, subst, map}
+use Rattle.std.proofs.Common.{◌≡◌, inl, inr, ℕ, ◌+◌, List, [], ◌∷◌, length, Bool, true, false, ◌&&◌, Option, Some, None, refl, ap, sym, subst, map}
 use Rattle.join_base.specs.declared.message.Message.{Message}
 use Rattle.guard_eval.specs.Meaning.{Assignment}
 use Rattle.pattern_core.specs.declared.definition.Definition.{Definition}
 use Rattle.pattern_core.specs.declared.candidate.Candidate.{Candidate}
 use Rattle.pattern_core.specs.Members.{IsIn}
-use Rattle.pattern_core.specs.Matches.{assignments, complete_matches, is_complete_match, is_full, makes_all_true}
+use Rattle.pattern_core.specs.Window.{seen_of}
+use Rattle.pattern_core.specs.Matches.{assignments, complete_among, complete_matches, is_complete_match, is_full, makes_all_true}
 use Rattle.pattern_core.specs.Assigns.{Assigns}
 use Rattle.pattern_core.specs.Choice.{taken_of, slots_of, candidate_of, NumberedFrom, matches_from, choice, IsChoice, IsMatch, IsChosen}
 use Rattle.pattern_core.specs.Law.{ChoiceIsChosen}
@@ -38,53 +39,57 @@ and_of : (a b : Bool) → a ≡ true → b ≡ true → (a && b) ≡ true
 and_of true b p q = q
 and_of false b p q = p
 
-module _ (letters : List Message) (live : List ℕ) where
-  -- a complete match of one definition, by its numbers
+module _ (letters : List Message) (seen : List ℕ) where
+  -- a complete match of one definition among the numbers that it sees, by its numbers
   abbrev pub Completes : Definition → List ℕ → Type 0
-  Completes d taken = Assigns letters live d.patterns (slots_of taken) × (makes_all_true letters d.conjuncts (slots_of taken) ≡ true)
+  Completes d taken = Assigns letters seen d.patterns (slots_of taken) × (makes_all_true letters d.conjuncts (slots_of taken) ≡ true)
 
-  to_complete : (d : Definition) (taken : List ℕ) → Completes d taken → IsIn (slots_of taken) (complete_matches letters live d)
+  to_complete : (d : Definition) (taken : List ℕ) → Completes d taken → IsIn (slots_of taken) (complete_among letters seen d)
   to_complete d taken h =
-      IsIn-filter (is_complete_match letters d) (slots_of taken) (assignments letters live d.patterns)
+      IsIn-filter (is_complete_match letters d) (slots_of taken) (assignments letters seen d.patterns)
       (and_of (is_full (slots_of taken)) (makes_all_true letters d.conjuncts (slots_of taken)) (is_full-slots_of taken) h.1)
-      (IsIn-assignments letters live d.patterns (slots_of taken) h.0)
+      (IsIn-assignments letters seen d.patterns (slots_of taken) h.0)
 
-  from_complete : (d : Definition) (slots : Assignment) → IsIn slots (complete_matches letters live d) → Completes d (taken_of slots)
+  from_complete : (d : Definition) (slots : Assignment) → IsIn slots (complete_among letters seen d) → Completes d (taken_of slots)
   from_complete d slots h =
-      let r = IsIn-filter_from (is_complete_match letters d) slots (assignments letters live d.patterns) h in
+      let r = IsIn-filter_from (is_complete_match letters d) slots (assignments letters seen d.patterns) h in
       let same = slots_of-taken_of slots (left_true (is_full slots) (makes_all_true letters d.conjuncts slots) r.1) in
-      let P : Assignment → Type 0 = λ s. Assigns letters live d.patterns s × (makes_all_true letters d.conjuncts s ≡ true) in
-      subst P (sym same) (Assigns-from_IsIn letters live d.patterns slots r.0, right_true (is_full slots) (makes_all_true letters d.conjuncts slots) r.1)
+      let P : Assignment → Type 0 = λ s. Assigns letters seen d.patterns s × (makes_all_true letters d.conjuncts s ≡ true) in
+      subst P (sym same) (Assigns-from_IsIn letters seen d.patterns slots r.0, right_true (is_full slots) (makes_all_true letters d.conjuncts slots) r.1)
 
-  pub IsIn-candidates : (rule : ℕ) (d : Definition) (c : Candidate) → c.rule ≡ rule → Completes d c.taken → IsIn c (map (candidate_of rule) (complete_matches letters live d))
+  pub IsIn-candidates : (rule : ℕ) (d : Definition) (c : Candidate) → c.rule ≡ rule → Completes d c.taken → IsIn c (map (candidate_of rule) (complete_among letters seen d))
   IsIn-candidates rule d c e h =
-      let here = IsIn-map (candidate_of rule) (slots_of c.taken) (complete_matches letters live d) (to_complete d c.taken h) in
+      let here = IsIn-map (candidate_of rule) (slots_of c.taken) (complete_among letters seen d) (to_complete d c.taken h) in
       let same : candidate_of rule (slots_of c.taken) ≡ c = λ i. record { rule = sym e i; taken = taken_of-slots_of c.taken i } in
-      subst (λ (x : Candidate). IsIn x (map (candidate_of rule) (complete_matches letters live d))) same here
+      subst (λ (x : Candidate). IsIn x (map (candidate_of rule) (complete_among letters seen d))) same here
 
-  pub IsIn-candidates_from : (rule : ℕ) (d : Definition) (c : Candidate) → IsIn c (map (candidate_of rule) (complete_matches letters live d)) → (c.rule ≡ rule) × Completes d c.taken
+  pub IsIn-candidates_from : (rule : ℕ) (d : Definition) (c : Candidate) → IsIn c (map (candidate_of rule) (complete_among letters seen d)) → (c.rule ≡ rule) × Completes d c.taken
   IsIn-candidates_from rule d c h =
-      let m = IsIn-map_from (candidate_of rule) c (complete_matches letters live d) h in
+      let m = IsIn-map_from (candidate_of rule) c (complete_among letters seen d) h in
       subst (λ (x : Candidate). (x.rule ≡ rule) × Completes d x.taken) m.2 (refl, from_complete d m.0 m.1)
 
-  pub matches_from_IsMatch : (from : ℕ) (ds : List Definition) (rule : ℕ) (taken : List ℕ) (d : Definition) → NumberedFrom from ds rule d → Completes d taken → IsIn (record { rule = rule; taken = taken }) (matches_from letters live from ds)
+module _ (letters : List Message) (live : List ℕ) where
+  abbrev CompletesIn : Definition → List ℕ → Type 0
+  CompletesIn d taken = Completes letters (seen_of d (length letters) live) d taken
+
+  pub matches_from_IsMatch : (from : ℕ) (ds : List Definition) (rule : ℕ) (taken : List ℕ) (d : Definition) → NumberedFrom from ds rule d → CompletesIn d taken → IsIn (record { rule = rule; taken = taken }) (matches_from letters live from ds)
   matches_from_IsMatch from [] rule taken d n h = absurd n
   matches_from_IsMatch from (first ∷ more) rule taken d (inl e) h =
       IsIn-append_left (record { rule = rule; taken = taken }) (map (candidate_of from) (complete_matches letters live first)) (matches_from letters live (from + 1) more)
-      (IsIn-candidates from first (record { rule = rule; taken = taken }) (sym e.0) (subst (λ (x : Definition). Completes x taken) (sym e.1) h))
+      (IsIn-candidates letters (seen_of first (length letters) live) from first (record { rule = rule; taken = taken }) (sym e.0) (subst (λ (x : Definition). CompletesIn x taken) (sym e.1) h))
   matches_from_IsMatch from (first ∷ more) rule taken d (inr n) h =
       IsIn-append_right (record { rule = rule; taken = taken }) (map (candidate_of from) (complete_matches letters live first)) (matches_from letters live (from + 1) more)
       (matches_from_IsMatch (from + 1) more rule taken d n h)
 
   abbrev Numbered : ℕ → List Definition → Candidate → Type 0
-  Numbered from ds c = (d : Definition) × NumberedFrom from ds c.rule d × Completes d c.taken
+  Numbered from ds c = (d : Definition) × NumberedFrom from ds c.rule d × CompletesIn d c.taken
 
   pub IsMatch-from_matches : (from : ℕ) (ds : List Definition) (c : Candidate) → IsIn c (matches_from letters live from ds) → Numbered from ds c
   IsMatch-from_matches from [] c h = absurd h
   IsMatch-from_matches from (first ∷ more) c h =
       elim (IsIn-append_cases c (map (candidate_of from) (complete_matches letters live first)) (matches_from letters live (from + 1) more) h) [
         | inl l ↦
-            let m = IsIn-candidates_from from first c l in
+            let m = IsIn-candidates_from letters (seen_of first (length letters) live) from first c l in
             (first, inl (sym m.0, refl), m.1)
         | inr r ↦ let q = IsMatch-from_matches (from + 1) more c r in (q.0, inr q.1, q.2)
       ]

@@ -1,5 +1,6 @@
 pub mod Examples
 pub mod MembersLemmas
+pub mod SeenLemmas
 pub mod ChoiceLemmas
 pub mod AssignsLemmas
 pub mod AgreeLemmas

@@ -8,7 +8,7 @@ use Rattle.guard_eval.proofs.ExtendLemmas.{Extends}
 use Rattle.pattern_core.specs.declared.definition.Definition.{Definition}
 use Rattle.pattern_core.specs.declared.candidate.Candidate.{Candidate}
 use Rattle.pattern_core.specs.Members.{IsIn}
-use Rattle.pattern_core.specs.Matches.{is_of_kind, complete_matches, is_agreeable, is_complete_match, makes_all_true}
+use Rattle.pattern_core.specs.Matches.{is_of_kind, complete_among, is_agreeable, is_complete_match, makes_all_true}
 use Rattle.pattern_core.specs.Assigns.{Assigns}
 use Rattle.pattern_core.specs.Choice.{slots_of, candidate_of, lesser_of, least, IsBestOf}
 use Rattle.pattern_core.specs.Listing.{IsShort, FirstIn, BeginsIn, alone, may_follow, may_stand}
@@ -114,11 +114,11 @@ module _ (letters : List Message) (live : List ℕ) where
     begins_none = λ c b. no_first c.taken b.first
 
     -- every first number was passed
-    pub begins_all : (i : ℕ) (o : Option Candidate) → length live ≤ i → IsBestOf (Begins (take i live)) o → o ≡ least (map (candidate_of rule) (complete_matches letters live d))
+    pub begins_all : (i : ℕ) (o : Option Candidate) → length live ≤ i → IsBestOf (Begins (take i live)) o → o ≡ least (map (candidate_of rule) (complete_among letters live d))
     begins_all i o l h =
         let all : take i live ≡ live = take_all i live l in
-        least_from_IsBestOf (map (candidate_of rule) (complete_matches letters live d)) o
-        (IsBestOf-same (Begins (take i live)) (λ c. IsIn c (map (candidate_of rule) (complete_matches letters live d)))
+        least_from_IsBestOf (map (candidate_of rule) (complete_among letters live d)) o
+        (IsBestOf-same (Begins (take i live)) (λ c. IsIn c (map (candidate_of rule) (complete_among letters live d)))
         (λ c b. IsIn-candidates letters live rule d c b.numbered (b.assigns, b.true_guard))
         (λ c m. let r = IsIn-candidates_from letters live rule d c m in
         record { numbered = r.0; first = subst (λ (ns : List ℕ). FirstIn ns c.taken) (sym all) (first_live d.patterns c.taken p.some r.1.0); assigns = r.1.0; true_guard = r.1.1 })

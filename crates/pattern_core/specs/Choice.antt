@@ -1,5 +1,5 @@
 -- The choice: the complete match of least key among those of all definitions.
-use Rattle.std.specs.Prelude.{◌≡◌, ◌⊎◌, ℕ, ◌+◌, List, [], ◌∷◌, ◌++◌, true, false, Option, Some, None, map, if◌then◌else◌}
+use Rattle.std.specs.Prelude.{◌≡◌, ◌⊎◌, ℕ, ◌+◌, List, [], ◌∷◌, ◌++◌, true, false, Option, Some, None, map, length, if◌then◌else◌}
 use Rattle.std.specs.List.{filter_map}
 use Rattle.std.specs.Ordering.{is_le, is_gt}
 use Rattle.join_base.specs.declared.message.Message.{Message}
@@ -9,6 +9,7 @@ use Rattle.pattern_core.specs.declared.candidate.Candidate.{Candidate}
 use Rattle.pattern_core.specs.Key.{key_cmp}
 use Rattle.pattern_core.specs.Matches.{complete_matches, makes_all_true}
 use Rattle.pattern_core.specs.Assigns.{Assigns}
+use Rattle.pattern_core.specs.Window.{seen_of}
 use Rattle.pattern_core.specs.Members.{IsIn}
 
 -- the numbers of the filled patterns, in pattern order
@@ -59,11 +60,11 @@ pub record IsLeast (candidates : List Candidate) (chosen : Candidate) : Type 0 w
   pub member : IsIn chosen candidates
   pub none_smaller : (other : Candidate) → IsIn other candidates → is_gt (key_cmp chosen other) ≡ false
 
--- a candidate is a complete match of the definition with its number: its numbers are live, of the kinds of the patterns and each another, and every conjunct is true
+-- a candidate is a complete match of the definition with its number: its numbers are live and seen, of the kinds of the patterns and each another, and every conjunct is true
 pub record IsMatch (letters : List Message) (live : List ℕ) (definitions : List Definition) (candidate : Candidate) : Type 0 where
   pub definition : Definition
   pub numbered : NumberedFrom 1 definitions candidate.rule definition
-  pub assigns : Assigns letters live definition.patterns (slots_of candidate.taken)
+  pub assigns : Assigns letters (seen_of definition (length letters) live) definition.patterns (slots_of candidate.taken)
   pub true_guard : makes_all_true letters definition.conjuncts (slots_of candidate.taken) ≡ true
 
 -- the choice in words: it is a complete match, and no complete match of any definition has a smaller key

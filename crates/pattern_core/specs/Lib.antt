@@ -1,9 +1,9 @@
 pub mod Members
 pub mod Key
+pub mod Window
 pub mod Matches
 pub mod Assigns
 pub mod Choice
 pub mod Law
 pub mod Suits
 pub mod Listing
-pub mod Window

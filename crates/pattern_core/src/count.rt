@@ -1,11 +1,13 @@
 //! How many partial matches a definition has.
 ghost use Rattle.std.specs.Prelude.{◌≡◌, ◌+◌, ◌*◌, ◌^◌, ◌≤◌, ◌<◌, All, length};
+ghost use Rattle.std.specs.List.Sorted.{IsStrictlyIncreasing};
 ghost use Rattle.pattern_core.specs.Matches.{partial_matches};
 ghost use Rattle.pattern_core.specs.Listing.{IsShort, count_alone, may_stand};
 ghost use Rattle.pattern_core.specs.Suits.{DefinitionSuits, IsRecorded};
 
 use crate::definition::Definition;
 use crate::extend::{agrees, has_kind};
+use crate::window::seen;
 use join_base::{Letters, Slots};
 
 // Whether the pattern may take the number where the others are empty.
@@ -44,6 +46,8 @@ pub fn count_partials(definition: &Definition, live: &[u32], letters: &Letters) 
     requires short { IsShort definition.now }
     requires suits { DefinitionSuits letters.now definition.now }
     requires recorded { All (IsRecorded letters.now) live.now }
+    requires ascending { IsStrictlyIncreasing live.now }
+    requires counted { length letters.now < 2 ^ 32 }
     requires few { length live.now < 2 ^ 32 }
 
     ensures count { result ≡ length (partial_matches letters.now live.now definition.now) }
@@ -52,7 +56,8 @@ pub fn count_partials(definition: &Definition, live: &[u32], letters: &Letters) 
     if definition.patterns.len() == 1 {
         return 1;
     }
-    let first = count_alone(definition, 0, live, letters);
-    let second = count_alone(definition, 1, live, letters);
+    let seen = seen(definition, live, letters);
+    let first = count_alone(definition, 0, seen, letters);
+    let second = count_alone(definition, 1, seen, letters);
     1 + first + second
 }

@@ -1,7 +1,8 @@
 //! The least match of a definition by listing every assignment: slow, and plain.
-ghost use Rattle.std.specs.Prelude.{◌≡◌, ◌+◌, ◌*◌, ◌≤◌, [], ◌∷◌, All, length, map, Some, None, true, slice_index};
+ghost use Rattle.std.specs.Prelude.{◌≡◌, ◌+◌, ◌*◌, ◌^◌, ◌<◌, ◌≤◌, [], ◌∷◌, All, length, map, Some, None, true, slice_index};
+ghost use Rattle.std.specs.List.Sorted.{IsStrictlyIncreasing};
 ghost use Rattle.guard_eval.specs.Meaning.{letter_at};
-ghost use Rattle.pattern_core.specs.Matches.{complete_matches, is_agreeable, is_of_kind};
+ghost use Rattle.pattern_core.specs.Matches.{complete_among, complete_matches, is_agreeable, is_of_kind};
 ghost use Rattle.pattern_core.specs.Members.{IsIn};
 ghost use Rattle.pattern_core.specs.Choice.{candidate_of, least, IsBestOf};
 ghost use Rattle.pattern_core.specs.Listing.{IsShort, BeginsIn, alone, may_follow};
@@ -11,6 +12,7 @@ use crate::candidate::Candidate;
 use crate::definition::Definition;
 use crate::extend::{complete, try_extend};
 use crate::key::better;
+use crate::window::seen;
 use join_base::{Letters, Numbers, Slots, Steps};
 use std::sync::ledger::Ledger;
 
@@ -99,6 +101,33 @@ fn least_behind<L: Ledger>(
     best
 }
 
+// The least complete match of a definition among these numbers.
+fn least_among<L: Ledger>(
+    rule: u32,
+    definition: &Definition,
+    seen: &[u32],
+    letters: &Letters,
+    steps: &mut Steps<L>,
+) -> Option<Candidate>
+    requires short { IsShort definition.now }
+    requires suits { DefinitionSuits letters.now definition.now }
+    requires recorded { All (IsRecorded letters.now) seen.now }
+
+    ensures least { result ≡ least (map (candidate_of rule) (complete_among letters.now seen.now definition.now)) }
+    ensures counted { steps.new ≤ steps.old + length seen.now * (length seen.now + 1) }
+{
+    let empty = Slots::new(definition.patterns.len() as u32);
+    let mut best = None;
+    for front in seen {
+        if try_extend(definition, &empty, 0, *front, letters, steps) {
+            let begun = empty.with(0, *front);
+            let found = least_behind(rule, definition, &begun, *front, seen, letters, steps);
+            best = better(best, found);
+        }
+    }
+    best
+}
+
 /// The least complete match of a definition. The candidate has this number of the definition, and its numbers in
 /// pattern order. It counts a step for each live number, and for each two of them at most one more.
 pub fn least_match<L: Ledger>(
@@ -111,18 +140,12 @@ pub fn least_match<L: Ledger>(
     requires short { IsShort definition.now }
     requires suits { DefinitionSuits letters.now definition.now }
     requires recorded { All (IsRecorded letters.now) live.now }
+    requires ascending { IsStrictlyIncreasing live.now }
+    requires counted { length letters.now < 2 ^ 32 }
 
     ensures least { result ≡ least (map (candidate_of rule) (complete_matches letters.now live.now definition.now)) }
     ensures counted { steps.new ≤ steps.old + length live.now * (length live.now + 1) }
 {
-    let empty = Slots::new(definition.patterns.len() as u32);
-    let mut best = None;
-    for front in live {
-        if try_extend(definition, &empty, 0, *front, letters, steps) {
-            let begun = empty.with(0, *front);
-            let found = least_behind(rule, definition, &begun, *front, live, letters, steps);
-            best = better(best, found);
-        }
-    }
-    best
+    let seen = seen(definition, live, letters);
+    least_among(rule, definition, seen, letters, steps)
 }
