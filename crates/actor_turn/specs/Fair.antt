@@ -1,6 +1,6 @@
 -- The fair semantics: the fair steps of a list of messages, one after the other, and the run that a state shows.
 use Rattle.std.specs.Prelude.{ℕ, ◌+◌, List, [], ◌∷◌, ◌++◌, ◌==◌, Option, None, Some, slice_get, if◌then◌else◌, length}
-use Rattle.join_base.specs.declared.message.Message.{Message}
+use Rattle.join_base.specs.declared.message.Stamped.{Stamped}
 use Rattle.join_base.specs.declared.message.Source.{Source}
 use Rattle.join_base.specs.declared.message.Source.TheVariants.{Feed, Actor}
 use Rattle.script_types.specs.declared.plan.Plan.{Plan}
@@ -12,13 +12,13 @@ use Rattle.actor_turn.specs.declared.run.ActorRun.{ActorRun}
 use Rattle.pattern_core.specs.Matches.{partial_count}
 use Rattle.actor_turn.specs.Step.{State, Setting, Late, opening, fair_step, letters_of, definitions_of}
 
--- a message with the source that it comes from
+-- a message with the stamp that it carries, and the source that it comes from
 abbrev pub Sent : Type 0
-Sent = Source × Message
+Sent = Source × Stamped
 
 abbrev pub after_all : Setting → State → List Sent → State
 after_all setting state [] = state
-after_all setting state (sent ∷ more) = after_all setting (fair_step setting state sent.0 sent.1).0 more
+after_all setting state (sent ∷ more) = after_all setting (fair_step setting state sent.0 sent.1.message sent.1.stamp).0 more
 
 abbrev pub rules_of : Option ActorPlan → List Rule
 rules_of None = []

@@ -1,9 +1,10 @@
--- A run that fits a plan: what its types allow and a log of it can say.
-use Rattle.std.specs.Prelude.{◌≡◌, ℕ, ◌+◌, ◌-◌, ◌^◌, ◌<◌, ◌≤◌, List, length, map, true, IfSome, FitsSigned}
+-- A run that fits a plan: what its types allow and a log of it, in its version, can say.
+use Rattle.std.specs.Prelude.{◌≡◌, ℕ, ◌+◌, ◌-◌, ◌^◌, ◌<◌, ◌≤◌, List, Bool, length, map, true, false, IfSome, FitsSigned}
 use Rattle.std.specs.Int.{w64}
-use Rattle.std.specs.List.{AllByRecursion}
+use Rattle.std.specs.List.{AllByRecursion, list_any}
 use Rattle.std.specs.List.Sorted.{IsStrictlyIncreasing}
 use Rattle.join_base.specs.Text.{IsText}
+use Rattle.join_base.specs.Stamps.{greatest_stamp}
 use Rattle.join_base.specs.declared.message.Value.{Value}
 use Rattle.join_base.specs.declared.message.Value.TheVariants.{Int, Words}
 use Rattle.join_base.specs.declared.message.Message.{Message}
@@ -21,6 +22,7 @@ use Rattle.script_types.specs.declared.plan.Item.TheVariants as item
 use Rattle.script_types.specs.declared.plan.Statement.{Statement}
 use Rattle.script_types.specs.declared.plan.Statement.TheVariants as statement
 use Rattle.script_types.specs.declared.plan.Rule.{Rule}
+use Rattle.script_types.specs.declared.plan.ActorPlan.{ActorPlan}
 use Rattle.script_types.specs.declared.plan.Plan.{Plan}
 use Rattle.actor_turn.specs.declared.run.Effect.{Effect}
 use Rattle.actor_turn.specs.declared.run.Effect.TheVariants as effect
@@ -49,22 +51,30 @@ abbrev pub SourceFits : Plan → ℕ → Source → Type 0
 SourceFits plan feeds (Feed k) = (1 ≤ k) × (k ≤ feeds)
 SourceFits plan feeds (Actor a) = a < length plan.actors
 
-abbrev pub EffectFits : Plan → Effect → Type 0
-EffectFits plan (effect.Print line) = IsText 1920 line
-EffectFits plan (effect.Post target message) = (target < length plan.actors) × MessageFits plan message
+-- a log of version 1 has no replies
+abbrev pub EffectFits : Plan → ℕ → Effect → Type 0
+EffectFits plan version (effect.Print line) = IsText 1920 line
+EffectFits plan version (effect.Post target message) = (target < length plan.actors) × MessageFits plan message
+EffectFits plan version (effect.Reply number value) = (version ≡ 2) × (number < 2 ^ 32) × ValueFits value
 
-pub record FiringFits (plan : Plan) (firing : Firing) : Type 0 where
+pub record FiringFits (plan : Plan) (version : ℕ) (firing : Firing) : Type 0 where
   pub rule : firing.rule < 2 ^ 32
   pub some : 1 ≤ length firing.taken
   pub few : length firing.taken ≤ 8
   pub numbers : AllByRecursion (λ n. n < 2 ^ 32) firing.taken
-  pub effects : AllByRecursion (EffectFits plan) firing.effects
+  pub effects : AllByRecursion (EffectFits plan version) firing.effects
 
-pub record EntryFits (plan : Plan) (feeds : ℕ) (entry : Entry) : Type 0 where
+-- no stamps in version 1, and in version 2 one from 1 on
+pub record StampFits (version : ℕ) (stamp : ℕ) : Type 0 where
+  pub first : version ≡ 1 → stamp ≡ 0
+  pub second : version ≡ 2 → (1 ≤ stamp) × (stamp ≤ greatest_stamp)
+
+pub record EntryFits (plan : Plan) (version feeds : ℕ) (entry : Entry) : Type 0 where
   pub number : entry.number < 2 ^ 32
   pub source : SourceFits plan feeds entry.source
   pub message : MessageFits plan entry.message
-  pub firing : IfSome entry.firing (FiringFits plan)
+  pub stamp : StampFits version entry.stamp
+  pub firing : IfSome entry.firing (FiringFits plan version)
 
 -- a rule whose fixed texts are texts, and whose numbers are of 64 bits
 abbrev pub WordsFit : WordsLeaf → Type 0
@@ -92,6 +102,7 @@ abbrev pub StatementFits : Statement → Type 0
 StatementFits (statement.Print items) = AllByRecursion ItemFits items
 StatementFits (statement.Post target kind operands) = AllByRecursion OperandFits operands
 StatementFits statement.Stop = Unit {0}
+StatementFits (statement.Reply pattern operand) = OperandFits operand
 
 abbrev pub RuleFits : Rule → Type 0
 RuleFits rule = AllByRecursion StatementFits rule.body
@@ -106,8 +117,8 @@ pub record LateFits (plan : Plan) (feeds : ℕ) (late : Source × ℕ) : Type 0 
   pub above_zero : 0 < late.1
   pub small : late.1 < 2 ^ 64
 
-pub record ActorRunFits (plan : Plan) (feeds : ℕ) (run : ActorRun) : Type 0 where
-  pub entries : AllByRecursion (EntryFits plan feeds) run.entries
+pub record ActorRunFits (plan : Plan) (version feeds : ℕ) (run : ActorRun) : Type 0 where
+  pub entries : AllByRecursion (EntryFits plan version feeds) run.entries
   pub late : AllByRecursion (LateFits plan feeds) run.late
   pub in_order : IsStrictlyIncreasing (map (λ (l : Source × ℕ). source_place feeds l.0) run.late)
   pub left : AllByRecursion (λ n. n < 2 ^ 32) run.left
@@ -116,9 +127,28 @@ pub record ActorRunFits (plan : Plan) (feeds : ℕ) (run : ActorRun) : Type 0 wh
 abbrev pub IsFrom1To : ℕ → ℕ → Type 0
 IsFrom1To most n = (1 ≤ n) × (n ≤ most)
 
+abbrev pub is_reply : Statement → Bool
+is_reply (statement.Print items) = false
+is_reply (statement.Post target kind operands) = false
+is_reply statement.Stop = false
+is_reply (statement.Reply pattern operand) = true
+
+abbrev pub rule_replies : Rule → Bool
+rule_replies rule = list_any is_reply rule.body
+
+abbrev pub actor_replies : ActorPlan → Bool
+actor_replies actor = list_any rule_replies actor.rules
+
+-- some body of the plan has a reply
+abbrev pub has_reply : Plan → Bool
+has_reply plan = list_any actor_replies plan.actors
+
+-- version 1 has no stamps and no replies, and version 2 may have both
 pub record RunFits (plan : Plan) (run : Run) : Type 0 where
+  pub version : IsFrom1To 2 run.version
+  pub replies : has_reply plan ≡ true → run.version ≡ 2
   pub arrivals : IsFrom1To 1000000 run.limits.arrivals
   pub partials : IsFrom1To 1000000 run.limits.partials
   pub feeds : IsFrom1To 16 run.feeds
   pub actors : length run.actors ≡ length plan.actors
-  pub each : AllByRecursion (ActorRunFits plan run.feeds) run.actors
+  pub each : AllByRecursion (ActorRunFits plan run.version run.feeds) run.actors

@@ -3,6 +3,7 @@ pub mod Step
 pub mod Fair
 pub mod Fits
 pub mod Linked
+pub mod Schedule
 pub mod Ready
 pub mod Runnable
 pub mod Held

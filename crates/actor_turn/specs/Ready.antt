@@ -1,10 +1,11 @@
 -- What a body asks of the messages of its match: each variable has a recorded message and a value of its type.
-use Rattle.std.specs.Prelude.{ℕ, ◌≤◌, List, [], ◌∷◌, Option, None, Some, length}
+use Rattle.std.specs.Prelude.{ℕ, ◌<◌, ◌≤◌, List, [], ◌∷◌, Option, None, Some, length}
 use Rattle.std.specs.List.{AllByRecursion}
 use Rattle.join_base.specs.declared.message.Message.{Message}
 use Rattle.join_base.specs.declared.message.Sort.TheVariants as sort
-use Rattle.guard_eval.specs.Meaning.{Assignment, Need, term_needs, words_needs}
+use Rattle.guard_eval.specs.Meaning.{Assignment, Need, operand_needs, term_needs, words_needs}
 use Rattle.guard_eval.specs.Ready.{AreReady}
+use Rattle.guard_eval.specs.declared.term.Operand.{Operand}
 use Rattle.script_types.specs.declared.plan.Item.{Item}
 use Rattle.script_types.specs.declared.plan.Item.TheVariants as item
 use Rattle.script_types.specs.declared.plan.Statement.{Statement}
@@ -23,14 +24,18 @@ item_needs (item.Sum term) = term_needs term
 abbrev pub ItemReady : List Message → Assignment → Item → Type 0
 ItemReady letters slots i = AreReady letters slots (item_needs i)
 
--- a print of at most 16 such items
-abbrev pub StatementReady : List Message → Assignment → Statement → Type 0
-StatementReady letters slots (statement.Print items) = AllByRecursion (ItemReady letters slots) items × (length items ≤ 16)
-StatementReady letters slots (statement.Post target kind operands) = ⊥
-StatementReady letters slots statement.Stop = ⊥
+abbrev pub OperandReady : List Message → Assignment → Operand → Type 0
+OperandReady letters slots o = AreReady letters slots (operand_needs o)
+
+-- a print of at most 16 such items, or a reply to one of the numbers that are taken
+abbrev pub StatementReady : List Message → List ℕ → Statement → Type 0
+StatementReady letters taken (statement.Print items) = AllByRecursion (ItemReady letters (slots_of taken)) items × (length items ≤ 16)
+StatementReady letters taken (statement.Post target kind operands) = ⊥
+StatementReady letters taken statement.Stop = ⊥
+StatementReady letters taken (statement.Reply pattern operand) = (pattern < length taken) × OperandReady letters (slots_of taken) operand
 
 abbrev pub BodyReady : List Message → List ℕ → List Statement → Type 0
-BodyReady letters taken body = AllByRecursion (StatementReady letters (slots_of taken)) body
+BodyReady letters taken body = AllByRecursion (StatementReady letters taken) body
 
 -- the body of the chosen rule can run at the choice, if there is one
 abbrev pub ChoiceReady : List Rule → List Message → Option Candidate → Type 0

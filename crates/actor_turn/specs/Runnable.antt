@@ -1,4 +1,4 @@
--- The rules that an actor runs so far: well typed ones of one or two patterns, whose bodies only print.
+-- The rules that an actor runs so far: well typed ones of one or two patterns, whose bodies only print and reply.
 use Rattle.std.specs.Prelude.{ℕ, ◌≤◌, List, length}
 use Rattle.std.specs.List.{AllByRecursion}
 use Rattle.join_base.specs.declared.message.Message.{Message}
@@ -10,15 +10,17 @@ use Rattle.script_types.specs.declared.plan.Rule.{Rule}
 use Rattle.script_types.specs.Typed.{IsTypedRule, Sorts}
 use Rattle.actor_turn.specs.Step.{definitions_of}
 
-abbrev pub IsPrint : Statement → Type 0
-IsPrint (statement.Print items) = Unit {0}
-IsPrint (statement.Post target kind operands) = ⊥
-IsPrint statement.Stop = ⊥
+-- a statement that sends no actor anything and ends none
+abbrev pub IsQuiet : Statement → Type 0
+IsQuiet (statement.Print items) = Unit {0}
+IsQuiet (statement.Post target kind operands) = ⊥
+IsQuiet statement.Stop = ⊥
+IsQuiet (statement.Reply pattern operand) = Unit {0}
 
 pub record IsRunnable (actors : ℕ) (sorts : Sorts) (rule : Rule) : Type 0 where
   pub typed : IsTypedRule actors sorts rule
   pub short : IsShort rule.definition
-  pub prints : AllByRecursion IsPrint rule.body
+  pub quiet : AllByRecursion IsQuiet rule.body
 
 -- at most 16 rules, where there are so many actors and the kinds have fields of these types
 pub record AreRunnable (actors : ℕ) (sorts : Sorts) (rules : List Rule) : Type 0 where

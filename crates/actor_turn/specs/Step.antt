@@ -1,11 +1,12 @@
 -- The fair step: one arrival at one actor.
-use Rattle.std.specs.Prelude.{ℕ, ◌+◌, ◌-◌, ◌^◌, List, [], ◌∷◌, ◌++◌, Bool, true, false, not, ◌&&◌, ◌==◌, nat_lt, nat_le, Option, Some, None, map, length, slice_get, slice_index, slice_set, replicate, if◌then◌else◌}
+use Rattle.std.specs.Prelude.{ℕ, ◌+◌, ◌-◌, ◌^◌, List, [], ◌∷◌, ◌++◌, Bool, true, false, not, ◌&&◌, ◌||◌, ◌==◌, nat_lt, nat_le, max, Option, Some, None, map, length, slice_get, slice_index, slice_set, replicate, if◌then◌else◌}
 use Rattle.std.specs.List.{filter, list_any}
 use Rattle.join_base.specs.declared.message.Value.{Value}
 use Rattle.join_base.specs.declared.message.Sort.{Sort}
 use Rattle.join_base.specs.declared.message.Message.{Message}
 use Rattle.join_base.specs.declared.message.Source.{Source}
 use Rattle.join_base.specs.declared.message.Source.TheVariants.{Feed, Actor}
+use Rattle.join_base.specs.Stamps.{greatest_stamp}
 use Rattle.guard_eval.specs.Meaning.{is_of_sort}
 use Rattle.pattern_core.specs.declared.definition.Definition.{Definition}
 use Rattle.pattern_core.specs.declared.candidate.Candidate.{Candidate}
@@ -113,15 +114,25 @@ is_running ending.Spent = false
 abbrev pub late_step : State → Source → Stepped
 late_step state source = (record { entries = state.entries; live = state.live; ending = state.ending; late = late_more state.late source }, outcome.Late)
 
--- a full actor, or a message that does not fit: the actor ends, and the message is late
+-- a full actor, or a message that it cannot take: the actor ends, and the message is late
 abbrev pub spent_step : State → Source → Stepped
 spent_step state source = (record { entries = state.entries; live = []; ending = ending.Spent; late = late_more state.late source }, outcome.Spent)
 
--- an arrival, its message and the numbers with it
+-- the stamp of the last of the entries, or this one where there is none
+abbrev pub last_stamp : ℕ → List Entry → ℕ
+last_stamp before [] = before
+last_stamp before (entry ∷ more) = last_stamp entry.stamp more
+
+-- the stamp of the last entry, or 0
+abbrev pub latest_stamp : List Entry → ℕ
+latest_stamp entries = last_stamp 0 entries
+
+-- an arrival: its message with the stamp that it carries, and below the numbers with it
 pub record Arrival : Type 0 where
   pub state : State
   pub source : Source
   pub message : Message
+  pub stamp : ℕ
 
 abbrev pub number_of : Arrival → ℕ
 number_of arrival = length arrival.state.entries + 1
@@ -132,8 +143,12 @@ letters_with arrival = letters_of arrival.state.entries ++ arrival.message ∷ [
 abbrev pub live_with : Arrival → List ℕ
 live_with arrival = arrival.state.live ++ number_of arrival ∷ []
 
+-- 1 more than the greater of the latest stamp and the one that the message carries
+abbrev pub stamp_of : Arrival → ℕ
+stamp_of arrival = max (latest_stamp arrival.state.entries) arrival.stamp + 1
+
 abbrev pub entry_with : Arrival → Option Firing → Entry
-entry_with arrival firing = record { number = number_of arrival; source = arrival.source; message = arrival.message; firing = firing }
+entry_with arrival firing = record { number = number_of arrival; source = arrival.source; message = arrival.message; stamp = stamp_of arrival; firing = firing }
 
 -- the state with the new entry
 abbrev pub recorded : Arrival → Option Firing → List ℕ → Ending → State
@@ -179,18 +194,19 @@ by_choice setting arrival (Some chosen) = fired_step setting arrival chosen
 abbrev pub arrival_step : Setting → Arrival → Stepped
 arrival_step setting arrival = by_choice setting arrival (choice (letters_with arrival) (live_with arrival) (definitions_of setting.rules))
 
--- whether a running actor takes no further message
-abbrev pub is_refused : Setting → State → Message → Bool
-is_refused setting state message = if nat_le setting.limits.arrivals (length state.entries) then true else not (fits setting.sorts message)
+-- whether a running actor takes no further message: it is full, or the message does not fit, or no stamp is left
+abbrev pub is_refused : Setting → State → Message → ℕ → Bool
+is_refused setting state message stamp =
+    nat_le setting.limits.arrivals (length state.entries) || (not (fits setting.sorts message) || nat_le greatest_stamp (max (latest_stamp state.entries) stamp))
 
-abbrev pub running_step : Bool → Setting → State → Source → Message → Stepped
-running_step true setting state source message = spent_step state source
-running_step false setting state source message = arrival_step setting record { state = state; source = source; message = message }
+abbrev pub running_step : Bool → Setting → State → Source → Message → ℕ → Stepped
+running_step true setting state source message stamp = spent_step state source
+running_step false setting state source message stamp = arrival_step setting record { state = state; source = source; message = message; stamp = stamp }
 
-abbrev pub step_by : Bool → Setting → State → Source → Message → Stepped
-step_by false setting state source message = late_step state source
-step_by true setting state source message = running_step (is_refused setting state message) setting state source message
+abbrev pub step_by : Bool → Setting → State → Source → Message → ℕ → Stepped
+step_by false setting state source message stamp = late_step state source
+step_by true setting state source message stamp = running_step (is_refused setting state message stamp) setting state source message stamp
 
--- the fair step, by the first case that applies: late, spent, fired, jammed or kept
-abbrev pub fair_step : Setting → State → Source → Message → Stepped
-fair_step setting state source message = step_by (is_running state.ending) setting state source message
+-- the fair step with a message and the stamp that it carries, by the first case that applies: late, spent, fired, jammed or kept
+abbrev pub fair_step : Setting → State → Source → Message → ℕ → Stepped
+fair_step setting state source message stamp = step_by (is_running state.ending) setting state source message stamp

@@ -1,6 +1,7 @@
 //! One actor.
-ghost use Rattle.std.specs.Prelude.{◌≡◌, ◌+◌, ◌<◌, ◌≤◌, true, length, IfOk, OnOk};
-ghost use Rattle.actor_turn.specs.Step.{fair_step, fits, opening};
+ghost use Rattle.std.specs.Prelude.{◌≡◌, ◌+◌, ◌<◌, ◌≤◌, max, true, length, IfOk, OnOk};
+ghost use Rattle.join_base.specs.Stamps.{greatest_stamp};
+ghost use Rattle.actor_turn.specs.Step.{fair_step, fits, latest_stamp, opening};
 ghost use Rattle.actor_turn.specs.Fair.{partials_of, run_of, setting_of};
 ghost use Rattle.actor_turn.specs.Fits.{RuleFits};
 ghost use Rattle.actor_turn.specs.Held.{CanRun};
@@ -11,6 +12,7 @@ use crate::choose::count_all;
 use crate::conclude::conclude;
 use crate::opening::{copy_rules, kind_sorts, zeros};
 use crate::run::{ActorRun, Ending, Entry, Limits, Outcome};
+use crate::stamps::next_stamp;
 use crate::texts::rule_texts;
 use join_base::{Items, Letters, Message, NoMemory, Sort, Source, Steps};
 use script_types::{Plan, Rule};
@@ -92,13 +94,14 @@ impl Actor {
         })
     }
 
-    /// One fair step with a message of a source: `Fired` where the choice fires, and else `Kept`.
-    /// After `NoMemory` nothing is said of the actor.
+    /// One fair step with a message of a source and the stamp that it carries: `Fired` where the choice fires, and else
+    /// `Kept`. After `NoMemory` nothing is said of the actor.
     pub fn arrive<L: Ledger>(
         &mut self,
         alloc: Global,
         source: Source,
         message: &Message,
+        stamp: u64,
         steps: &mut Steps<L>,
     ) -> Result<Outcome, NoMemory>
         requires runnable { CanRun self.old }
@@ -107,11 +110,13 @@ impl Actor {
         requires arrivals { 1000 ≤ self.old.setting.limits.arrivals }
         requires partials { 32016 ≤ self.old.setting.limits.partials }
         requires fits { fits self.old.setting.sorts message.now ≡ true }
+        requires stamped { max (latest_stamp self.old.state.entries) stamp < greatest_stamp }
 
-        ensures step { IfOk result (λ o. fair_step self.old.setting self.old.state source message.now ≡ (self.new.state, o)) }
+        ensures step { IfOk result (λ o. fair_step self.old.setting self.old.state source message.now stamp ≡ (self.new.state, o)) }
         ensures setting { OnOk result (self.new.setting ≡ self.old.setting) }
         ensures running { OnOk result (self.new.state.ending ≡ Ending.Running) }
         ensures one_more { OnOk result (length self.new.state.entries ≡ length self.old.state.entries + 1) }
+        ensures stamp { OnOk result (latest_stamp self.new.state.entries ≡ max (latest_stamp self.old.state.entries) stamp + 1) }
         ensures late { OnOk result (self.new.state.late ≡ self.old.state.late) }
     {
         let own = message.copy(alloc)?;
@@ -121,6 +126,7 @@ impl Actor {
             number: self.letters.len() as u32,
             source,
             message: own,
+            stamp: next_stamp(&self.entries, stamp),
             firing: None,
         };
         match conclude(

@@ -1,5 +1,6 @@
 //! The choice and the count of partial matches over the rules of an actor.
 ghost use Rattle.std.specs.Prelude.{◌≡◌, ◌≤◌, ◌<◌, ◌^◌, All, IfSome, length};
+ghost use Rattle.std.specs.List.Sorted.{IsStrictlyIncreasing};
 ghost use Rattle.pattern_core.specs.Choice.{choice};
 ghost use Rattle.pattern_core.specs.Matches.{partial_count};
 ghost use Rattle.pattern_core.specs.Suits.{IsRecorded};
@@ -20,6 +21,8 @@ fn best_match<L: Ledger>(
 ) -> Option<Candidate>
     requires testable { AreTestable letters.now rules.now }
     requires recorded { All (IsRecorded letters.now) live.now }
+    requires ascending { IsStrictlyIncreasing live.now }
+    requires counted { length letters.now < 2 ^ 32 }
 
     ensures { result ≡ choice letters.now live.now (definitions_of rules.now) }
 {
@@ -40,6 +43,8 @@ pub fn choose<L: Ledger>(
 ) -> Option<Candidate>
     requires testable { AreTestable letters.now rules.now }
     requires recorded { All (IsRecorded letters.now) live.now }
+    requires ascending { IsStrictlyIncreasing live.now }
+    requires counted { length letters.now < 2 ^ 32 }
 
     ensures chosen { result ≡ choice letters.now live.now (definitions_of rules.now) }
     ensures exists { IfSome result (λ c. (1 ≤ c.rule) × (c.rule ≤ length rules.now)) }
@@ -51,6 +56,8 @@ pub fn choose<L: Ledger>(
 pub fn count_all(rules: &Items<Rule>, live: &[u32], letters: &Letters) -> u64
     requires testable { AreTestable letters.now rules.now }
     requires recorded { All (IsRecorded letters.now) live.now }
+    requires ascending { IsStrictlyIncreasing live.now }
+    requires counted { length letters.now < 2 ^ 32 }
     requires few { length live.now < 2 ^ 32 }
 
     ensures { result ≡ partial_count letters.now live.now (definitions_of rules.now) }

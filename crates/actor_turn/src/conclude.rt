@@ -1,5 +1,6 @@
 //! The end of an arrival: the choice fires, or the message is kept.
-ghost use Rattle.std.specs.Prelude.{◌≡◌, ◌≤◌, [], ◌∷◌, ◌++◌, All, length, IfOk, OnErr, OnOk, Some, None};
+ghost use Rattle.std.specs.Prelude.{◌≡◌, ◌^◌, ◌<◌, ◌≤◌, [], ◌∷◌, ◌++◌, All, length, IfOk, OnErr, OnOk, Some, None};
+ghost use Rattle.std.specs.List.Sorted.{IsStrictlyIncreasing};
 ghost use Rattle.pattern_core.specs.Choice.{choice};
 ghost use Rattle.pattern_core.specs.Suits.{IsRecorded};
 ghost use Rattle.actor_turn.specs.Ready.{BodyReady, ChoiceReady};
@@ -64,6 +65,8 @@ pub fn conclude<L: Ledger>(
     requires newest { entry.number ≡ length letters.now }
     requires unfired { entry.firing ≡ None }
     requires recorded { All (IsRecorded letters.now) (live.old.items ++ entry.number ∷ []) }
+    requires ascending { IsStrictlyIncreasing (live.old.items ++ entry.number ∷ []) }
+    requires counted { length letters.now < 2 ^ 32 }
     requires ready { ChoiceReady rules.now letters.now (choice letters.now (live.old.items ++ entry.number ∷ []) (definitions_of rules.now)) }
 
     ensures outcome { let chosen = choice letters.now (live.old.items ++ entry.number ∷ []) (definitions_of rules.now) in IfOk result (λ o. o ≡ outcome_of chosen) }

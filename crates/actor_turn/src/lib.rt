@@ -7,6 +7,7 @@ mod choose;
 mod conclude;
 mod opening;
 mod run;
+mod stamps;
 mod texts;
 
 pub use actor::Actor;
