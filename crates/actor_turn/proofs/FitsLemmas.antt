@@ -2,7 +2,7 @@
 use Rattle.std.proofs.Common.{◌≡◌, ◌∙◌, ℕ, ℤ, pos, negsuc, neg_ℤ, ◌≤ℤ◌, Bool, true, false, zero, suc, ◌+◌, ◌-◌, ◌*◌, ◌^◌, ◌<◌, ◌≤◌, List, [], ◌∷◌, length, length-append, Option, None, Some, refl, ap, sym, subst, arith}
 use mir.Syntax.{w64}
 use lib.Signed.{mag}
-use Rattle.std.specs.Prelude.{All, IfSome, FitsSigned, if◌then◌else◌}
+use Rattle.std.specs.Prelude.{All, IfSome, FitsSigned, if◌then◌else◌, slice_index}
 use Rattle.std.specs.List.{AllByRecursion}
 use Rattle.std.specs.Str.{IsAscii, IsUtf8}
 use Rattle.std.specs.Fmt.{signed_decimal}
@@ -29,6 +29,10 @@ use Rattle.pattern_core.specs.declared.candidate.Candidate.{Candidate}
 use Rattle.pattern_core.specs.Assigns.{Assigns}
 use Rattle.pattern_core.specs.Choice.{slots_of, IsChosen}
 use Rattle.pattern_core.specs.Suits.{IsRecorded}
+use Rattle.pattern_core.specs.Window.{is_seen, seen_of}
+use Rattle.guard_eval.specs.declared.term.Operand.{Operand}
+use Rattle.guard_eval.specs.declared.term.Operand.TheVariants as operand
+use Rattle.std.proofs.lemmas.List.Elements.{All-filter}
 use Rattle.pattern_core.proofs.DefinitionsLemmas.{place_of}
 use Rattle.script_types.specs.declared.plan.Plan.{Plan}
 use Rattle.script_types.specs.declared.plan.Rule.{Rule}
@@ -38,23 +42,25 @@ use Rattle.script_types.specs.declared.plan.Statement.{Statement}
 use Rattle.script_types.specs.declared.plan.Statement.TheVariants as statement
 use Rattle.actor_turn.specs.declared.run.Effect.{Effect}
 use Rattle.actor_turn.specs.declared.run.Effect.TheVariants as effect
-use Rattle.actor_turn.specs.Body.{item_text, line_of, effects_of}
-use Rattle.actor_turn.specs.Fits.{ValueFits, MessageFits, EffectFits, FiringFits, ItemFits, LeafFits, StatementFits, RuleFits, WordsFit}
-use Rattle.actor_turn.specs.Ready.{ItemReady, BodyReady, ChoiceReady}
+use Rattle.actor_turn.specs.Body.{clamped, item_text, line_of, effects_of, posted_value}
+use Rattle.actor_turn.specs.Fits.{ValueFits, MessageFits, EffectFits, FiringFits, ItemFits, LeafFits, OperandFits, StatementFits, RuleFits, WordsFit}
+use Rattle.actor_turn.specs.Ready.{ItemReady, OperandReady, BodyReady, ChoiceReady}
 use Rattle.actor_turn.specs.Runnable.{IsRunnable, AreRunnable}
 use Rattle.actor_turn.specs.Step.{body_at, body_of, definitions_of, firing_of}
 use Rattle.pattern_core.proofs.SuitsLemmas.{recorded_of}
 use Rattle.actor_turn.proofs.ListLemmas.{mapped_at}
 
--- the effect is a print, of a text
-abbrev pub PrintFits : Effect → Type 0
-PrintFits (effect.Print line) = IsText 1920 line
-PrintFits (effect.Post target message) = ⊥
+-- the effect is a print of a text, or a reply that fits
+abbrev pub QuietFits : Effect → Type 0
+QuietFits (effect.Print line) = IsText 1920 line
+QuietFits (effect.Post target message) = ⊥
+QuietFits (effect.Reply number value) = (number < 2 ^ 32) × ValueFits value
 
-pub effects_fit : (plan : Plan) (effects : List Effect) → AllByRecursion PrintFits effects → AllByRecursion (EffectFits plan) effects
+pub effects_fit : (plan : Plan) (effects : List Effect) → AllByRecursion QuietFits effects → AllByRecursion (EffectFits plan 2) effects
 effects_fit plan [] h = h
 effects_fit plan (effect.Print line ∷ effects) h = (h.0, effects_fit plan effects h.1)
 effects_fit plan (effect.Post target message ∷ effects) h = absurd h.0
+effects_fit plan (effect.Reply number value ∷ effects) h = ((refl, h.0.0, h.0.1), effects_fit plan effects h.1)
 
 -- an integer of 128 bits is printed as a short text
 pub decimal_fits : (z : ℤ) → mag z < 2 ^ 127 → IsText 120 (signed_decimal z)
@@ -145,17 +151,32 @@ module _ (plan : Plan) (letters : List Message) (fitting : AllByRecursion (Messa
       let joined = length-append (item_text letters (slots_of taken) i) (line_of letters (slots_of taken) items) in
       (IsUtf8-append (item_text letters (slots_of taken) i) (line_of letters (slots_of taken) items) text.utf8 rest.0, omega (arith, rest.1))
 
-  body_prints : (taken : List ℕ) (body : List Statement) → BodyReady letters taken body → AllByRecursion StatementFits body → AllByRecursion PrintFits (effects_of letters taken body)
-  body_prints taken [] ready fit = tt
-  body_prints taken (statement.Print items ∷ body) ready fit =
+  clamped_fits : (z : ℤ) → FitsSigned w64 (clamped z)
+  clamped_fits (pos n) = omega (arith, ints)
+  clamped_fits (negsuc n) = omega (arith, ints)
+
+  sent_fits : (slots : Assignment) (o : Operand) → OperandReady letters slots o → OperandFits o → ValueFits (posted_value letters slots o)
+  sent_fits slots (operand.Sum leaves) ready fit = clamped_fits (term_value letters slots leaves)
+  sent_fits slots (operand.Words w) ready fit = words_fit slots w ready fit
+
+  number_small : (taken : List ℕ) (i : ℕ) → i < length taken → AllByRecursion (λ n. n < 2 ^ 32) taken → slice_index taken i < 2 ^ 32
+  number_small [] i l h = absurd (omega arith)
+  number_small (n ∷ taken) zero l h = h.0
+  number_small (n ∷ taken) (suc i) l h = number_small taken i (omega arith) h.1
+
+  body_fits : (taken : List ℕ) (body : List Statement) → AllByRecursion (λ n. n < 2 ^ 32) taken → BodyReady letters taken body → AllByRecursion StatementFits body → AllByRecursion QuietFits (effects_of letters taken body)
+  body_fits taken [] small ready fit = tt
+  body_fits taken (statement.Print items ∷ body) small ready fit =
       let parts = line_parts taken items ready.0.0 fit.0 in
-      (record { utf8 = parts.0; short = omega (arith, parts.1, ready.0.1) }, body_prints taken body ready.1 fit.1)
-  body_prints taken (statement.Post target kind operands ∷ body) ready fit = absurd ready.0
-  body_prints taken (statement.Stop ∷ body) ready fit = absurd ready.0
+      (record { utf8 = parts.0; short = omega (arith, parts.1, ready.0.1) }, body_fits taken body small ready.1 fit.1)
+  body_fits taken (statement.Post target kind operands ∷ body) small ready fit = absurd ready.0
+  body_fits taken (statement.Stop ∷ body) small ready fit = absurd ready.0
+  body_fits taken (statement.Reply pattern operand ∷ body) small ready fit =
+      ((number_small taken pattern ready.0.0 small, sent_fits (slots_of taken) operand ready.0.1 fit.0), body_fits taken body small ready.1 fit.1)
 
   -- what a choice fires
   pub firing_fits : (actors : ℕ) (sorts : List (List Sort)) (rules : List Rule) → AreRunnable actors sorts rules → AllByRecursion RuleFits rules → (live : List ℕ) → All (IsRecorded letters) live → length letters < 2 ^ 32
-      → (o : Option Candidate) → IsChosen letters live (definitions_of rules) o → ChoiceReady rules letters o → IfSome (firing_of rules letters o) (λ f. FiringFits plan f × AllByRecursion PrintFits f.effects)
+      → (o : Option Candidate) → IsChosen letters live (definitions_of rules) o → ChoiceReady rules letters o → IfSome (firing_of rules letters o) (λ f. FiringFits plan 2 f × AllByRecursion QuietFits f.effects)
   firing_fits actors sorts rules runnable texts live recorded small None chosen ready = tt
   firing_fits actors sorts rules runnable texts live recorded small (Some c) chosen ready =
       let d : Definition = chosen.0.definition in
@@ -165,17 +186,20 @@ module _ (plan : Plan) (letters : List Message) (fitting : AllByRecursion (Messa
       let short = (each_at (IsRunnable actors sorts) rules (c.rule - 1) rule found.1 runnable.each).short in
       let Texts : Option Rule → Type 0 = λ o. AllByRecursion StatementFits (body_of o) in
       let text = subst Texts (sym found.1) (each_at RuleFits rules (c.rule - 1) rule found.1 texts) in
-      let prints = body_prints c.taken (body_at rules c.rule) ready text in
-      let count = length-Assigns letters live d.patterns c.taken chosen.0.assigns ∙ ap (λ (x : Definition). length x.patterns) (sym found.2) in
+      let seen : List ℕ = seen_of d (length letters) live in
+      let seen_recorded = All-filter (is_seen d.window (length letters)) (IsRecorded letters) live recorded in
+      let numbers = numbers_small letters seen d.patterns c.taken seen_recorded small chosen.0.assigns in
+      let quiet = body_fits c.taken (body_at rules c.rule) numbers ready text in
+      let count = length-Assigns letters seen d.patterns c.taken chosen.0.assigns ∙ ap (λ (x : Definition). length x.patterns) (sym found.2) in
       let below : c.rule < 1 + length rules = omega (arith, placed.below, definitions_count rules) in (
         record {
           rule = omega (arith, below, runnable.few);
           some = omega (arith, count, short.some);
           few = omega (arith, count, short.few);
-          numbers = numbers_small letters live d.patterns c.taken recorded small chosen.0.assigns;
-          effects = effects_fit plan (effects_of letters c.taken (body_at rules c.rule)) prints;
+          numbers = numbers;
+          effects = effects_fit plan (effects_of letters c.taken (body_at rules c.rule)) quiet;
         },
-        prints,
+        quiet,
       )
     where
       definitions_count : (rs : List Rule) → length (definitions_of rs) ≡ length rs

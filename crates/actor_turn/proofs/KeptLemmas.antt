@@ -120,6 +120,10 @@ module _ (sorts : List (List Sort)) (letters : List Message) (entries : List Ent
       let l = length-append letters (message ∷ []) in
       increasing_push live (length longer) k.ascending (λ i h. let old = k.recorded i 0 h in omega (arith, old.1))
 
+  -- the newest number is above the live ones
+  pub ascending_with : (pushed : List Message) (number : ℕ) → pushed ≡ longer → number ≡ length pushed → IsStrictlyIncreasing (live ++ number ∷ [])
+  ascending_with pushed number e n = subst (λ (m : ℕ). IsStrictlyIncreasing (live ++ m ∷ [])) (sym (n ∙ ap length e)) ascending_more
+
   ascending_after : (o : Option Candidate) → IsStrictlyIncreasing (live_after (live ++ length longer ∷ []) o)
   ascending_after None = ascending_more
   ascending_after (Some c) = IsStrictlyIncreasing-filter (λ (n : ℕ). not (contains_number c.taken n)) (live ++ length longer ∷ []) ascending_more

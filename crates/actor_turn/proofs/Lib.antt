@@ -1,6 +1,7 @@
 pub mod Examples
 pub mod ListLemmas
 pub mod TypedLemmas
+pub mod BodyLemmas
 pub mod RunnableLemmas
 pub mod StepLemmas
 pub mod KeptLemmas

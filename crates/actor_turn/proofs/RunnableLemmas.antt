@@ -1,14 +1,16 @@
 -- The definitions of runnable rules may be tested over letters that fit, and their bodies can run at every match.
-use Rattle.std.proofs.Common.{◌≡◌, ◌∙◌, ℕ, zero, suc, ◌-◌, List, [], ◌∷◌, true, Option, None, Some, refl, ap, sym, subst, slice_get, slice_index}
+use Rattle.std.proofs.Common.{◌≡◌, ◌∙◌, ℕ, zero, suc, ◌-◌, List, [], ◌∷◌, true, Option, None, Some, refl, ap, sym, subst, length, slice_get, slice_index, arith}
 use Rattle.std.specs.Prelude.{All}
 use Rattle.std.specs.List.{AllByRecursion}
 use Rattle.std.specs.Option.{option_and_then}
+use Rattle.std.proofs.lemmas.List.{length-map}
+use Rattle.std.proofs.lemmas.List.Elements.{All-filter}
 use Rattle.std.proofs.lemmas.Option.{slice_get_within, get_or_from_slice_get}
 use Rattle.join_base.specs.declared.message.Sort.{Sort}
 use Rattle.join_base.specs.declared.message.Value.{Value}
 use Rattle.join_base.specs.declared.message.Message.{Message}
 use Rattle.guard_eval.specs.Condition.{Condition}
-use Rattle.guard_eval.specs.Meaning.{Need, has_sort, is_of_sort, needs_of}
+use Rattle.guard_eval.specs.Meaning.{Need, has_sort, is_of_sort, needs_of, operand_needs}
 use Rattle.guard_eval.proofs.ExtendLemmas.{both_true}
 use Rattle.guard_eval.proofs.ReadyLemmas.{each_at}
 use Rattle.pattern_core.specs.declared.definition.Definition.{Definition}
@@ -17,20 +19,22 @@ use Rattle.pattern_core.specs.Assigns.{Assigns}
 use Rattle.pattern_core.specs.Listing.{IsShort}
 use Rattle.pattern_core.specs.Suits.{DefinitionSuits, IsRecorded, KindHas, NeedSuits, SlotsSuit}
 use Rattle.pattern_core.specs.Choice.{slots_of, choice, IsChosen}
+use Rattle.pattern_core.specs.Window.{is_seen, seen_of}
+use Rattle.guard_eval.specs.declared.term.Operand.{Operand}
 use Rattle.pattern_core.proofs.DefinitionsLemmas.{place_of}
 use Rattle.pattern_core.proofs.GuardLemmas.{ready_where_full}
 use Rattle.pattern_core.proofs.LawLemmas.{choice_is_chosen, is_full-slots_of}
-use Rattle.pattern_core.proofs.SuitsLemmas.{suits_from_assigns}
+use Rattle.pattern_core.proofs.SuitsLemmas.{length-SlotsSuit, suits_from_assigns}
 use Rattle.script_types.specs.declared.plan.Rule.{Rule}
 use Rattle.script_types.specs.declared.plan.Item.{Item}
 use Rattle.script_types.specs.declared.plan.Statement.{Statement}
 use Rattle.script_types.specs.declared.plan.Statement.TheVariants as statement
-use Rattle.script_types.specs.Typed.{HasType, IsTypedCondition, IsTypedItem, IsTypedStatement, Sorts}
+use Rattle.script_types.specs.Typed.{HasType, IsTypedCondition, IsTypedItem, IsTypedOperand, IsTypedStatement, Sorts}
 use Rattle.actor_turn.specs.Step.{are_of_sorts, body_of, definitions_of, fits, fits_sorts}
-use Rattle.actor_turn.specs.Ready.{ItemReady, BodyReady, ChoiceReady, item_needs}
-use Rattle.actor_turn.specs.Runnable.{IsPrint, IsRunnable, AreRunnable, AreTestable}
+use Rattle.actor_turn.specs.Ready.{ItemReady, OperandReady, BodyReady, ChoiceReady, item_needs}
+use Rattle.actor_turn.specs.Runnable.{IsQuiet, IsRunnable, AreRunnable, AreTestable}
 use Rattle.actor_turn.proofs.ListLemmas.{each_from, each_from_All, each_map, mapped_at}
-use Rattle.actor_turn.proofs.TypedLemmas.{AreTypedNeeds, condition_typed, item_typed}
+use Rattle.actor_turn.proofs.TypedLemmas.{AreTypedNeeds, condition_typed, item_typed, operand_typed}
 
 -- values of these types have one at each place of a type
 value_of_type : (types : List Sort) (values : List Value) (field : ℕ) (type : Sort) → are_of_sorts types values ≡ true → slice_get types field ≡ Some type → has_sort type (slice_get values field) ≡ true
@@ -94,11 +98,19 @@ module _ (sorts : Sorts) (letters : List Message) (fitting : All (λ m. fits sor
       (λ i t. ready_where_full letters kinds (slots_of taken) (item_needs i) suits (needs_suit kinds (item_needs i) (item_typed sorts kinds i t)) (is_full-slots_of taken))
       items typed
 
-  body_ready : (actors : ℕ) (kinds taken : List ℕ) (body : List Statement) → SlotsSuit letters kinds (slots_of taken) → AllByRecursion IsPrint body → AllByRecursion (IsTypedStatement actors sorts kinds) body → BodyReady letters taken body
-  body_ready actors kinds taken [] suits prints typed = tt
-  body_ready actors kinds taken (statement.Print items ∷ body) suits prints typed = ((items_ready kinds taken items suits typed.0.each, typed.0.few), body_ready actors kinds taken body suits prints.1 typed.1)
-  body_ready actors kinds taken (statement.Post target kind operands ∷ body) suits prints typed = absurd prints.0
-  body_ready actors kinds taken (statement.Stop ∷ body) suits prints typed = absurd prints.0
+  operand_ready : (kinds taken : List ℕ) (o : Operand) → SlotsSuit letters kinds (slots_of taken) → IsTypedOperand sorts kinds o → OperandReady letters (slots_of taken) o
+  operand_ready kinds taken o suits typed =
+      ready_where_full letters kinds (slots_of taken) (operand_needs o) suits (needs_suit kinds (operand_needs o) (operand_typed sorts kinds o typed)) (is_full-slots_of taken)
+
+  body_ready : (actors : ℕ) (kinds taken : List ℕ) (body : List Statement) → SlotsSuit letters kinds (slots_of taken) → AllByRecursion IsQuiet body → AllByRecursion (IsTypedStatement actors sorts kinds) body → BodyReady letters taken body
+  body_ready actors kinds taken [] suits quiet typed = tt
+  body_ready actors kinds taken (statement.Print items ∷ body) suits quiet typed = ((items_ready kinds taken items suits typed.0.each, typed.0.few), body_ready actors kinds taken body suits quiet.1 typed.1)
+  body_ready actors kinds taken (statement.Post target kind operands ∷ body) suits quiet typed = absurd quiet.0
+  body_ready actors kinds taken (statement.Stop ∷ body) suits quiet typed = absurd quiet.0
+  body_ready actors kinds taken (statement.Reply pattern operand ∷ body) suits quiet typed =
+      let count = length-SlotsSuit letters kinds (slots_of taken) suits in
+      let numbers = length-map taken (λ (n : ℕ). Some n) in
+      ((omega (arith, typed.0.0), operand_ready kinds taken operand suits typed.0.1), body_ready actors kinds taken body suits quiet.1 typed.1)
 
   module _ (live : List ℕ) (recorded : All (IsRecorded letters) live) (actors : ℕ) where
     ready_by : (rules : List Rule) → AllByRecursion (IsRunnable actors sorts) rules → (o : Option Candidate) → IsChosen letters live (definitions_of rules) o → ChoiceReady rules letters o
@@ -108,8 +120,11 @@ module _ (sorts : Sorts) (letters : List Message) (fitting : All (λ m. fits sor
         let found = mapped_at (λ (r : Rule). r.definition) rules (c.rule - 1) h.0.definition placed.found in
         let rule : Rule = found.0 in
         let runs = each_at (IsRunnable actors sorts) rules (c.rule - 1) rule found.1 runnable in
-        let assigns = subst (λ (d : Definition). Assigns letters live d.patterns (slots_of c.taken)) (sym found.2) h.0.assigns in
-        let body = body_ready actors rule.definition.patterns c.taken rule.body (suits_from_assigns letters live rule.definition.patterns (slots_of c.taken) recorded assigns) runs.prints runs.typed.body in
+        let d : Definition = h.0.definition in
+        let seen : List ℕ = seen_of d (length letters) live in
+        let seen_recorded = All-filter (is_seen d.window (length letters)) (IsRecorded letters) live recorded in
+        let assigns = subst (λ (x : Definition). Assigns letters seen x.patterns (slots_of c.taken)) (sym found.2) h.0.assigns in
+        let body = body_ready actors rule.definition.patterns c.taken rule.body (suits_from_assigns letters seen rule.definition.patterns (slots_of c.taken) seen_recorded assigns) runs.quiet runs.typed.body in
         let P : Option Rule → Type 0 = λ o. BodyReady letters c.taken (body_of o) in
         subst P (sym found.1) body
 

@@ -35,7 +35,7 @@ module _ (sorts : Sorts) (kinds : List ℕ) where
   words_typed (words.Fixed bytes) t = tt
   words_typed (words.Field place) t = (t, tt)
 
-  operand_typed : (o : Operand) → IsTypedOperand sorts kinds o → AreTypedNeeds (operand_needs o)
+  pub operand_typed : (o : Operand) → IsTypedOperand sorts kinds o → AreTypedNeeds (operand_needs o)
   operand_typed (operand.Sum leaves) t = term_typed leaves t.each
   operand_typed (operand.Words w) t = words_typed w t
 

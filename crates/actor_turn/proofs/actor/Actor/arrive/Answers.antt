@@ -1,11 +1,13 @@
-use Rattle.std.proofs.Common.{◌≡◌, ◌∙◌, List, ◌<◌, ◌≤◌, [], ◌∷◌, ◌++◌, length, true, ap, sym, subst, arith}
+use Rattle.std.proofs.Common.{◌≡◌, ◌∙◌, List, ◌+◌, ◌<◌, ◌≤◌, max, [], ◌∷◌, ◌++◌, length, true, ap, sym, subst, arith}
 use Rattle.std.proofs.lemmas.List.{length-map}
 use Rattle.join_base.specs.declared.message.Message.{Message}
 use Rattle.actor_turn.specs.declared.run.Ending.TheVariants.{Running}
-use Rattle.actor_turn.specs.Step.{Late, fits, fair_step, letters_of}
+use Rattle.actor_turn.specs.Step.{Late, fits, fair_step, latest_stamp, letters_of}
+use Rattle.join_base.specs.Stamps.{greatest_stamp}
+use Rattle.actor_turn.proofs.FairLemmas.{latest_stamp-more}
 use Rattle.actor_turn.specs.declared.run.Entry.{Entry}
 use Rattle.actor_turn.specs.Held.{CanRun, Held}
-use Rattle.actor_turn.proofs.KeptLemmas.{popped, IsKept-same, recorded_with, kept_by, ready_with, ready_of_entries, testable_with}
+use Rattle.actor_turn.proofs.KeptLemmas.{ascending_with, popped, IsKept-same, recorded_with, kept_by, ready_with, ready_of_entries, testable_with}
 use Rattle.actor_turn.proofs.StepLemmas.{Concluded, concluded_step}
 use Rattle.actor_turn.proofs.actor.Actor.arrive.Goals as goal
 
@@ -23,6 +25,13 @@ conclude-requires-clause-recorded g c =
     let fit = subst (λ (h : Held). fits h.setting.sorts c.args.message.now ≡ true) (sym c.self.view_is) c.requires.fits in
     let letters = c.in_ok-push.ensures.ok ∙ ap (λ (m : Message). a.letters ++ m ∷ []) c.in_ok-letter.ensures.equal in
     recorded_with a.sorts a.letters a.entries a.live.items c.self.invariant.0 c.args.message.now fit c.push.new.self c.len.result letters c.len.ensures.count
+
+pub conclude-requires-clause-ascending : goal.conclude-requires-clause-ascending
+conclude-requires-clause-ascending g c =
+    let a = c.self.inside in
+    let fit = subst (λ (h : Held). fits h.setting.sorts c.args.message.now ≡ true) (sym c.self.view_is) c.requires.fits in
+    let letters = c.in_ok-push.ensures.ok ∙ ap (λ (m : Message). a.letters ++ m ∷ []) c.in_ok-letter.ensures.equal in
+    ascending_with a.sorts a.letters a.entries a.live.items c.self.invariant.0 c.args.message.now fit c.push.new.self c.len.result letters c.len.ensures.count
 
 pub conclude-requires-clause-ready : goal.conclude-requires-clause-ready
 conclude-requires-clause-ready g c =
@@ -63,15 +72,21 @@ returns-in-Ok-clause-step g c =
     let arrivals = subst (λ (h : Held). 1000 ≤ h.setting.limits.arrivals) back c.requires.arrivals in
     let partials = subst (λ (h : Held). 32016 ≤ h.setting.limits.partials) back c.requires.partials in
     let fit = subst (λ (h : Held). fits h.setting.sorts message ≡ true) back c.requires.fits in
+    let stamped = subst (λ (h : Held). max (latest_stamp h.state.entries) c.args.stamp < greatest_stamp) back c.requires.stamped in
     let ready = ready_of_entries a.sorts a.letters a.entries a.live.items c.self.invariant.0 message fit (length a.late_actors.items) a.rules runnable in
     let testable = testable_with a.sorts a.letters a.entries a.live.items c.self.invariant.0 message fit (length a.late_actors.items) a.rules runnable (letters_of a.entries ++ message ∷ []) (ap (λ (xs : List Message). xs ++ message ∷ []) (sym c.self.invariant.0.same)) in
     let few : length a.live.items ≤ length a.entries = omega (arith, c.self.invariant.0.few, ap length c.self.invariant.0.same, length-map a.entries (λ (e : Entry). e.message)) in
     let letters = c.in_ok-push.ensures.ok ∙ (λ i. c.self.invariant.0.same i ++ c.in_ok-letter.ensures.equal i ∷ []) in
-    let concluded : Concluded a.rules a.entries a.live.items c.args.source message c.push.new.self c.len.result c.in_ok-own.own c.conclude.new.entries c.conclude.new.live.items c.in-Ok.outcome
-    = record { letters = letters; number_is = c.len.ensures.count; message_is = c.in_ok-own.ensures.equal; outcome_is = c.in-Ok.ensures.outcome; entry = c.in-Ok.ensures.entry; live_is = c.in-Ok.ensures.live } in
-    ap (λ (h : Held). fair_step h.setting h.state c.args.source message) back
-    ∙ (λ i. fair_step (record { sorts = a.sorts; rules = a.rules; limits = a.limits }) (record { entries = a.entries; live = a.live.items; ending = running i; late = late }) c.args.source message)
-    ∙ concluded_step a.sorts a.rules a.limits a.entries a.live.items late c.args.source message
-    testable room arrivals partials few fit ready
-    c.push.new.self c.len.result c.in_ok-own.own c.conclude.new.entries c.conclude.new.live.items c.in-Ok.outcome concluded
+    let concluded : Concluded a.rules a.entries a.live.items c.args.source message c.args.stamp c.push.new.self c.len.result c.in_ok-own.own c.next_stamp.result c.conclude.new.entries c.conclude.new.live.items c.in-Ok.outcome
+    = record { letters = letters; number_is = c.len.ensures.count; message_is = c.in_ok-own.ensures.equal; stamp_is = c.next_stamp.ensures; outcome_is = c.in-Ok.ensures.outcome; entry = c.in-Ok.ensures.entry; live_is = c.in-Ok.ensures.live } in
+    ap (λ (h : Held). fair_step h.setting h.state c.args.source message c.args.stamp) back
+    ∙ (λ i. fair_step (record { sorts = a.sorts; rules = a.rules; limits = a.limits }) (record { entries = a.entries; live = a.live.items; ending = running i; late = late }) c.args.source message c.args.stamp)
+    ∙ concluded_step a.sorts a.rules a.limits a.entries a.live.items late c.args.source message c.args.stamp
+    testable room arrivals partials few fit stamped ready
+    c.push.new.self c.len.result c.in_ok-own.own c.next_stamp.result c.conclude.new.entries c.conclude.new.live.items c.in-Ok.outcome concluded
     ∙ (λ i. (record { entries = c.conclude.new.entries; live = c.conclude.new.live.items; ending = sym running i; late = late }, c.in-Ok.outcome))
+
+pub returns-in-Ok-clause-stamp : goal.returns-in-Ok-clause-stamp
+returns-in-Ok-clause-stamp g c =
+    ap latest_stamp c.in-Ok.ensures.entry ∙ latest_stamp-more c.self.inside.entries _ ∙ c.next_stamp.ensures
+    ∙ ap (λ (h : Held). max (latest_stamp h.state.entries) c.args.stamp + 1) c.self.view_is
