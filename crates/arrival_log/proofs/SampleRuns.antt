@@ -1,5 +1,5 @@
 -- The sample runs fit their plans.
-use Rattle.std.proofs.Common.{refl, rules}
+use Rattle.std.proofs.Common.{refl, rules, arith}
 use Rattle.std.specs.Prelude.{codes}
 use Rattle.std.specs.Str.{is_utf8, chars, IsUtf8}
 use Rattle.std.proofs.lemmas.Str.{IsUtf8-from_is_utf8}
@@ -17,6 +17,8 @@ utf8_of_note = IsUtf8-from_is_utf8 (codes "a \"b\"") refl
 
 pub hit_fits : RunFits hit_plan hit_run
 hit_fits = record {
+  version = search rules;
+  replies = λ e. refl;
   arrivals = search rules;
   partials = search rules;
   feeds = search rules;
@@ -28,6 +30,7 @@ hit_fits = record {
           number = search rules;
           source = search rules;
           message = record { kind = refl; values = search rules };
+          stamp = record { first = λ e. absurd (omega arith); second = λ e. (omega arith, omega arith) };
           firing = tt;
         },
         (
@@ -35,12 +38,13 @@ hit_fits = record {
             number = search rules;
             source = search rules;
             message = record { kind = refl; values = search rules };
+            stamp = record { first = λ e. absurd (omega arith); second = λ e. (omega arith, omega arith) };
             firing = record {
               rule = search rules;
               some = search rules;
               few = search rules;
               numbers = search rules;
-              effects = (record { utf8 = utf8_of_hit; short = search rules }, tt);
+              effects = (record { utf8 = utf8_of_hit; short = search rules }, ((refl, search rules, search rules), tt));
             };
           },
           tt,
@@ -57,6 +61,8 @@ hit_fits = record {
 
 pub post_fits : RunFits post_plan post_run
 post_fits = record {
+  version = search rules;
+  replies = λ e. absurd cc;
   arrivals = search rules;
   partials = search rules;
   feeds = search rules;
@@ -68,6 +74,7 @@ post_fits = record {
           number = search rules;
           source = search rules;
           message = record { kind = refl; values = search rules };
+          stamp = record { first = λ e. refl; second = λ e. absurd (omega arith) };
           firing = record {
             rule = search rules;
             some = search rules;
@@ -90,6 +97,7 @@ post_fits = record {
             number = search rules;
             source = search rules;
             message = record { kind = refl; values = search rules };
+            stamp = record { first = λ e. refl; second = λ e. absurd (omega arith) };
             firing = tt;
           },
           (
@@ -97,6 +105,7 @@ post_fits = record {
               number = search rules;
               source = search rules;
               message = record { kind = refl; values = (record { utf8 = utf8_of_note; short = search rules }, tt) };
+              stamp = record { first = λ e. refl; second = λ e. absurd (omega arith) };
               firing = tt;
             },
             tt,

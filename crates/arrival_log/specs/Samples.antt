@@ -1,4 +1,4 @@
--- Two runs with their plans, which the tests print.
+-- Two runs with their plans, which the tests print: one of version 2 and one of version 1.
 use Rattle.std.specs.Prelude.{ℕ, List, [], ◌∷◌, None, Some, codes, negsuc, pos}
 use Rattle.join_base.specs.declared.message.Value.TheVariants.{Int, Words}
 use Rattle.join_base.specs.declared.message.Sort.TheVariants as sort
@@ -7,7 +7,7 @@ use Rattle.join_base.specs.declared.message.Message.{Message}
 use Rattle.script_types.specs.declared.plan.Plan.{Plan}
 use Rattle.script_types.specs.declared.plan.Kind.{Kind}
 use Rattle.script_types.specs.declared.plan.ActorPlan.{ActorPlan}
-use Rattle.actor_turn.specs.declared.run.Effect.TheVariants.{Print, Post}
+use Rattle.actor_turn.specs.declared.run.Effect.TheVariants.{Print, Post, Reply}
 use Rattle.actor_turn.specs.declared.run.Ending.TheVariants.{Running, Stopped}
 use Rattle.actor_turn.specs.declared.run.ActorRun.{ActorRun}
 use Rattle.actor_turn.specs.declared.run.Firing.{Firing}
@@ -32,14 +32,14 @@ hit_plan = record {
   actors = ruleless (codes "m") ∷ [];
 }
 
--- the firing that takes both messages
+-- the firing that takes both messages, and replies to the second
 abbrev pub hit : Firing
-hit = record { rule = 1; taken = 1 ∷ 2 ∷ []; effects = Print (codes "hit 12") ∷ [] }
+hit = record { rule = 1; taken = 1 ∷ 2 ∷ []; effects = Print (codes "hit 12") ∷ Reply 2 (Int (negsuc 4)) ∷ [] }
 
 abbrev pub joiner : ActorRun
 joiner = record {
-  entries = record { number = 1; source = Feed 1; message = one_value 0 (Int (pos 1)); firing = None }
-      ∷ record { number = 2; source = Feed 1; message = one_value 1 (Int (pos 2)); firing = Some hit } ∷ [];
+  entries = record { number = 1; source = Feed 1; message = one_value 0 (Int (pos 1)); stamp = 1; firing = None }
+      ∷ record { number = 2; source = Feed 1; message = one_value 1 (Int (pos 2)); stamp = 2; firing = Some hit } ∷ [];
   late = [];
   ending = Running;
   left = [];
@@ -47,7 +47,7 @@ joiner = record {
 }
 
 abbrev pub hit_run : Run
-hit_run = record { limits = record { arrivals = 50000; partials = 65536 }; feeds = 1; actors = joiner ∷ [] }
+hit_run = record { version = 2; limits = record { arrivals = 50000; partials = 65536 }; feeds = 1; actors = joiner ∷ [] }
 
 abbrev pub post_plan : Plan
 post_plan = record {
@@ -62,7 +62,7 @@ post = record { rule = 2; taken = 1 ∷ []; effects = Post 1 (one_value 0 (Int (
 -- the actor that posts, stops, and is sent more
 abbrev pub poster : ActorRun
 poster = record {
-  entries = record { number = 1; source = Feed 2; message = one_value 0 (Int (pos 0)); firing = Some post } ∷ [];
+  entries = record { number = 1; source = Feed 2; message = one_value 0 (Int (pos 0)); stamp = 0; firing = Some post } ∷ [];
   late = (Feed 1, 5) ∷ (Actor 1, 18446744073709551615) ∷ [];
   ending = Stopped;
   left = [];
@@ -72,8 +72,8 @@ poster = record {
 -- the actor that keeps what it is sent
 abbrev pub keeper : ActorRun
 keeper = record {
-  entries = record { number = 1; source = Actor 0; message = one_value 0 (Int (negsuc 6)); firing = None }
-      ∷ record { number = 2; source = Feed 1; message = one_value 1 (Words (codes "a \"b\"")); firing = None } ∷ [];
+  entries = record { number = 1; source = Actor 0; message = one_value 0 (Int (negsuc 6)); stamp = 0; firing = None }
+      ∷ record { number = 2; source = Feed 1; message = one_value 1 (Words (codes "a \"b\"")); stamp = 0; firing = None } ∷ [];
   late = [];
   ending = Running;
   left = 1 ∷ 2 ∷ [];
@@ -81,4 +81,4 @@ keeper = record {
 }
 
 abbrev pub post_run : Run
-post_run = record { limits = record { arrivals = 3; partials = 4 }; feeds = 2; actors = poster ∷ keeper ∷ [] }
+post_run = record { version = 1; limits = record { arrivals = 3; partials = 4 }; feeds = 2; actors = poster ∷ keeper ∷ [] }

@@ -5,7 +5,7 @@ ghost use Rattle.arrival_log.specs.LogText.{actor_lines, arrival_line, effect_li
 
 use crate::parts::{
     write_actor_name, write_count, write_ending, write_labelled, write_left, write_message,
-    write_numbers, write_source,
+    write_numbers, write_source, write_stamp, write_value,
 };
 use actor_turn::{ActorRun, Effect, Entry, Firing, Run};
 use join_base::{Bytes, NoMemory, Source, write_quoted};
@@ -15,7 +15,8 @@ use script_types::{ActorPlan, Plan};
 pub(crate) fn write_head(text: &mut Bytes, run: &Run) -> Result<(), NoMemory>
     ensures { OnOk result (text.new ≡ text.old ++ head_line run.now) }
 {
-    write_labelled(text, b"joinlog 1 arrivals ", u64::from(run.limits.arrivals))?;
+    write_labelled(text, b"joinlog ", u64::from(run.version))?;
+    write_labelled(text, b" arrivals ", u64::from(run.limits.arrivals))?;
     write_labelled(text, b" partials ", run.limits.partials)?;
     write_labelled(text, b" feeds ", u64::from(run.feeds))?;
     text.push_all(b"\n")
@@ -35,6 +36,12 @@ fn write_effect(text: &mut Bytes, plan: &Plan, effect: &Effect) -> Result<(), No
             write_actor_name(text, plan, *target)?;
             text.push_all(b" ")?;
             write_message(text, plan, message)?;
+            text.push_all(b"\n")
+        }
+        Effect::Reply { number, value } => {
+            write_labelled(text, b"reply ", u64::from(*number))?;
+            text.push_all(b" ")?;
+            write_value(text, value)?;
             text.push_all(b"\n")
         }
     }
@@ -71,10 +78,16 @@ fn write_firing(text: &mut Bytes, plan: &Plan, firing: &Option<Firing>) -> Resul
     }
 }
 
-fn write_arrival(text: &mut Bytes, plan: &Plan, entry: &Entry) -> Result<(), NoMemory>
-    ensures { OnOk result (text.new ≡ text.old ++ arrival_line plan.now entry.now) }
+fn write_arrival(
+    text: &mut Bytes,
+    plan: &Plan,
+    version: u32,
+    entry: &Entry,
+) -> Result<(), NoMemory>
+    ensures { OnOk result (text.new ≡ text.old ++ arrival_line plan.now version entry.now) }
 {
     write_count(text, u64::from(entry.number))?;
+    write_stamp(text, version, entry.stamp)?;
     text.push_all(b" from ")?;
     write_source(text, plan, entry.source)?;
     text.push_all(b" ")?;
@@ -82,11 +95,16 @@ fn write_arrival(text: &mut Bytes, plan: &Plan, entry: &Entry) -> Result<(), NoM
     text.push_all(b"\n")
 }
 
-fn write_entries(text: &mut Bytes, plan: &Plan, entries: &[Entry]) -> Result<(), NoMemory>
-    ensures { OnOk result (text.new ≡ text.old ++ flat_map (entry_lines plan.now) entries.now) }
+fn write_entries(
+    text: &mut Bytes,
+    plan: &Plan,
+    version: u32,
+    entries: &[Entry],
+) -> Result<(), NoMemory>
+    ensures { OnOk result (text.new ≡ text.old ++ flat_map (entry_lines plan.now version) entries.now) }
 {
     for entry in entries {
-        write_arrival(text, plan, entry)?;
+        write_arrival(text, plan, version, entry)?;
         write_firing(text, plan, &entry.firing)?;
     }
     Ok(())
@@ -126,15 +144,16 @@ fn write_end(text: &mut Bytes, run: &ActorRun) -> Result<(), NoMemory>
 pub(crate) fn write_actor(
     text: &mut Bytes,
     plan: &Plan,
+    version: u32,
     actor: &ActorPlan,
     run: &ActorRun,
 ) -> Result<(), NoMemory>
-    ensures { OnOk result (text.new ≡ text.old ++ actor_lines plan.now actor.now run.now) }
+    ensures { OnOk result (text.new ≡ text.old ++ actor_lines plan.now version actor.now run.now) }
 {
     text.push_all(b"actor ")?;
     text.push_all(actor.name.bytes())?;
     text.push_all(b"\n")?;
-    write_entries(text, plan, run.entries.as_slice())?;
+    write_entries(text, plan, version, run.entries.as_slice())?;
     write_lates(text, plan, run.late.as_slice())?;
     write_end(text, run)
 }

@@ -1,7 +1,7 @@
 //! The parts of a line. Each function appends one part, and without memory some of it may stay appended.
 ghost use Rattle.std.specs.Prelude.{◌≡◌, ◌++◌, map, OnOk};
 ghost use Rattle.std.specs.Fmt.{decimal};
-ghost use Rattle.arrival_log.specs.Commas.{comma_before};
+ghost use Rattle.arrival_log.specs.Commas.{comma_before, stamp_behind};
 ghost use Rattle.arrival_log.specs.LogText.{comma_joined, left_text, ending_text, message_text, name_of_actor, name_of_kind, source_text, value_text};
 
 use actor_turn::Ending;
@@ -20,6 +20,17 @@ pub(crate) fn write_labelled(text: &mut Bytes, label: &[u8], number: u64) -> Res
 {
     text.push_all(label)?;
     write_count(text, number)
+}
+
+// ` at S` behind an arrival's number, which version 1 lacks.
+pub(crate) fn write_stamp(text: &mut Bytes, version: u32, stamp: u64) -> Result<(), NoMemory>
+    ensures { OnOk result (text.new ≡ text.old ++ stamp_behind version stamp) }
+{
+    if version == 1 {
+        Ok(())
+    } else {
+        write_labelled(text, b" at ", stamp)
+    }
 }
 
 pub(crate) fn write_actor_name(text: &mut Bytes, plan: &Plan, actor: u32) -> Result<(), NoMemory>
@@ -67,7 +78,7 @@ fn write_comma(text: &mut Bytes, place: usize) -> Result<(), NoMemory>
     }
 }
 
-fn write_value(text: &mut Bytes, value: &Value) -> Result<(), NoMemory>
+pub(crate) fn write_value(text: &mut Bytes, value: &Value) -> Result<(), NoMemory>
     ensures { OnOk result (text.new ≡ text.old ++ value_text value.now) }
 {
     match value {

@@ -10,18 +10,24 @@ use script_types::Plan;
 use std::alloc::Global;
 
 // The lines of each actor, in order.
-fn write_sections(text: &mut Bytes, plan: &Plan, runs: &[ActorRun]) -> Result<(), NoMemory>
+fn write_sections(
+    text: &mut Bytes,
+    plan: &Plan,
+    version: u32,
+    runs: &[ActorRun],
+) -> Result<(), NoMemory>
     requires { length runs.now ≡ length plan.now.actors }
-    ensures { OnOk result (text.new ≡ text.old ++ sections plan.now plan.now.actors runs.now) }
+    ensures { OnOk result (text.new ≡ text.old ++ sections plan.now version plan.now.actors runs.now) }
 {
     for (place, run) in runs.iter().enumerate() {
-        write_actor(text, plan, plan.actors.at(place), run)?;
+        write_actor(text, plan, version, plan.actors.at(place), run)?;
     }
     Ok(())
 }
 
 /// Appends the log of a run as text: a first line with its limits and its number of feeds, and then for each actor
 /// the messages that it recorded, each with what it fired, the counts of late messages, and how the actor ended.
+/// In a run of version 2 each message has its stamp too, and a firing may have replies.
 /// Each fact is a line of words and numbers. So people can read a run and compare two, and a program can check it.
 /// The form is this project's own.
 ///
@@ -33,6 +39,6 @@ pub fn print_log(alloc: Global, plan: &Plan, run: &Run, out: &mut Bytes) -> Resu
 {
     let mut text = Bytes::new(alloc);
     write_head(&mut text, run)?;
-    write_sections(&mut text, plan, run.actors.as_slice())?;
+    write_sections(&mut text, plan, run.version, run.actors.as_slice())?;
     out.push_all(text.bytes())
 }

@@ -57,7 +57,7 @@ fn hit_plan(alloc: Global) -> Result<Plan, NoMemory>
     Ok(Plan { kinds, actors })
 }
 
-// The firing that takes both messages.
+// The firing that takes both messages, and replies to the second.
 fn hit(alloc: Global) -> Result<Firing, Fail>
     ensures { IfOk result (λ f. f ≡ hit) }
 {
@@ -66,6 +66,10 @@ fn hit(alloc: Global) -> Result<Firing, Fail>
     taken.push(2);
     let mut effects = Items::new(alloc);
     effects.push(Effect::Print(Line::from_bytes(alloc, b"hit 12")?))?;
+    effects.push(Effect::Reply {
+        number: 2,
+        value: Value::Int(-5),
+    })?;
     Ok(Firing {
         rule: 1,
         taken,
@@ -81,12 +85,14 @@ fn joiner(alloc: Global) -> Result<ActorRun, Fail>
         number: 1,
         source: Source::Feed(1),
         message: message(alloc, 0, Value::Int(1))?,
+        stamp: 1,
         firing: None,
     })?;
     entries.push(Entry {
         number: 2,
         source: Source::Feed(1),
         message: message(alloc, 1, Value::Int(2))?,
+        stamp: 2,
         firing: Some(hit(alloc)?),
     })?;
     Ok(ActorRun {
@@ -104,6 +110,7 @@ fn hit_run(alloc: Global) -> Result<Run, Fail>
     let mut actors = Items::new(alloc);
     actors.push(joiner(alloc)?)?;
     Ok(Run {
+        version: 2,
         limits: Limits {
             arrivals: 50_000,
             partials: 65_536,
@@ -119,12 +126,13 @@ fn a_match_is_printed(rt: HostRuntime) -> Result<(), Fail> {
     let run = hit_run(rt.alloc())?;
     let mut out = Bytes::new(rt.alloc());
     print_log(rt.alloc(), &plan, &run, &mut out)?;
-    let log = b"joinlog 1 arrivals 50000 partials 65536 feeds 1
+    let log = b"joinlog 2 arrivals 50000 partials 65536 feeds 1
 actor m
-1 from feed 1 a(1)
-2 from feed 1 b(2)
+1 at 1 from feed 1 a(1)
+2 at 2 from feed 1 b(2)
 fire rule 1 take 1,2
 print \"hit 12\"
+reply 2 -5
 end running left - partials 1
 ";
     assert_eq!(rt; out.bytes(), log.as_slice());
@@ -170,6 +178,7 @@ fn poster(alloc: Global) -> Result<ActorRun, Fail>
         number: 1,
         source: Source::Feed(2),
         message: message(alloc, 0, Value::Int(0))?,
+        stamp: 0,
         firing: Some(post(alloc)?),
     })?;
     let mut late = Items::new(alloc);
@@ -193,6 +202,7 @@ fn keeper(alloc: Global) -> Result<ActorRun, Fail>
         number: 1,
         source: Source::Actor(0),
         message: message(alloc, 0, Value::Int(-7))?,
+        stamp: 0,
         firing: None,
     })?;
     let note = Text::from_bytes(alloc, b"a \"b\"")?;
@@ -200,6 +210,7 @@ fn keeper(alloc: Global) -> Result<ActorRun, Fail>
         number: 2,
         source: Source::Feed(1),
         message: message(alloc, 1, Value::Words(note))?,
+        stamp: 0,
         firing: None,
     })?;
     let mut left = Items::new(alloc);
@@ -222,6 +233,7 @@ fn post_run(alloc: Global) -> Result<Run, Fail>
     actors.push(poster(alloc)?)?;
     actors.push(keeper(alloc)?)?;
     Ok(Run {
+        version: 1,
         limits: Limits {
             arrivals: 3,
             partials: 4,
