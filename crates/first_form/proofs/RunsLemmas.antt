@@ -10,9 +10,9 @@ use Rattle.script_types.specs.declared.plan.ActorPlan.{ActorPlan}
 use Rattle.script_types.specs.declared.plan.Plan.{Plan}
 use Rattle.script_types.specs.Typed.{IsTyped, IsTypedActor, IsTypedRule, IsTypedStatement, Sorts, kind_types}
 use Rattle.actor_turn.specs.Fair.{rules_of}
-use Rattle.actor_turn.specs.Runnable.{AreRunnable, IsPrint, IsRunnable}
+use Rattle.actor_turn.specs.Runnable.{AreRunnable, IsQuiet, IsRunnable}
 use Rattle.first_form.specs.FirstForm.{IsFirstPlan}
-use Rattle.first_form.specs.Runs.{actor_runs, can_run, is_print, rule_runs}
+use Rattle.first_form.specs.Runs.{actor_runs, can_run, is_quiet, rule_runs}
 use Rattle.first_form.proofs.OptionLemmas.{and-left, and-right}
 use Rattle.first_form.proofs.KindLemmas.{le_true}
 
@@ -23,19 +23,20 @@ each_tested Known Wanted test one [] known passed = tt
 each_tested Known Wanted test one (x ∷ xs) known passed =
     (one x known.0 (and-left (test x) (list_all test xs) passed), each_tested Known Wanted test one xs known.1 (and-right (test x) (list_all test xs) passed))
 
-only_print : (actors : ℕ) (sorts : Sorts) (patterns : List ℕ) (s : Statement) → IsTypedStatement actors sorts patterns s → is_print s ≡ true → IsPrint s
-only_print actors sorts patterns (statement.Print items) typed runs = tt
-only_print actors sorts patterns (statement.Post target kind operands) typed runs = absurd cc
-only_print actors sorts patterns statement.Stop typed runs = absurd cc
+only_quiet : (actors : ℕ) (sorts : Sorts) (patterns : List ℕ) (s : Statement) → IsTypedStatement actors sorts patterns s → is_quiet s ≡ true → IsQuiet s
+only_quiet actors sorts patterns (statement.Print items) typed runs = tt
+only_quiet actors sorts patterns (statement.Post target kind operands) typed runs = absurd cc
+only_quiet actors sorts patterns statement.Stop typed runs = absurd cc
+only_quiet actors sorts patterns (statement.Reply pattern operand) typed runs = tt
 
 rule_can_run : (actors : ℕ) (sorts : Sorts) (rule : Rule) → IsTypedRule actors sorts rule → rule_runs rule ≡ true → IsRunnable actors sorts rule
 rule_can_run actors sorts rule typed runs =
-    let few = and-left (nat_le (length rule.definition.patterns) 2) (list_all is_print rule.body) runs in
-    let body = and-right (nat_le (length rule.definition.patterns) 2) (list_all is_print rule.body) runs in
+    let few = and-left (nat_le (length rule.definition.patterns) 2) (list_all is_quiet rule.body) runs in
+    let body = and-right (nat_le (length rule.definition.patterns) 2) (list_all is_quiet rule.body) runs in
     record {
       typed = typed;
       short = record { some = typed.some_patterns; few = le_true (length rule.definition.patterns) 2 few };
-      prints = each_tested (IsTypedStatement actors sorts rule.definition.patterns) IsPrint is_print (only_print actors sorts rule.definition.patterns) rule.body typed.body body;
+      quiet = each_tested (IsTypedStatement actors sorts rule.definition.patterns) IsQuiet is_quiet (only_quiet actors sorts rule.definition.patterns) rule.body typed.body body;
     }
 
 only_actor : (count : ℕ) (sorts : Sorts) (actors : List ActorPlan) → length actors ≡ 1 → AllByRecursion (IsTypedActor count sorts) actors → list_all actor_runs actors ≡ true

@@ -1,4 +1,4 @@
--- Which plans run so far: one actor, definitions of one or two patterns, and bodies that only print.
+-- Which plans run so far: one actor, definitions of one or two patterns, and bodies that only print and reply.
 use Rattle.std.specs.Prelude.{Bool, true, false, ◌&&◌, ◌==◌, nat_le, length}
 use Rattle.std.specs.List.{list_all}
 use Rattle.script_types.specs.declared.plan.Statement.{Statement}
@@ -7,13 +7,15 @@ use Rattle.script_types.specs.declared.plan.Rule.{Rule}
 use Rattle.script_types.specs.declared.plan.ActorPlan.{ActorPlan}
 use Rattle.script_types.specs.declared.plan.Plan.{Plan}
 
-abbrev pub is_print : Statement → Bool
-is_print (statement.Print items) = true
-is_print (statement.Post target kind operands) = false
-is_print statement.Stop = false
+-- a statement that sends no actor anything and ends none
+abbrev pub is_quiet : Statement → Bool
+is_quiet (statement.Print items) = true
+is_quiet (statement.Post target kind operands) = false
+is_quiet statement.Stop = false
+is_quiet (statement.Reply pattern operand) = true
 
 abbrev pub rule_runs : Rule → Bool
-rule_runs rule = nat_le (length rule.definition.patterns) 2 && list_all is_print rule.body
+rule_runs rule = nat_le (length rule.definition.patterns) 2 && list_all is_quiet rule.body
 
 abbrev pub actor_runs : ActorPlan → Bool
 actor_runs actor = list_all rule_runs actor.rules

@@ -3,24 +3,26 @@ ghost use Rattle.std.specs.Prelude.{◌≡◌, true};
 ghost use Rattle.std.specs.List.{list_all};
 ghost use Rattle.script_types.specs.Typed.{IsTyped};
 ghost use Rattle.first_form.specs.FirstForm.{IsFirstPlan};
-ghost use Rattle.first_form.specs.Runs.{actor_runs, can_run, is_print, rule_runs};
+ghost use Rattle.first_form.specs.Runs.{actor_runs, can_run, is_quiet, rule_runs};
 
 use script_types::{ActorPlan, Plan, Rule, Statement};
 
-fn is_print(statement: &Statement) -> bool
-    ensures { result ≡ is_print statement.now }
+// Whether the statement sends no actor anything and ends none.
+fn is_quiet(statement: &Statement) -> bool
+    ensures { result ≡ is_quiet statement.now }
 {
     match statement {
         Statement::Print(_) => true,
         Statement::Post { .. } => false,
         Statement::Stop => false,
+        Statement::Reply { .. } => true,
     }
 }
 
 fn body_runs(body: &[Statement]) -> bool
-    ensures { result ≡ list_all is_print body.now }
+    ensures { result ≡ list_all is_quiet body.now }
 {
-    body.iter().all(is_print)
+    body.iter().all(is_quiet)
 }
 
 fn rule_runs(rule: &Rule) -> bool
@@ -47,7 +49,7 @@ fn plan_runs(plan: &Plan) -> bool
     plan.actors.len() == 1 && actors_run(plan.actors.as_slice())
 }
 
-/// Whether a plan runs so far: it has one actor, at most two patterns in a definition, and bodies that only print.
+/// Whether a plan runs so far: it has one actor, at most two patterns in a definition, and bodies that only print and reply.
 #[tactic(auto, using(crate::proofs::RunsLemmas::first_plan))]
 pub fn can_run(plan: &Plan) -> bool
     requires typed { IsTyped plan.now }
