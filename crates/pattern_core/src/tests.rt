@@ -1,8 +1,9 @@
 ghost use Rattle.std.specs.Prelude.{◌≡◌, ◌<◌, ◌≤◌, ◌∷◌, [], IfOk, Some, None, false};
 ghost use Rattle.guard_eval.specs.Condition.{Compares, Either, Never};
 ghost use Rattle.guard_eval.specs.Shape.{conjunct_condition};
+ghost use Rattle.pattern_core.specs.Window.{SeesLatest};
 
-use crate::{Definition, complete, least_match, try_extend};
+use crate::{Definition, complete, least_match, oldest_seen, try_extend};
 use guard_eval::{Atom, Conjunct, ConjunctList, Leaf, Operand, Place, Signed, Term};
 use join_base::{Fields, Items, Letters, Message, NoMemory, Relation, Slots, Steps, Value};
 use std::alloc::Global;
@@ -172,5 +173,26 @@ fn least<L: Ledger>(alloc: Global, blank: Blank) -> Result<(u32, u32), Fail>
 #[test]
 fn the_older_message_is_passed_over_where_the_guard_is_false(rt: HostRuntime) -> Result<(), Fail> {
     assert_eq!(rt; least::<Brand>(rt.alloc(), Blank::new(1))?, (2, 3));
+    Ok(())
+}
+
+// The oldest arrival that a definition with the window sees.
+fn oldest(alloc: Global, window: Option<u32>, recorded: u32) -> Result<u32, Fail>
+    requires latest { SeesLatest window }
+{
+    let mut definition = pair(alloc)?;
+    definition.window = window;
+    Ok(oldest_seen(&definition, recorded))
+}
+
+#[test]
+fn a_definition_sees_the_latest_messages(rt: HostRuntime) -> Result<(), Fail> {
+    let alloc = rt.alloc();
+    assert_eq!(rt; oldest(alloc, None, 7)?, 1);
+    assert_eq!(rt; oldest(alloc, Some(1), 7)?, 7);
+    assert_eq!(rt; oldest(alloc, Some(3), 7)?, 5);
+    assert_eq!(rt; oldest(alloc, Some(7), 7)?, 1);
+    assert_eq!(rt; oldest(alloc, Some(8), 7)?, 1);
+    assert_eq!(rt; oldest(alloc, Some(1000000), 4294967295)?, 4293967296);
     Ok(())
 }

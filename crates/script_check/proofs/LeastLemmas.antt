@@ -5,7 +5,7 @@ use Rattle.std.specs.List.{AllByRecursion}
 use Rattle.std.proofs.lemmas.Bool.Decides.{nat_tests}
 use Rattle.std.proofs.lemmas.Option.{same_Some}
 use Rattle.script_reader.specs.declared.fault.ScriptCause.{ScriptCause}
-use Rattle.script_reader.specs.declared.fault.ScriptCause.TheVariants.{NotText, BadToken, BadSyntax, TooMany, TwiceDeclared, UnknownMessage, UnknownActor, UnknownName, WrongCount, WrongType, StopNotLast}
+use Rattle.script_reader.specs.declared.fault.ScriptCause.TheVariants.{NotText, BadToken, BadSyntax, TooMany, TwiceDeclared, UnknownMessage, UnknownActor, UnknownName, WrongCount, WrongType, StopNotLast, BadWindow, BadReply}
 use Rattle.script_faults.specs.declared.first.Fault.{Fault}
 use Rattle.script_faults.specs.First.{first_of, is_before, rank}
 
@@ -47,9 +47,11 @@ cause_at (suc (suc (suc (suc zero)))) = UnknownName
 cause_at (suc (suc (suc (suc (suc zero))))) = WrongCount
 cause_at (suc (suc (suc (suc (suc (suc zero)))))) = WrongType
 cause_at (suc (suc (suc (suc (suc (suc (suc zero))))))) = StopNotLast
-cause_at (suc (suc (suc (suc (suc (suc (suc (suc zero)))))))) = NotText
-cause_at (suc (suc (suc (suc (suc (suc (suc (suc (suc zero))))))))) = BadToken
-cause_at (suc (suc (suc (suc (suc (suc (suc (suc (suc (suc n)))))))))) = BadSyntax
+cause_at (suc (suc (suc (suc (suc (suc (suc (suc zero)))))))) = BadWindow
+cause_at (suc (suc (suc (suc (suc (suc (suc (suc (suc zero))))))))) = BadReply
+cause_at (suc (suc (suc (suc (suc (suc (suc (suc (suc (suc zero)))))))))) = NotText
+cause_at (suc (suc (suc (suc (suc (suc (suc (suc (suc (suc (suc zero))))))))))) = BadToken
+cause_at (suc (suc (suc (suc (suc (suc (suc (suc (suc (suc (suc (suc n)))))))))))) = BadSyntax
 
 cause_at-rank : (c : ScriptCause) → cause_at (rank c) ≡ c
 cause_at-rank TooMany = refl
@@ -60,6 +62,8 @@ cause_at-rank UnknownName = refl
 cause_at-rank WrongCount = refl
 cause_at-rank WrongType = refl
 cause_at-rank StopNotLast = refl
+cause_at-rank BadWindow = refl
+cause_at-rank BadReply = refl
 cause_at-rank NotText = refl
 cause_at-rank BadToken = refl
 cause_at-rank BadSyntax = refl

@@ -1,4 +1,5 @@
 pub mod LeastLemmas
+pub mod NumberLemmas
 pub mod SmallLemmas
 pub mod CheckLemmas
 pub mod VariableLemmas

@@ -1,5 +1,5 @@
 -- The plan of a filled tree without faults is well typed.
-use Rattle.std.proofs.Common.{◌≡◌, ◌∙◌, ℕ, zero, suc, ◌+◌, ◌-◌, ◌<◌, List, [], ◌∷◌, ◌++◌, length, map, drop, take, Option, None, Some, refl, sym, ap, subst, arith}
+use Rattle.std.proofs.Common.{◌≡◌, ◌∙◌, ℕ, ℤ, zero, suc, ◌+◌, ◌-◌, ◌<◌, List, [], ◌∷◌, ◌++◌, length, map, drop, take, Option, None, Some, refl, sym, ap, subst, arith}
 use Rattle.std.specs.Prelude.{eqb, slice_get, IfSome}
 use Rattle.std.specs.Option.{is_none, option_and_then, option_map}
 use Rattle.std.specs.List.{AllByRecursion, flat_map}
@@ -23,10 +23,11 @@ use Rattle.script_names.specs.Scope.{Variable, actor_rows, field_sorts, message_
 use Rattle.script_names.proofs.NameLemmas.{number_within}
 use Rattle.script_reader.specs.declared.fault.ScriptCause.TheVariants.{UnknownActor}
 use Rattle.script_faults.specs.First.{fault_if, too_many}
-use Rattle.script_faults.specs.Faults.{Comparing, actor_faults, body_faults, comparison_faults, count_faults, faults_of, fields_of, fields_or_none, guard_comparisons, guard_faults, item_faults, item_place, message_faults, operand_faults, operand_place, own_place, pattern_faults, patterns_faults, post_faults, rule_faults, statement_faults, statement_place, stop_fault, stop_faults, twice_declared, type_faults, wrong_type}
-use Rattle.script_plan.specs.PlanOf.{actor_of, field_of, kind_of, kind_number, names_in, operand_of, or_zero, pattern_of, plan_of, print_item, rule_of, statement_of, target_number}
-use Rattle.script_types.specs.Typed.{IsNoStop, IsTyped, IsTypedActor, IsTypedItem, IsTypedKind, IsTypedOperand, IsTypedPost, IsTypedRule, IsTypedStatement, StopsLast, TakeFields, TakesFields, type_of}
-use Rattle.script_check.proofs.SmallLemmas.{each_none, each_one, few, left_none, right_count, right_none, small_fields}
+use Rattle.script_faults.specs.Faults.{Comparing, actor_faults, body_faults, comparison_faults, count_faults, faults_of, fields_of, fields_or_none, guard_comparisons, guard_faults, item_faults, item_place, message_faults, operand_faults, operand_place, own_place, pattern_faults, patterns_faults, post_faults, reply_faults, rule_faults, statement_faults, statement_place, stop_fault, stop_faults, twice_declared, type_faults, window_faults, wrong_type}
+use Rattle.script_plan.specs.PlanOf.{actor_of, field_of, kind_of, kind_number, names_in, operand_of, or_zero, pattern_of, plan_of, print_item, rule_of, statement_of, target_number, window_of}
+use Rattle.script_types.specs.Typed.{IsNoStop, IsTyped, IsTypedActor, IsTypedItem, IsTypedKind, IsTypedOperand, IsTypedPost, IsTypedRule, IsTypedStatement, IsTypedWindow, StopsLast, TakeFields, TakesFields, type_of}
+use Rattle.script_check.proofs.NumberLemmas.{left_none, right_none, NumberFits, numbers_fit, replies_once, window_fits}
+use Rattle.script_check.proofs.SmallLemmas.{each_none, each_one, few, right_count, small_fields}
 use Rattle.script_check.proofs.VariableLemmas.{HasFields, all_fields, field_types-of, sorts_by}
 use Rattle.script_check.proofs.TypedLemmas.{AreFields, operand_type, same_of, typed_guard, typed_item, typed_operand}
 
@@ -151,9 +152,9 @@ module _ (tree : Tree) (rule : RuleDecl) (fields : AreFields tree rule) where
   items_typed [] fs ns = tt
   items_typed (x ∷ items) fs ns = (typed_item tree rule fields x fs.0 ns.0, items_typed items fs.1 ns.1)
 
-  statement_typed : (x : StatementDecl) → StatementFilled x → statement_faults tree.messages (actor_rows tree.actors) (variables_of tree.messages rule) x ≡ []
+  statement_typed : (x : StatementDecl) → StatementFilled x → statement_faults tree.messages (actor_rows tree.actors) (variables_of tree.messages rule) x ≡ [] → NumberFits (length rule.patterns) x
       → IsTypedStatement (length tree.actors) (sorts_by tree.messages) (map (pattern_of tree) rule.patterns) (statement_of tree (variables_of tree.messages rule) x)
-  statement_typed (s.Print place items) filled none =
+  statement_typed (s.Print place items) filled none fits =
       let vs = variables_of tree.messages rule in
       let many = too_many 16 item_place items in
       let count = length-map items (print_item vs) in
@@ -162,13 +163,16 @@ module _ (tree : Tree) (rule : RuleDecl) (fields : AreFields tree rule) where
         few = omega (arith, count, few 16 item_place items (left_none many (flat_map (item_faults vs) items) none));
         each = items_typed items filled.1 (each_none (item_faults vs) items (right_none many (flat_map (item_faults vs) items) none));
       }
-  statement_typed (s.Post place target kind operands) filled none = post_typed place target kind operands filled none
-  statement_typed (s.Stop place) filled none = tt
+  statement_typed (s.Post place target kind operands) filled none fits = post_typed place target kind operands filled none
+  statement_typed (s.Stop place) filled none fits = tt
+  statement_typed (s.Reply place number_place number operand) filled none fits =
+      let count = length-map rule.patterns (pattern_of tree) in (omega (arith, count, fits.0, fits.1), typed_operand tree rule fields operand filled none)
 
   body_typed : (body : List StatementDecl) → AllByRecursion StatementFilled body → AllByRecursion (λ (x : StatementDecl). statement_faults tree.messages (actor_rows tree.actors) (variables_of tree.messages rule) x ≡ []) body
+      → AllByRecursion (NumberFits (length rule.patterns)) body
       → AllByRecursion (IsTypedStatement (length tree.actors) (sorts_by tree.messages) (map (pattern_of tree) rule.patterns)) (map (statement_of tree (variables_of tree.messages rule)) body)
-  body_typed [] fs ns = tt
-  body_typed (x ∷ body) fs ns = (statement_typed x fs.0 ns.0, body_typed body fs.1 ns.1)
+  body_typed [] fs ns numbers = tt
+  body_typed (x ∷ body) fs ns numbers = (statement_typed x fs.0 ns.0 numbers.0, body_typed body fs.1 ns.1 numbers.1)
 
 -- ---- stops
 
@@ -176,6 +180,7 @@ no_stop : (tree : Tree) (vs : List Variable) (x : StatementDecl) → stop_fault 
 no_stop tree vs (s.Print place items) none = tt
 no_stop tree vs (s.Post place target kind operands) none = tt
 no_stop tree vs (s.Stop place) none = absurd cc
+no_stop tree vs (s.Reply place number_place number operand) none = tt
 
 stops_among : (tree : Tree) (vs : List Variable) (x : StatementDecl) (body : List StatementDecl) → flat_map stop_fault (take (length body) (x ∷ body)) ≡ [] → StopsLast (map (statement_of tree vs) (x ∷ body))
 stops_among tree vs x [] none = tt
@@ -189,6 +194,12 @@ stops_last tree vs [] none = tt
 stops_last tree vs (x ∷ body) none =
     let count : length (x ∷ body) - 1 ≡ length body = omega arith in
     stops_among tree vs x body (subst (λ (n : ℕ). flat_map stop_fault (take n (x ∷ body)) ≡ []) count none)
+
+-- ---- windows
+
+window_typed : (window : Option (ℕ × ℤ)) → window_faults window ≡ [] → IsTypedWindow (window_of window)
+window_typed None none = tt
+window_typed (Some number) none = window_fits number none
 
 -- ---- definitions, actors and plans
 
@@ -208,10 +219,15 @@ rule_typed tree rule filled none =
     let twice = twice_declared slot_place_of vs in
     let guard = guard_faults vs cs in
     let body = body_faults tree.messages rows vs rule.body in
-    let three = left_none (patterns ++ twice ++ guard) body none in
+    let window = window_faults rule.window in
+    let replies = reply_faults (length rule.patterns) [] rule.body in
+    let parts = left_none (patterns ++ twice ++ guard ++ body ++ window) replies none in
+    let no_reply = right_none (patterns ++ twice ++ guard ++ body ++ window) replies none in
+    let four = left_none (patterns ++ twice ++ guard ++ body) window parts in
+    let three = left_none (patterns ++ twice ++ guard) body four in
     let no_guard = right_none (patterns ++ twice) guard three in
     let no_pattern = left_none patterns twice (left_none (patterns ++ twice) guard three) in
-    let no_body = right_none (patterns ++ twice ++ guard) body none in
+    let no_body = right_none (patterns ++ twice ++ guard) body four in
     let many = too_many 8 pattern_place rule.patterns in
     let each_pattern = each_none (pattern_faults tree.messages) rule.patterns (right_none many (flat_map (pattern_faults tree.messages) rule.patterns) no_pattern) in
     let fields = all_fields tree.messages rule.patterns 0 (each_one (λ (p : PatternDecl). pattern_faults tree.messages p ≡ []) (HasFields tree.messages) (has_fields tree) rule.patterns each_pattern) in
@@ -223,10 +239,12 @@ rule_typed tree rule filled none =
       some_patterns = omega (arith, pattern_count, filled.patterns);
       few_patterns = omega (arith, pattern_count, few 8 pattern_place rule.patterns (left_none many (flat_map (pattern_faults tree.messages) rule.patterns) no_pattern));
       variables = take_fields tree rule.patterns each_pattern;
+      window = window_typed rule.window (right_none (patterns ++ twice ++ guard ++ body) window parts);
       guard = typed_guard tree rule fields rule.guard filled.guard (each_none (comparison_faults vs) cs (right_none (too_many 64 (λ (c : Comparing). operand_place c.left) cs) (flat_map (comparison_faults vs) cs) no_guard));
       few_statements = omega (arith, body_count, few 16 statement_place rule.body (left_none (too_many 16 statement_place rule.body) (stop_faults rule.body) two));
-      body = body_typed tree rule fields rule.body filled.body (each_none (statement_faults tree.messages rows vs) rule.body (right_none (too_many 16 statement_place rule.body ++ stop_faults rule.body) statements no_body));
+      body = body_typed tree rule fields rule.body filled.body (each_none (statement_faults tree.messages rows vs) rule.body (right_none (too_many 16 statement_place rule.body ++ stop_faults rule.body) statements no_body)) (numbers_fit (length rule.patterns) [] rule.body no_reply);
       stop_last = stops_last tree vs rule.body (right_none (too_many 16 statement_place rule.body) (stop_faults rule.body) two);
+      reply_once = replies_once tree vs (length rule.patterns) [] rule.body no_reply;
     }
 
 module _ (tree : Tree) where

@@ -1,6 +1,6 @@
 -- A tree without gaps and without faults is small.
 use Rattle.std.proofs.Common.{◌≡◌, ℕ, zero, suc, ◌≤◌, Bool, true, false, List, [], ◌∷◌, ◌++◌, length, Option, None, Some, refl, subst, arith}
-use Rattle.std.specs.Prelude.{not, ◌&&◌, ◌==◌, slice_get, eqb}
+use Rattle.std.specs.Prelude.{ℤ, not, ◌&&◌, ◌==◌, slice_get, eqb, unsigned_abs}
 use Rattle.std.specs.Option.{option_and_then, option_map}
 use Rattle.std.specs.List.{AllByRecursion, flat_map}
 use Rattle.std.proofs.lemmas.Bool.{eqb-true}
@@ -24,18 +24,11 @@ use Rattle.script_names.specs.declared.scope.Slot.{Slot}
 use Rattle.script_names.specs.Scope.{Variable, actor_rows, field_rows, message_number, message_of, message_rows, variables_of}
 use Rattle.script_reader.specs.declared.fault.ScriptCause.TheVariants.{WrongCount}
 use Rattle.script_faults.specs.First.{fault_if, too_many}
-use Rattle.script_faults.specs.Faults.{Comparing, actor_faults, atom_comparisons, body_faults, comparison_faults, comparisons, count_faults, faults_of, guard_comparisons, guard_faults, item_faults, item_place, leaf_faults, message_faults, operand_faults, operand_place, own_place, pattern_faults, patterns_faults, rule_faults, statement_faults, statement_place, stop_faults, term_faults, twice_declared}
-use Rattle.script_plan.specs.Small.{IsSmallTerm, IsSmallOperand, IsSmallAtom, AreSmallAtoms, IsSmallItem, IsSmallStatement, IsSmallPattern, IsSmallRule, IsSmallActor, IsSmall}
+use Rattle.script_faults.specs.Faults.{Comparing, actor_faults, atom_comparisons, body_faults, comparison_faults, comparisons, count_faults, faults_of, guard_comparisons, guard_faults, item_faults, item_place, leaf_faults, message_faults, operand_faults, operand_place, own_place, pattern_faults, patterns_faults, reply_faults, rule_faults, statement_faults, statement_place, stop_faults, term_faults, twice_declared, window_faults}
+use Rattle.script_check.proofs.NumberLemmas.{left_none, right_none, NumberFits, numbers_fit, window_fits}
+use Rattle.script_plan.specs.Small.{IsSmallTerm, IsSmallOperand, IsSmallAtom, AreSmallAtoms, IsSmallItem, IsSmallStatement, IsSmallPattern, IsSmallWindow, IsSmallRule, IsSmallActor, IsSmall}
 
--- ---- where a list of faults is empty, so are its parts
-
-pub left_none : {X : Type 0} (xs ys : List X) → xs ++ ys ≡ [] → xs ≡ []
-left_none [] ys is = refl
-left_none (x ∷ xs) ys is = absurd cc
-
-pub right_none : {X : Type 0} (xs ys : List X) → xs ++ ys ≡ [] → ys ≡ []
-right_none [] ys is = is
-right_none (x ∷ xs) ys is = absurd cc
+-- ---- where a list of faults is empty, so is what each item gives
 
 pub each_none : {X Y : Type 0} (f : X → List Y) (xs : List X) → flat_map f xs ≡ [] → AllByRecursion (λ (x : X). f x ≡ []) xs
 each_none f [] is = tt
@@ -113,15 +106,25 @@ small_item variables (i.Fixed place words) filled none = tt
 small_item variables (i.Named spelt) filled none = tt
 small_item variables (i.Sum place leaves) filled none = small_term variables false leaves filled none
 
-module _ (messages : List MessageDecl) (actors : List (List ℕ × ℕ)) (variables : List Variable) where
-  small_statement : (x : StatementDecl) → StatementFilled x → statement_faults messages actors variables x ≡ [] → IsSmallStatement x
-  small_statement (s.Print place items) filled none =
+module _ (messages : List MessageDecl) (actors : List (List ℕ × ℕ)) (variables : List Variable) (patterns : ℕ) (few_patterns : patterns ≤ 8) where
+  small_statement : (x : StatementDecl) → StatementFilled x → statement_faults messages actors variables x ≡ [] → NumberFits patterns x → IsSmallStatement x
+  small_statement (s.Print place items) filled none fits =
       each_both ItemFilled (λ (x : ItemDecl). item_faults variables x ≡ []) IsSmallItem (small_item variables) items filled.1
       (each_none (item_faults variables) items (right_none (too_many 16 item_place items) (flat_map (item_faults variables) items) none))
-  small_statement (s.Post place target kind operands) filled none =
+  small_statement (s.Post place target kind operands) filled none fits =
       each_both OperandFilled (λ (x : OperandDecl). operand_faults variables x ≡ []) IsSmallOperand (small_operand variables) operands filled
       (each_none (operand_faults variables) operands (right_none _ (flat_map (operand_faults variables) operands) none))
-  small_statement (s.Stop place) filled none = tt
+  small_statement (s.Stop place) filled none fits = tt
+  small_statement (s.Reply place number_place number operand) filled none fits = (omega (arith, fits.1, few_patterns), small_operand variables operand filled none)
+
+  small_body : (body : List StatementDecl) → AllByRecursion StatementFilled body → AllByRecursion (λ (x : StatementDecl). statement_faults messages actors variables x ≡ []) body
+      → AllByRecursion (NumberFits patterns) body → AllByRecursion IsSmallStatement body
+  small_body [] filled none fits = tt
+  small_body (x ∷ body) filled none fits = (small_statement x filled.0 none.0 fits.0, small_body body filled.1 none.1 fits.1)
+
+small_window : (window : Option (ℕ × ℤ)) → window_faults window ≡ [] → IsSmallWindow window
+small_window None none = tt
+small_window (Some number) none = (window_fits number none).1
 
 -- ---- patterns
 
@@ -168,17 +171,25 @@ module _ (messages : List MessageDecl) (actors : List (List ℕ × ℕ)) (each :
       let cs = guard_comparisons rule.guard in
       let guard = guard_faults variables cs in
       let body = body_faults messages actors variables rule.body in
-      let first = left_none (patterns ++ twice) guard (left_none (patterns ++ twice ++ guard) body none) in
+      let window = window_faults rule.window in
+      let replies = reply_faults (length rule.patterns) [] rule.body in
+      let parts = left_none (patterns ++ twice ++ guard ++ body ++ window) replies none in
+      let no_reply = right_none (patterns ++ twice ++ guard ++ body ++ window) replies none in
+      let four = left_none (patterns ++ twice ++ guard ++ body) window parts in
+      let first = left_none (patterns ++ twice) guard (left_none (patterns ++ twice ++ guard) body four) in
       let no_pattern = left_none patterns twice first in
-      let no_guard = right_none (patterns ++ twice) guard (left_none (patterns ++ twice ++ guard) body none) in
-      let no_body = right_none (patterns ++ twice ++ guard) body none in
+      let no_guard = right_none (patterns ++ twice) guard (left_none (patterns ++ twice ++ guard) body four) in
+      let no_body = right_none (patterns ++ twice ++ guard) body four in
+      let few_patterns = few 8 pattern_place rule.patterns (left_none (too_many 8 pattern_place rule.patterns) (flat_map (pattern_faults messages) rule.patterns) no_pattern) in
       record {
-        few = few 8 pattern_place rule.patterns (left_none (too_many 8 pattern_place rule.patterns) (flat_map (pattern_faults messages) rule.patterns) no_pattern);
+        few = few_patterns;
         patterns = each_one (λ (p : PatternDecl). pattern_faults messages p ≡ []) IsSmallPattern (small_pattern messages each) rule.patterns
             (each_none (pattern_faults messages) rule.patterns (right_none (too_many 8 pattern_place rule.patterns) (flat_map (pattern_faults messages) rule.patterns) no_pattern));
+        window = small_window rule.window (right_none (patterns ++ twice ++ guard ++ body) window parts);
         guard = small_guard variables rule.guard filled.guard (each_none (comparison_faults variables) cs (right_none (too_many 64 (λ (c : Comparing). operand_place c.left) cs) (flat_map (comparison_faults variables) cs) no_guard));
-        body = each_both StatementFilled (λ (x : StatementDecl). statement_faults messages actors variables x ≡ []) IsSmallStatement (small_statement messages actors variables) rule.body filled.body
-            (each_none (statement_faults messages actors variables) rule.body (right_none (too_many 16 statement_place rule.body ++ stop_faults rule.body) (flat_map (statement_faults messages actors variables) rule.body) no_body));
+        body = small_body messages actors variables (length rule.patterns) few_patterns rule.body filled.body
+            (each_none (statement_faults messages actors variables) rule.body (right_none (too_many 16 statement_place rule.body ++ stop_faults rule.body) (flat_map (statement_faults messages actors variables) rule.body) no_body))
+            (numbers_fit (length rule.patterns) [] rule.body no_reply);
       }
 
   small_actor : (actor : ActorDecl) → ActorFilled actor → actor_faults messages actors actor ≡ [] → IsSmallActor actor

@@ -34,7 +34,8 @@ use Rattle.script_faults.specs.First.{fault_if, too_many}
 use Rattle.script_faults.specs.Faults.{Comparing, atom_comparisons, comparison_faults, comparisons, guard_comparisons, is_order, is_same, is_words, item_faults, leaf_faults, name_faults, operand_faults, operand_place, part_faults, term_faults}
 use Rattle.script_plan.specs.PlanOf.{atom_of, by_sort, condition_of, leaf_of, operand_of, part_of, pattern_of, place_of, print_item, slot_place, sum_operand, term_of}
 use Rattle.script_types.specs.Typed.{HasType, IsTypedComparison, IsTypedCondition, IsTypedItem, IsTypedLeaf, IsTypedOperand, IsTypedTerm, MayCompare, type_of}
-use Rattle.script_check.proofs.SmallLemmas.{each_left, each_right, few, left_none, right_none}
+use Rattle.script_check.proofs.NumberLemmas.{left_none, right_none}
+use Rattle.script_check.proofs.SmallLemmas.{each_left, each_right, few}
 use Rattle.script_check.proofs.VariableLemmas.{IsField, slot_of_name, sorts_by, typed_slot}
 
 -- ---- what no fault of type says of types

@@ -1,3 +1,4 @@
 pub mod FirstLemmas
 pub mod GuardLemmas
+pub mod ReplyLemmas
 pub mod RuleLemmas

@@ -1,13 +1,13 @@
 -- The faults of a tree: the places where it breaks a rule of names and types, and which.
-use Rattle.std.specs.Prelude.{ℕ, ◌+◌, ◌-◌, take, slice_get, Bool, true, false, not, ◌&&◌, ◌==◌, List, [], ◌∷◌, ◌++◌, length, Option, None, Some}
-use Rattle.std.specs.List.{flat_map}
+use Rattle.std.specs.Prelude.{ℕ, ℤ, ◌+◌, ◌-◌, nat_le, unsigned_abs, take, slice_get, Bool, true, false, not, ◌&&◌, ◌==◌, List, [], ◌∷◌, ◌++◌, length, Option, None, Some}
+use Rattle.std.specs.List.{flat_map, list_any}
 use Rattle.std.specs.Option.{is_none, option_map}
 use Rattle.std.proofs.Common.{Bor}
 use Rattle.join_base.specs.declared.message.Sort.{Sort}
 use Rattle.join_base.specs.declared.message.Sort.TheVariants as sort
 use Rattle.join_base.specs.declared.message.Relation.{Relation}
 use Rattle.join_base.specs.declared.message.Relation.TheVariants as relation
-use Rattle.script_reader.specs.declared.fault.ScriptCause.TheVariants.{TwiceDeclared, UnknownMessage, UnknownActor, UnknownName, WrongCount, WrongType, StopNotLast}
+use Rattle.script_reader.specs.declared.fault.ScriptCause.TheVariants.{TwiceDeclared, UnknownMessage, UnknownActor, UnknownName, WrongCount, WrongType, StopNotLast, BadWindow, BadReply}
 use Rattle.script_grammar.specs.Atoms.{Atom, Atoms, compares, negated, grouped, no_atoms, either}
 use Rattle.script_grammar.specs.declared.tree.Spelt.{Spelt}
 use Rattle.script_grammar.specs.declared.tree.FieldDecl.{FieldDecl}
@@ -46,6 +46,7 @@ abbrev pub statement_place : StatementDecl → ℕ
 statement_place (statement.Print place items) = place
 statement_place (statement.Post place target kind operands) = place
 statement_place (statement.Stop place) = place
+statement_place (statement.Reply place number_place number operand) = place
 
 -- ---- declarations
 
@@ -168,6 +169,16 @@ guard_comparisons guard = flat_map comparisons guard
 abbrev pub guard_faults : List Variable → List Comparing → List Fault
 guard_faults variables cs = too_many 64 (λ (c : Comparing). operand_place c.left) cs ++ flat_map (comparison_faults variables) cs
 
+-- ---- windows
+
+-- a number of the text has no sign
+abbrev pub is_window : ℕ → Bool
+is_window number = nat_le 1 number && nat_le number 1000000
+
+abbrev pub window_faults : Option (ℕ × ℤ) → List Fault
+window_faults None = []
+window_faults (Some window) = fault_if (not (is_window (unsigned_abs window.1))) BadWindow window.0
+
 -- ---- bodies
 
 abbrev pub item_faults : List Variable → ItemDecl → List Fault
@@ -198,15 +209,39 @@ module _ (messages : List MessageDecl) (actors : List (List ℕ × ℕ)) where
   statement_faults variables (statement.Print place items) = print_faults variables items
   statement_faults variables (statement.Post place target kind operands) = post_faults variables target kind operands
   statement_faults variables (statement.Stop place) = []
+  statement_faults variables (statement.Reply place number_place number operand) = operand_faults variables operand
 
 abbrev pub stop_fault : StatementDecl → List Fault
 stop_fault (statement.Print place items) = []
 stop_fault (statement.Post place target kind operands) = []
 stop_fault (statement.Stop place) = fault StopNotLast place ∷ []
+stop_fault (statement.Reply place number_place number operand) = []
 
 -- each `stop` among the statements before the last
 abbrev pub stop_faults : List StatementDecl → List Fault
 stop_faults body = flat_map stop_fault (take (length body - 1) body)
+
+-- a reply may name the number, from 1, of one of so many patterns, where no earlier reply named it
+abbrev pub may_reply : ℕ → List ℕ → ℕ → Bool
+may_reply patterns earlier number = nat_le 1 number && (nat_le number patterns && not (list_any (λ other. number == other) earlier))
+
+abbrev pub reply_fault : ℕ → List ℕ → StatementDecl → List Fault
+reply_fault patterns earlier (statement.Print place items) = []
+reply_fault patterns earlier (statement.Post place target kind operands) = []
+reply_fault patterns earlier (statement.Stop place) = []
+reply_fault patterns earlier (statement.Reply place number_place number operand) = fault_if (not (may_reply patterns earlier (unsigned_abs number))) BadReply number_place
+
+-- the numbers that replies named, with that of this statement
+abbrev pub with_number : List ℕ → StatementDecl → List ℕ
+with_number earlier (statement.Print place items) = earlier
+with_number earlier (statement.Post place target kind operands) = earlier
+with_number earlier (statement.Stop place) = earlier
+with_number earlier (statement.Reply place number_place number operand) = unsigned_abs number ∷ earlier
+
+-- the replies among the statements that name a wrong number, where earlier ones named these
+abbrev pub reply_faults : ℕ → List ℕ → List StatementDecl → List Fault
+reply_faults patterns earlier [] = []
+reply_faults patterns earlier (x ∷ body) = reply_fault patterns earlier x ++ reply_faults patterns (with_number earlier x) body
 
 module _ (messages : List MessageDecl) (actors : List (List ℕ × ℕ)) where
   abbrev pub body_faults : List Variable → List StatementDecl → List Fault
@@ -219,6 +254,7 @@ module _ (messages : List MessageDecl) (actors : List (List ℕ × ℕ)) where
       let variables = variables_of messages rule in
       patterns_faults messages rule.patterns ++ twice_declared (λ (slot : Slot). slot.place) variables
       ++ guard_faults variables (guard_comparisons rule.guard) ++ body_faults variables rule.body
+      ++ window_faults rule.window ++ reply_faults (length rule.patterns) [] rule.body
 
   abbrev pub actor_faults : ActorDecl → List Fault
   actor_faults actor = too_many 16 (λ (r : RuleDecl). r.place) actor.rules ++ flat_map rule_faults actor.rules

@@ -1,7 +1,7 @@
 -- Which of several faults is reported: the one at the least place, and of those at one place the first cause.
 use Rattle.std.specs.Prelude.{ℕ, Bool, true, false, ◌&&◌, ◌||◌, ◌==◌, nat_lt, if◌then◌else◌, List, [], ◌∷◌, Option, None, Some, slice_get, fold}
 use Rattle.script_reader.specs.declared.fault.ScriptCause.{ScriptCause}
-use Rattle.script_reader.specs.declared.fault.ScriptCause.TheVariants.{NotText, BadToken, BadSyntax, TooMany, TwiceDeclared, UnknownMessage, UnknownActor, UnknownName, WrongCount, WrongType, StopNotLast}
+use Rattle.script_reader.specs.declared.fault.ScriptCause.TheVariants.{NotText, BadToken, BadSyntax, TooMany, TwiceDeclared, UnknownMessage, UnknownActor, UnknownName, WrongCount, WrongType, StopNotLast, BadWindow, BadReply}
 use Rattle.script_faults.specs.declared.first.Fault.{Fault}
 
 -- causes at one place in the order in which they count; those of reading never stand beside them
@@ -14,9 +14,11 @@ rank UnknownName = 4
 rank WrongCount = 5
 rank WrongType = 6
 rank StopNotLast = 7
-rank NotText = 8
-rank BadToken = 9
-rank BadSyntax = 10
+rank BadWindow = 8
+rank BadReply = 9
+rank NotText = 10
+rank BadToken = 11
+rank BadSyntax = 12
 
 abbrev pub is_before : Fault → Fault → Bool
 is_before new first = nat_lt new.place first.place || (new.place == first.place && nat_lt (rank new.cause) (rank first.cause))

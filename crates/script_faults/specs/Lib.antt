@@ -1,3 +1,4 @@
 pub mod First
 pub mod Faults
+pub mod Open
 pub mod Seen

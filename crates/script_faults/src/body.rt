@@ -136,6 +136,7 @@ fn note_statement(found: &mut Option<Fault>, scope: &Scope, statement: &Statemen
             ..
         } => note_post(found, scope, target, kind, operands.as_slice()),
         StatementDecl::Stop { .. } => {}
+        StatementDecl::Reply { operand, .. } => note_operand(found, scope.variables, operand),
     }
 }
 

@@ -25,9 +25,11 @@ fn rank(cause: ScriptCause) -> u32
         ScriptCause::WrongCount => 5,
         ScriptCause::WrongType => 6,
         ScriptCause::StopNotLast => 7,
-        ScriptCause::NotText => 8,
-        ScriptCause::BadToken => 9,
-        ScriptCause::BadSyntax => 10,
+        ScriptCause::BadWindow => 8,
+        ScriptCause::BadReply => 9,
+        ScriptCause::NotText => 10,
+        ScriptCause::BadToken => 11,
+        ScriptCause::BadSyntax => 12,
     }
 }
 

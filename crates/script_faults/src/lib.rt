@@ -6,6 +6,7 @@ mod declared;
 mod first;
 mod guard;
 mod placed;
+mod reply;
 mod rule;
 mod term;
 

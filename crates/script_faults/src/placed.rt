@@ -111,6 +111,7 @@ impl Placed for StatementDecl {
             StatementDecl::Print { place, .. } => *place,
             StatementDecl::Post { place, .. } => *place,
             StatementDecl::Stop { place } => *place,
+            StatementDecl::Reply { place, .. } => *place,
         }
     }
 }

@@ -2,15 +2,17 @@
 ghost use Rattle.std.specs.Prelude.{◌≡◌, IfOk, OnOk};
 ghost use Rattle.std.specs.List.{flat_map};
 ghost use Rattle.script_faults.specs.First.{first_of};
-ghost use Rattle.script_faults.specs.Faults.{actor_faults, first_fault, pattern_faults, patterns_faults, rule_faults};
+ghost use Rattle.script_faults.specs.Faults.{actor_faults, first_fault, pattern_faults, patterns_faults, rule_faults, window_faults};
 
 use crate::body::{Scope, note_body, note_count};
 use crate::declared::{note_messages, note_twice};
-use crate::first::{Fault, note_too_many};
+use crate::first::{Fault, note_if, note_too_many};
 use crate::guard::note_guard;
+use crate::reply::note_replies;
 use join_base::NoMemory;
 use script_grammar::{ActorDecl, PatternDecl, RuleDecl, Tree};
 use script_names::{Messages, NameTable, actor_names, variables_of};
+use script_reader::ScriptCause;
 use std::alloc::Global;
 
 fn note_pattern(found: &mut Option<Fault>, messages: &Messages, pattern: &PatternDecl)
@@ -26,6 +28,17 @@ fn note_patterns(found: &mut Option<Fault>, messages: &Messages, patterns: &[Pat
     note_too_many(found, 8, patterns);
     for pattern in patterns {
         note_pattern(found, messages, pattern);
+    }
+}
+
+// Notes a window of 0 or of more than 1,000,000.
+fn note_window(found: &mut Option<Fault>, window: Option<(u64, i64)>)
+    ensures { found.new ≡ first_of found.old (window_faults window) }
+{
+    if let Some((place, number)) = window {
+        let number = number.unsigned_abs();
+        let is_wrong = number < 1 || number > 1_000_000;
+        note_if(found, is_wrong, ScriptCause::BadWindow, place);
     }
 }
 
@@ -49,6 +62,8 @@ fn note_rule<'a>(
         variables: &variables,
     };
     note_body(found, &scope, rule.body.as_slice());
+    note_window(found, rule.window);
+    note_replies(alloc, found, rule.patterns.len(), rule.body.as_slice())?;
     Ok(())
 }
 

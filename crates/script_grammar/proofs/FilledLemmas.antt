@@ -89,11 +89,12 @@ statement_filled (s.Print place items) ts h =
 statement_filled (s.Post place target kind operands) ts h =
     let list = h.other.other.other.other in listed_all (mark m.Comma) operand OperandFilled operand_filled operands list.front list.one
 statement_filled (s.Stop place) ts h = tt
+statement_filled (s.Reply place number_place pattern value) ts h = let rest = h.other.other in operand_filled value rest.front rest.one
 
 rule_filled : (rule : RuleDecl) (ts : Tokens) → definition rule ts → RuleFilled rule
 rule_filled rule ts h =
     let patterns = h.other in
-    let conjuncts = patterns.other in
+    let conjuncts = patterns.other.other in
     let statements = conjuncts.other.other in
     record {
       patterns = separated_some pattern (mark m.With) rule.patterns patterns.front patterns.one;

@@ -39,6 +39,7 @@ abbrev pub StatementFilled : StatementDecl → Type 0
 StatementFilled (s.Print place items) = (1 ≤ length items) × AllByRecursion ItemFilled items
 StatementFilled (s.Post place target kind operands) = AllByRecursion OperandFilled operands
 StatementFilled (s.Stop place) = Unit {0}
+StatementFilled (s.Reply place number_place pattern operand) = OperandFilled operand
 
 -- a definition has a pattern
 pub record RuleFilled (rule : RuleDecl) : Type 0 where

@@ -40,11 +40,13 @@ pub struct ActorDecl {
     pub rules: Items<RuleDecl>,
 }
 
-/// A definition, with the place of its `when`. Without a guard it has no conjunct.
+/// A definition, with the place of its `when`. Its window is the number behind `within`, with its place. Without a guard it
+/// has no conjunct.
 #[derive(Drop)]
 pub struct RuleDecl {
     pub place: u64,
     pub patterns: Items<PatternDecl>,
+    pub window: Option<(u64, i64)>,
     pub guard: ConjunctDeclList,
     pub body: Items<StatementDecl>,
 }
@@ -113,6 +115,13 @@ pub enum StatementDecl {
     },
     Stop {
         place: u64,
+    },
+    /// The pattern is the number of the text, which counts from 1, with its place.
+    Reply {
+        place: u64,
+        number_place: u64,
+        pattern: i64,
+        operand: OperandDecl,
     },
 }
 

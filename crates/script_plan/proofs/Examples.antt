@@ -1,6 +1,7 @@
 -- A script and its plan, computed by the definitions.
 use Rattle.std.proofs.Common.{◌≡◌, refl, ℕ, List, [], ◌∷◌, Some, Option, Bool, true, false, pos, arith}
 use Rattle.std.specs.Prelude.{codes}
+use Rattle.std.specs.List.{IsDistinct}
 use Rattle.join_base.specs.declared.message.Relation.TheVariants.{Equal, LessEqual}
 use Rattle.join_base.specs.declared.message.Sort.{Sort}
 use Rattle.join_base.specs.declared.message.Sort.TheVariants.{Int, Words}
@@ -62,15 +63,17 @@ guard =
     ∷ either (negated (grouped (either (compares (sum (named false (codes "t") ∷ [])) Equal (o.Fixed 0 (codes "k"))) no_atoms))) no_atoms
     ∷ []
 
--- when b(y) & a(x, t) if .. { print "k" t x; post n a(-y, t); stop; }
+-- when b(y) & a(x, t) within 5 if .. { print "k" t x; post n a(-y, t); reply 2 t; stop; }
 abbrev rule : RuleDecl
 rule = record {
   place = 0;
   patterns = pattern (codes "b") (Some (codes "y") ∷ []) ∷ pattern (codes "a") (Some (codes "x") ∷ Some (codes "t") ∷ []) ∷ [];
+  window = Some (0, pos 5);
   guard = guard;
   body =
       s.Print 0 (i.Fixed 0 (codes "k") ∷ i.Named (spelt (codes "t")) ∷ i.Named (spelt (codes "x")) ∷ [])
       ∷ s.Post 0 (spelt (codes "n")) (spelt (codes "a")) (sum (named true (codes "y") ∷ []) ∷ sum (named false (codes "t") ∷ []) ∷ [])
+      ∷ s.Reply 0 0 (pos 2) (sum (named false (codes "t") ∷ []))
       ∷ s.Stop 0
       ∷ [];
 }
@@ -89,11 +92,12 @@ conditions =
 
 abbrev planned : Rule
 planned = record {
-  definition = record { patterns = 1 ∷ 0 ∷ []; conjuncts = conditions };
+  definition = record { patterns = 1 ∷ 0 ∷ []; conjuncts = conditions; window = Some 5 };
   variables = (Some (codes "y") ∷ []) ∷ (Some (codes "x") ∷ Some (codes "t") ∷ []) ∷ [];
   body =
       statement.Print (item.Words (words.Fixed (codes "k")) ∷ item.Words (words.Field (record { pattern = 1; field = 1 })) ∷ item.Plain (record { pattern = 1; field = 0 }) ∷ [])
       ∷ statement.Post 1 0 (operand.Sum (leaf_at true 0 0 ∷ []) ∷ operand.Words (words.Field (record { pattern = 1; field = 1 })) ∷ [])
+      ∷ statement.Reply 1 (operand.Words (words.Field (record { pattern = 1; field = 1 })))
       ∷ statement.Stop
       ∷ [];
 }
@@ -117,17 +121,20 @@ one_leaf : (leaf : Signed) → IsTypedLeaf (kind_types expected.kinds) (1 ∷ 0 
 one_leaf leaf typed = record { some = omega arith; few = omega arith; each = (typed, tt) }
 
 typed_rule : IsTypedRule 2 (kind_types expected.kinds) planned
+unfolding IsDistinct
 typed_rule = record {
   some_patterns = omega arith;
   few_patterns = omega arith;
   variables = (refl, (refl, tt));
+  window = (omega arith, omega arith);
   guard = (
     (record { left_typed = record { some = omega arith; few = omega arith; each = (refl, (refl, tt)) }; right_typed = one_leaf (record { minus = false; leaf = leaf.Number (pos 5) }) tt; one_type = refl; may_compare = tt }, tt),
     (((record { left_typed = refl; right_typed = tt; one_type = refl; may_compare = tt }, tt), tt), tt),
   );
   few_statements = omega arith;
-  body = (record { some = omega arith; few = omega arith; each = (tt, (refl, (refl, tt))) }, (record { to_actor = omega arith; of_kind = refl; each = (one_leaf (leaf_at true 0 0) refl, (refl, tt)) }, (tt, tt)));
-  stop_last = (tt, (tt, tt));
+  body = (record { some = omega arith; few = omega arith; each = (tt, (refl, (refl, tt))) }, (record { to_actor = omega arith; of_kind = refl; each = (one_leaf (leaf_at true 0 0) refl, (refl, tt)) }, ((omega arith, refl), (tt, tt))));
+  stop_last = (tt, (tt, (tt, tt)));
+  reply_once = (tt, tt);
 }
 
 typed : IsTyped expected

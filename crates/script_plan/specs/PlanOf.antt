@@ -1,6 +1,7 @@
 -- The plan that a script says: each name is replaced by the number of its declaration, and each variable by its place.
 -- A name without a declaration stands for 0: a tree where that happens has a fault, and its plan is not looked at.
-use Rattle.std.specs.Prelude.{ℕ, List, Option, None, Some, map}
+use Rattle.std.specs.Prelude.{ℕ, ℤ, ◌-◌, unsigned_abs, List, Option, None, Some, map}
+use Rattle.std.specs.Option.{option_map}
 use Rattle.join_base.specs.declared.message.Sort.{Sort}
 use Rattle.join_base.specs.declared.message.Sort.TheVariants as sort
 use Rattle.guard_eval.specs.Condition.{Condition, Never, Compares, Negated, Grouped, Either}
@@ -107,10 +108,15 @@ print_item variables (i.Fixed place text) = item.Words (words.Fixed text)
 print_item variables (i.Named spelt) = by_sort (sort_of variables spelt.name) (item.Plain (place_of variables spelt.name)) (item.Words (words.Field (place_of variables spelt.name)))
 print_item variables (i.Sum place leaves) = item.Sum (term_of variables leaves)
 
+-- the number of a pattern, which counts from 1 in the text and from 0 in the plan
+abbrev pub pattern_number : ℤ → ℕ
+pattern_number number = unsigned_abs number - 1
+
 abbrev pub statement_of : Tree → List Variable → StatementDecl → Statement
 statement_of tree variables (s.Print place items) = statement.Print (map (print_item variables) items)
 statement_of tree variables (s.Post place target kind operands) = statement.Post (target_number tree target.name) (kind_number tree kind.name) (map (operand_of variables) operands)
 statement_of tree variables (s.Stop place) = statement.Stop
+statement_of tree variables (s.Reply place number_place number value) = statement.Reply (pattern_number number) (operand_of variables value)
 
 -- ---- definitions, actors and messages
 
@@ -122,10 +128,14 @@ pattern_of tree pattern = kind_number tree pattern.kind.name
 abbrev pub names_in : PatternDecl → List (Option (List ℕ))
 names_in pattern = map (λ (variable : ℕ × Option (List ℕ)). variable.1) pattern.variables
 
+abbrev pub window_of : Option (ℕ × ℤ) → Option ℕ
+window_of window = option_map (λ (number : ℕ × ℤ). unsigned_abs number.1) window
+
 abbrev pub definition_of : Tree → List Variable → RuleDecl → Definition
 definition_of tree variables rule = record {
   patterns = map (pattern_of tree) rule.patterns;
   conjuncts = map (condition_of variables) rule.guard;
+  window = window_of rule.window;
 }
 
 -- the rule of a definition that has these variables

@@ -1,5 +1,5 @@
 -- The sizes within which a script has a plan: its numbers fit, and its terms can be made.
-use Rattle.std.specs.Prelude.{◌<◌, ◌≤◌, List, length}
+use Rattle.std.specs.Prelude.{◌<◌, ◌≤◌, ℕ, ℤ, unsigned_abs, List, length, Option, None, Some}
 use Rattle.std.specs.List.{AllByRecursion}
 use Rattle.script_grammar.specs.Atoms.{Atom, Atoms, compares, negated, grouped, no_atoms, either}
 use Rattle.script_grammar.specs.declared.tree.PatternDecl.{PatternDecl}
@@ -42,13 +42,19 @@ abbrev pub IsSmallStatement : StatementDecl → Type 0
 IsSmallStatement (s.Print place items) = AllByRecursion IsSmallItem items
 IsSmallStatement (s.Post place target kind operands) = AllByRecursion IsSmallOperand operands
 IsSmallStatement (s.Stop place) = Unit
+IsSmallStatement (s.Reply place number_place number operand) = (unsigned_abs number ≤ 8) × IsSmallOperand operand
 
 abbrev pub IsSmallPattern : PatternDecl → Type 0
 IsSmallPattern pattern = length pattern.variables ≤ 8
 
+abbrev pub IsSmallWindow : Option (ℕ × ℤ) → Type 0
+IsSmallWindow None = Unit
+IsSmallWindow (Some window) = unsigned_abs window.1 ≤ 1000000
+
 pub record IsSmallRule (rule : RuleDecl) : Type 0 where
   pub few : length rule.patterns ≤ 8
   pub patterns : AllByRecursion IsSmallPattern rule.patterns
+  pub window : IsSmallWindow rule.window
   pub guard : AllByRecursion AreSmallAtoms rule.guard
   pub body : AllByRecursion IsSmallStatement rule.body
 

@@ -1,7 +1,7 @@
 //! The statements of a body.
-ghost use Rattle.std.specs.Prelude.{◌≡◌, IfOk, map};
+ghost use Rattle.std.specs.Prelude.{◌≡◌, ◌≤◌, IfOk, map, unsigned_abs};
 ghost use Rattle.std.specs.List.{AllByRecursion};
-ghost use Rattle.script_plan.specs.PlanOf.{operand_of, print_item, statement_of};
+ghost use Rattle.script_plan.specs.PlanOf.{operand_of, pattern_number, print_item, statement_of};
 ghost use Rattle.script_plan.specs.Small.{IsSmallItem, IsSmallOperand, IsSmallStatement};
 
 use crate::names::{Script, Variables};
@@ -64,6 +64,14 @@ fn operands_of(
     Ok(operands)
 }
 
+// Patterns count from 1 in the text.
+fn pattern_number(number: i64) -> u32
+    requires small { unsigned_abs number ≤ 8 }
+    ensures { result ≡ pattern_number number }
+{
+    number.unsigned_abs().saturating_sub(1) as u32
+}
+
 fn statement_of(
     alloc: Global,
     script: &Script,
@@ -92,6 +100,17 @@ fn statement_of(
             })
         }
         StatementDecl::Stop { .. } => Ok(Statement::Stop),
+        StatementDecl::Reply {
+            pattern,
+            operand,
+            ..
+        } => {
+            let operand = operand_of(alloc, variables, operand)?;
+            Ok(Statement::Reply {
+                pattern: pattern_number(*pattern),
+                operand,
+            })
+        }
     }
 }
 

@@ -1,8 +1,8 @@
 //! The plan of a script, from its messages and its actors.
 ghost use Rattle.std.specs.Prelude.{◌≡◌, IfOk, map};
 ghost use Rattle.std.specs.List.{AllByRecursion};
-ghost use Rattle.script_plan.specs.PlanOf.{actor_of, definition_of, field_of, kind_of, names_in, pattern_of, plan_of, rule_of, rule_with};
-ghost use Rattle.script_plan.specs.Small.{IsSmall, IsSmallActor, IsSmallRule};
+ghost use Rattle.script_plan.specs.PlanOf.{actor_of, definition_of, field_of, kind_of, names_in, pattern_of, plan_of, rule_of, rule_with, window_of};
+ghost use Rattle.script_plan.specs.Small.{IsSmall, IsSmallActor, IsSmallRule, IsSmallWindow};
 
 use crate::body::body_of;
 use crate::guard::conjuncts_of;
@@ -93,6 +93,16 @@ fn all_names(
     Ok(all)
 }
 
+fn window_of(window: Option<(u64, i64)>) -> Option<u32>
+    requires { IsSmallWindow window }
+    ensures { result ≡ window_of window }
+{
+    match window {
+        None => None,
+        Some((_, number)) => Some(number.unsigned_abs() as u32),
+    }
+}
+
 fn definition_of(
     alloc: Global,
     script: &Script,
@@ -105,6 +115,7 @@ fn definition_of(
     Ok(Definition {
         patterns: patterns_of(alloc, script, rule.patterns.as_slice())?,
         conjuncts: conjuncts_of(alloc, variables, &rule.guard)?,
+        window: window_of(rule.window),
     })
 }
 

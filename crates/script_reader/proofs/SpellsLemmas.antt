@@ -11,7 +11,7 @@ use Rattle.script_grammar.specs.Filled.{IsFilled, ScriptsAreFilled}
 use Rattle.script_grammar.specs.Refusal.{Refuses}
 use Rattle.script_grammar.specs.Refusal as refusal
 use Rattle.script_reader.specs.declared.fault.ScriptCause.{ScriptCause}
-use Rattle.script_reader.specs.declared.fault.ScriptCause.TheVariants.{NotText, BadToken, BadSyntax, TooMany, TwiceDeclared, UnknownMessage, UnknownActor, UnknownName, WrongCount, WrongType, StopNotLast}
+use Rattle.script_reader.specs.declared.fault.ScriptCause.TheVariants.{NotText, BadToken, BadSyntax, TooMany, TwiceDeclared, UnknownMessage, UnknownActor, UnknownName, WrongCount, WrongType, StopNotLast, BadWindow, BadReply}
 use Rattle.script_reader.specs.declared.fault.ScriptFault.{ScriptFault}
 use Rattle.script_reader.specs.declared.fault.ScriptFault.TheVariants.{Bad}
 use Rattle.script_reader.specs.Spells.{Spells, IsNoText, IsRefused, IsFault, FaultIs, Reads, place_of, cause_of, OneTree, NoBoth, OneFault}
@@ -29,6 +29,8 @@ fault_sort bytes place UnknownName h = absurd h
 fault_sort bytes place WrongCount h = absurd h
 fault_sort bytes place WrongType h = absurd h
 fault_sort bytes place StopNotLast h = absurd h
+fault_sort bytes place BadWindow h = absurd h
+fault_sort bytes place BadReply h = absurd h
 
 module _ (one_list : tokens_of.OneList) (one_script : refusal.OneTree) (one_refusal : refusal.OneRefusal) where
   pub one_tree : OneTree

@@ -7,7 +7,7 @@ use Rattle.script_grammar.specs.declared.tree.Tree.{Tree}
 use Rattle.script_grammar.specs.Grammar.{IsScript}
 use Rattle.script_grammar.specs.Refusal.{Refuses}
 use Rattle.script_reader.specs.declared.fault.ScriptCause.{ScriptCause}
-use Rattle.script_reader.specs.declared.fault.ScriptCause.TheVariants.{NotText, BadToken, BadSyntax, TooMany, TwiceDeclared, UnknownMessage, UnknownActor, UnknownName, WrongCount, WrongType, StopNotLast}
+use Rattle.script_reader.specs.declared.fault.ScriptCause.TheVariants.{NotText, BadToken, BadSyntax, TooMany, TwiceDeclared, UnknownMessage, UnknownActor, UnknownName, WrongCount, WrongType, StopNotLast, BadWindow, BadReply}
 use Rattle.script_reader.specs.declared.fault.ScriptFault.{ScriptFault}
 use Rattle.script_reader.specs.declared.fault.ScriptFault.TheVariants.{Bad, NoMemory}
 
@@ -55,6 +55,8 @@ IsFault bytes place UnknownName = ⊥
 IsFault bytes place WrongCount = ⊥
 IsFault bytes place WrongType = ⊥
 IsFault bytes place StopNotLast = ⊥
+IsFault bytes place BadWindow = ⊥
+IsFault bytes place BadReply = ⊥
 
 abbrev pub FaultIs : List ℕ → ScriptFault → Type 0
 FaultIs bytes (Bad place cause) = IsFault bytes place cause

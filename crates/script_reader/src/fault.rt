@@ -26,6 +26,10 @@ pub enum ScriptCause {
     WrongType,
     /// A `stop` is not the last statement of its body.
     StopNotLast,
+    /// The number of a window is 0 or greater than 1,000,000.
+    BadWindow,
+    /// No pattern has the number of a reply, or an earlier reply of the body names the same pattern.
+    BadReply,
 }
 
 /// Where a script is refused.

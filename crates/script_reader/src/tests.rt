@@ -68,7 +68,7 @@ fn whole_texts_are_refused(rt: HostRuntime) {
 
 #[test]
 fn definitions_are_refused(rt: HostRuntime) {
-    let cases: [(&[u8], u64, ScriptCause); 31] = [
+    let cases: [(&[u8], u64, ScriptCause); 44] = [
         (b"when a(x) if x = 1 { } }", 43, ScriptCause::BadToken),
         (b"when a(x) & { } }", 40, ScriptCause::BadSyntax),
         (b"when a(x) && a(y) { } }", 38, ScriptCause::BadSyntax),
@@ -116,8 +116,33 @@ fn definitions_are_refused(rt: HostRuntime) {
         (b"when a(x) { post a(x); } }", 46, ScriptCause::BadSyntax),
         (b"when a(x) { stop } }", 45, ScriptCause::BadSyntax),
         (b"when a(x) { within; } }", 40, ScriptCause::BadSyntax),
-        (b"when a(x) within 3 { } }", 38, ScriptCause::BadSyntax),
-        (b"when a(x) { reply; } }", 40, ScriptCause::BadSyntax),
+        (b"when a(x) within { } }", 45, ScriptCause::BadSyntax),
+        (b"when a(x) within x { } }", 45, ScriptCause::BadSyntax),
+        (b"when a(x) within -1 { } }", 45, ScriptCause::BadSyntax),
+        (b"when a(x) within 1 2 { } }", 47, ScriptCause::BadSyntax),
+        (
+            b"when a(x) within 3 within 3 { } }",
+            47,
+            ScriptCause::BadSyntax,
+        ),
+        (
+            b"when a(x) if x == 1 within 3 { } }",
+            48,
+            ScriptCause::BadSyntax,
+        ),
+        (b"when within 3 { } }", 33, ScriptCause::BadSyntax),
+        (
+            b"when a(x) within 9223372036854775808 { } }",
+            45,
+            ScriptCause::BadToken,
+        ),
+        (b"when a(x) { reply; } }", 45, ScriptCause::BadSyntax),
+        (b"when a(x) { reply x; } }", 46, ScriptCause::BadSyntax),
+        (b"when a(x) { reply -1 x; } }", 46, ScriptCause::BadSyntax),
+        (b"when a(x) { reply 1; } }", 47, ScriptCause::BadSyntax),
+        (b"when a(x) { reply 1 (x); } }", 48, ScriptCause::BadSyntax),
+        (b"when a(x) { reply 1 x y; } }", 50, ScriptCause::BadSyntax),
+        (b"when a(x) { reply 1 x } }", 50, ScriptCause::BadSyntax),
         (b"when a(x) { }", 41, ScriptCause::BadSyntax),
         (b"} extra", 30, ScriptCause::BadSyntax),
     ];
@@ -261,7 +286,7 @@ fn texts_that_are_read(rt: HostRuntime) {
     for bytes in whole {
         assert_eq!(rt; fault_of(rt.alloc(), bytes), None);
     }
-    let rests: [&[u8]; 10] = [
+    let rests: [&[u8]; 13] = [
         b"when b(x) { } }",
         b"when a(x, y) { } }",
         b"when a(x) if y == 1 { } }",
@@ -272,6 +297,9 @@ fn texts_that_are_read(rt: HostRuntime) {
         b"when a(x) if x==9223372036854775807&&x<=007 { } }",
         b"when a(x)if x<-1||!x>=1+2-x&&((x!=\"\")||!!x>x)&&x<x{print\"a\\\"b\"x(-x+1);post m a(x,-1,\"k\");stop;}}",
         b"when a() { print \"1\"\"2\"; post m a(); } when a(_,_) { } }",
+        b"when a(x) within 0 { } when a(x)within 9223372036854775807{ } }",
+        b"when a(x) & a(y) within 007 if x == y { } }",
+        b"when a(x) { reply 1x; reply 0\"k\";reply 9223372036854775807 -1+x; } }",
     ];
     for rest in rests {
         let bytes = joined(&rt, rt.alloc(), B, b"", 0, rest);
@@ -395,4 +423,38 @@ fn statements_have_their_parts_and_places(rt: HostRuntime) {
         StatementDecl::Stop { place } => assert_eq!(rt; *place, 148),
         _ => assert!(rt; false),
     }
+}
+
+fn check_reply(rt: &impl Abort, statement: &StatementDecl, places: [u64; 3], number: i64) {
+    let StatementDecl::Reply {
+        place,
+        number_place,
+        pattern,
+        operand,
+    } = statement
+    else {
+        return assert!(rt; false);
+    };
+    let operand_place = match operand {
+        OperandDecl::Fixed { place, .. } => *place,
+        OperandDecl::Sum { place, .. } => *place,
+    };
+    assert_eq!(rt; [*place, *number_place, operand_place], places);
+    assert_eq!(rt; *pattern, number);
+}
+
+#[test]
+fn windows_and_replies_have_their_numbers_and_places(rt: HostRuntime) {
+    let rest = b"when a(x) within 03 { reply 1 x + 2; reply 12 \"k\"; } when a(x) { } }";
+    let bytes = joined(&rt, rt.alloc(), B, b"", 0, rest);
+    let tree = tree_of(&rt, rt.alloc(), bytes.bytes());
+    assert_eq!(rt; tree.actors.len(), 1);
+    let rules = &tree.actors.at(0).rules;
+    assert_eq!(rt; rules.len(), 2);
+    assert_eq!(rt; rules.at(0).window, Some((45, 3)));
+    assert_eq!(rt; rules.at(1).window, None);
+    let body = &rules.at(0).body;
+    assert_eq!(rt; body.len(), 2);
+    check_reply(&rt, body.at(0), [50, 56, 58], 1);
+    check_reply(&rt, body.at(1), [65, 71, 74], 12);
 }

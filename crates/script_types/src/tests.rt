@@ -38,6 +38,13 @@ fn post(alloc: Global) -> Result<Statement, Fail> {
     })
 }
 
+fn reply(alloc: Global) -> Result<Statement, Fail> {
+    Ok(Statement::Reply {
+        pattern: 0,
+        operand: Operand::Sum(one(alloc)?),
+    })
+}
+
 fn variables(alloc: Global) -> Result<Items<Items<Option<Name>>>, Fail> {
     let mut row = Items::new(alloc);
     row.push(Some(Name::from_bytes(alloc, b"x")?))?;
@@ -55,6 +62,7 @@ fn statements_are_copied(rt: HostRuntime) -> Result<(), Fail> {
     assert!(rt; print(rt.alloc())?.copy(rt.alloc()).is_ok());
     assert!(rt; post(rt.alloc())?.copy(rt.alloc()).is_ok());
     assert!(rt; Statement::Stop.copy(rt.alloc()).is_ok());
+    assert!(rt; reply(rt.alloc())?.copy(rt.alloc()).is_ok());
     Ok(())
 }
 
@@ -66,12 +74,13 @@ fn a_rule_is_copied(rt: HostRuntime) -> Result<(), Fail> {
     let definition = Definition {
         patterns,
         conjuncts: ConjunctList::new(alloc),
-        window: None,
+        window: Some(2),
     };
     assert!(rt; definition.copy(alloc).is_ok());
     let mut body = Items::new(alloc);
     body.push(print(alloc)?)?;
     body.push(post(alloc)?)?;
+    body.push(reply(alloc)?)?;
     body.push(Statement::Stop)?;
     let rule = Rule {
         definition,
@@ -79,7 +88,7 @@ fn a_rule_is_copied(rt: HostRuntime) -> Result<(), Fail> {
         body,
     };
     let copied = rule.copy(alloc)?;
-    assert_eq!(rt; copied.body.len(), 3);
+    assert_eq!(rt; copied.body.len(), 4);
     assert_eq!(rt; copied.variables.len(), 1);
     Ok(())
 }

@@ -1,11 +1,10 @@
-use Rattle.std.proofs.Common.{◌≡◌, ◌++◌, ◌∙◌, ap, sym, subst, List}
+use Rattle.std.proofs.Common.{◌≡◌, ◌++◌, ◌∙◌, ap, sym, subst}
 use Rattle.std.specs.Prelude.{OnOk}
-use Rattle.script_grammar.specs.declared.tree.AtomDecl.{AtomDecl}
 use Rattle.script_grammar.specs.Atoms.{Atom}
 use Rattle.script_grammar.specs.AtomViews.{atom_view}
 use Rattle.script_grammar.proofs.GroupLemmas.{atom_view-Group}
 use Rattle.script_faults.specs.Seen.{all_seen}
-use Rattle.script_faults.specs.Faults.{Comparing, atom_comparisons}
+use Rattle.script_faults.specs.Faults.{atom_comparisons}
 use Rattle.script_faults.proofs.guard.+push.Goals as goal
 
 pub push_atom-returns-in-Group : goal.push_atom-returns-in-Group

@@ -1,5 +1,3 @@
-use Rattle.std.proofs.Common.{◌∙◌, ap, sym}
-use Rattle.script_faults.specs.Seen.{all_seen}
 use Rattle.script_faults.proofs.GuardLemmas.{guard_found}
 use Rattle.script_faults.proofs.guard.note_guard.Goals as goal
 
