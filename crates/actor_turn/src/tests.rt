@@ -8,7 +8,7 @@ ghost use Rattle.script_types.specs.declared.plan.Statement.TheVariants as state
 ghost use Rattle.script_types.specs.Typed.{IsTypedCondition, IsTypedStatement, field_types, kind_types};
 ghost use Rattle.actor_turn.specs.Fair.{rules_of};
 ghost use Rattle.actor_turn.specs.Step.{fits};
-ghost use Rattle.actor_turn.specs.Runnable.{AreRunnable, IsPrint, IsRunnable};
+ghost use Rattle.actor_turn.specs.Runnable.{AreRunnable, IsQuiet, IsRunnable};
 
 use crate::{Actor, ActorRun, Effect, Ending, Entry, Limits};
 use guard_eval::{Atom, Conjunct, ConjunctList, Leaf, Operand, Place, Signed, Term, WordsLeaf};
@@ -97,7 +97,7 @@ fn pair(
     requires guard { AllByRecursion (IsTypedCondition (replicate 3 (sort.Int ∷ sort.Words ∷ [])) (first ∷ second ∷ [])) conjuncts }
     requires few { length body ≤ 16 }
     requires typed { AllByRecursion (IsTypedStatement 1 (replicate 3 (sort.Int ∷ sort.Words ∷ [])) (first ∷ second ∷ [])) body }
-    requires prints { AllByRecursion IsPrint body }
+    requires quiet { AllByRecursion IsQuiet body }
     ensures { IfOk result (λ r. IsRunnable 1 (replicate 3 (sort.Int ∷ sort.Words ∷ [])) r) }
 {
     let mut patterns = Items::new(alloc);
@@ -110,6 +110,7 @@ fn pair(
         definition: Definition {
             patterns,
             conjuncts,
+            window: None,
         },
         variables,
         body,
@@ -295,7 +296,7 @@ fn run_with<L: Ledger>(
     let mut actor = Actor::new(alloc, &plan, 0, USUAL, 1)?;
     for row in feed {
         let message = message(alloc, row.0, row.1)?;
-        actor.arrive(alloc, Source::Feed(1), &message, &mut steps)?;
+        actor.arrive(alloc, Source::Feed(1), &message, 0, &mut steps)?;
     }
     Ok(actor.into_run())
 }
@@ -331,6 +332,15 @@ fn push_entry(alloc: Global, text: &mut Bytes, entry: &Entry) -> Result<(), Fail
                         text.push_all(line.bytes())?;
                     }
                     Effect::Post { .. } => {}
+                    Effect::Reply { number, value } => {
+                        text.push_all(b" reply")?;
+                        push_number(alloc, text, u64::from(*number))?;
+                        if let Value::Int(value) = value {
+                            let digits = value.to_string(alloc)?;
+                            text.push_all(b" ")?;
+                            text.push_all(digits.as_bytes())?;
+                        }
+                    }
                 }
             }
         }

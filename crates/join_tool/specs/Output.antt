@@ -28,9 +28,10 @@ met_limit ending.Spent = true
 abbrev pub run_status : Run → Status
 run_status run = if list_any (λ (actor : ActorRun). met_limit actor.ending) run.actors then status.Limits else status.Done
 
--- the output is the log of a run that is linked to the feeds
+-- the output is the log, of version 2, of a run that is linked to the feeds
 pub record IsLog (plan : _) (limits : _) (feeds : _) (answer : Status) (output : List ℕ) : Type 0 where
   pub run : Run
+  pub version : run.version ≡ 2
   pub linked : IsLinked plan limits feeds run
   pub text : output ≡ log_text plan run
   pub told : answer ≡ run_status run

@@ -42,7 +42,7 @@ fn run_actor<L: Ledger>(
     let mut steps = Steps::<L>::new(blank);
     let mut actor = Actor::new(alloc, plan, 0, DEFAULT_LIMITS, 1)?;
     for (_, message) in posts.as_slice() {
-        actor.arrive(alloc, Source::Feed(1), message, &mut steps)?;
+        actor.arrive(alloc, Source::Feed(1), message, 0, &mut steps)?;
     }
     Ok(actor.into_run())
 }
@@ -52,12 +52,14 @@ pub fn run_feed(alloc: Global, plan: &Plan, posts: &Posts) -> Result<Run, NoMemo
     requires plan { IsFirstPlan plan.now }
     requires posts { AreFirstPosts plan.now posts.now }
     ensures linked { IfOk result (IsLinked plan.now default_limits (posts.now ∷ [])) }
+    ensures version { IfOk result (λ run. run.version ≡ 2) }
     ensures status { IfOk result (λ run. run_status run ≡ Status.Done) }
 {
     let run = run_actor::<Brand>(alloc, plan, posts, Blank::new(1))?;
     let mut actors = Items::new(alloc);
     actors.push(run)?;
     Ok(Run {
+        version: 2,
         limits: DEFAULT_LIMITS,
         feeds: 1,
         actors,

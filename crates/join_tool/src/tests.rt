@@ -16,7 +16,7 @@ const SCRIPT: &[u8] =
 const FEED: &[u8] = b"m,a,1\nm,b,2\n";
 
 const LOG: &[u8] =
-    b"joinlog 1 arrivals 50000 partials 65536 feeds 1\nactor m\n1 from feed 1 a(1)\n2 from feed 1 b(2)\nfire rule 1 take 1,2\nprint \"hit 12\"\nend running left - partials 1\n";
+    b"joinlog 2 arrivals 50000 partials 65536 feeds 1\nactor m\n1 at 1 from feed 1 a(1)\n2 at 2 from feed 1 b(2)\nfire rule 1 take 1,2\nprint \"hit 12\"\nend running left - partials 1\n";
 
 // The same script with a guard.
 const GUARDED: &[u8] =
@@ -26,7 +26,7 @@ const GUARDED: &[u8] =
 const POSTING: &[u8] = b"message a(x: int) actor m { when a(x) { post m a(x); } }";
 
 // How each log of the actor m begins.
-const HEAD: &[u8] = b"joinlog 1 arrivals 50000 partials 65536 feeds 1\nactor m\n";
+const HEAD: &[u8] = b"joinlog 2 arrivals 50000 partials 65536 feeds 1\nactor m\n";
 
 const RUN: &[&str] = &["run", "s", "f"];
 
@@ -113,32 +113,32 @@ fn of_all_matches_the_oldest_is_taken(rt: HostRuntime) -> Result<(), Fail> {
         (
             SCRIPT,
             b"m,a,1\nm,a,2\nm,b,9\n",
-            b"1 from feed 1 a(1)\n2 from feed 1 a(2)\n3 from feed 1 b(9)\nfire rule 1 take 1,3\nprint \"hit 19\"\nend running left 2 partials 2\n",
+            b"1 at 1 from feed 1 a(1)\n2 at 2 from feed 1 a(2)\n3 at 3 from feed 1 b(9)\nfire rule 1 take 1,3\nprint \"hit 19\"\nend running left 2 partials 2\n",
         ),
         (
             b"message a(x: int) message b(x: int) actor m { when a(x) & a(y) { print x y; } }",
             b"m,a,1\nm,a,2\n",
-            b"1 from feed 1 a(1)\n2 from feed 1 a(2)\nfire rule 1 take 1,2\nprint \"12\"\nend running left - partials 1\n",
+            b"1 at 1 from feed 1 a(1)\n2 at 2 from feed 1 a(2)\nfire rule 1 take 1,2\nprint \"12\"\nend running left - partials 1\n",
         ),
         (
             b"message a(x: int) message b(x: int) message c(x: int) actor m { when a(x) & b(y) { } when c(x) & b(y) { } }",
             b"m,c,1\nm,a,2\nm,b,3\n",
-            b"1 from feed 1 c(1)\n2 from feed 1 a(2)\n3 from feed 1 b(3)\nfire rule 2 take 1,3\nend running left 2 partials 3\n",
+            b"1 at 1 from feed 1 c(1)\n2 at 2 from feed 1 a(2)\n3 at 3 from feed 1 b(3)\nfire rule 2 take 1,3\nend running left 2 partials 3\n",
         ),
         (
             b"message a(x: int) message b(x: int) actor m { when b(y) { } when a(x) & b(y) { } }",
             b"m,a,1\nm,b,2\n",
-            b"1 from feed 1 a(1)\n2 from feed 1 b(2)\nfire rule 2 take 1,2\nend running left - partials 2\n",
+            b"1 at 1 from feed 1 a(1)\n2 at 2 from feed 1 b(2)\nfire rule 2 take 1,2\nend running left - partials 2\n",
         ),
         (
             b"message a(x: int) message b(x: int) actor m { when a(x) & b(y) { } when a(x) & b(y) { } }",
             b"m,a,1\nm,b,2\n",
-            b"1 from feed 1 a(1)\n2 from feed 1 b(2)\nfire rule 1 take 1,2\nend running left - partials 2\n",
+            b"1 at 1 from feed 1 a(1)\n2 at 2 from feed 1 b(2)\nfire rule 1 take 1,2\nend running left - partials 2\n",
         ),
         (
             b"message a(x: int) actor m { }",
             b"m,a,1\n",
-            b"1 from feed 1 a(1)\nend running left 1 partials 0\n",
+            b"1 at 1 from feed 1 a(1)\nend running left 1 partials 0\n",
         ),
     ];
     for (script, feed, rest) in cases {
@@ -171,33 +171,33 @@ fn a_guard_decides_which_messages_are_joined(rt: HostRuntime) -> Result<(), Fail
         (
             GUARDED,
             b"m,a,1\nm,a,2\nm,b,2\n",
-            b"1 from feed 1 a(1)\n2 from feed 1 a(2)\n3 from feed 1 b(2)\nfire rule 1 take 2,3\nprint \"hit 22\"\nend running left 1 partials 2\n",
+            b"1 at 1 from feed 1 a(1)\n2 at 2 from feed 1 a(2)\n3 at 3 from feed 1 b(2)\nfire rule 1 take 2,3\nprint \"hit 22\"\nend running left 1 partials 2\n",
         ),
         (
             twice,
             b"m,a,1\nm,a,2\n",
-            b"1 from feed 1 a(1)\n2 from feed 1 a(2)\nfire rule 1 take 2,1\nprint \"21\"\nend running left - partials 1\n",
+            b"1 at 1 from feed 1 a(1)\n2 at 2 from feed 1 a(2)\nfire rule 1 take 2,1\nprint \"21\"\nend running left - partials 1\n",
         ),
         (
             twice,
             b"m,a,1\n",
-            b"1 from feed 1 a(1)\nend running left 1 partials 3\n",
+            b"1 at 1 from feed 1 a(1)\nend running left 1 partials 3\n",
         ),
         // A conjunct over one pattern cuts a partial match, and one without a variable stops complete matches alone.
         (
             b"message a(x: int) message b(x: int) actor m { when a(x) & b(y) if x == 1 && x == y { } }",
             b"m,a,1\nm,a,2\nm,b,7\n",
-            b"1 from feed 1 a(1)\n2 from feed 1 a(2)\n3 from feed 1 b(7)\nend running left 1,2,3 partials 3\n",
+            b"1 at 1 from feed 1 a(1)\n2 at 2 from feed 1 a(2)\n3 at 3 from feed 1 b(7)\nend running left 1,2,3 partials 3\n",
         ),
         (
             b"message a(x: int) actor m { when a(x) & a(y) if 1 == 2 { } }",
             b"m,a,1\nm,a,2\n",
-            b"1 from feed 1 a(1)\n2 from feed 1 a(2)\nend running left 1,2 partials 5\n",
+            b"1 at 1 from feed 1 a(1)\n2 at 2 from feed 1 a(2)\nend running left 1,2 partials 5\n",
         ),
         (
             b"message a(x: int) message b(x: int) actor m { when a(x) & b(y) if !x == y || (x > 5 || y > 5) { } }",
             b"m,a,3\nm,b,3\nm,b,4\n",
-            b"1 from feed 1 a(3)\n2 from feed 1 b(3)\n3 from feed 1 b(4)\nfire rule 1 take 1,3\nend running left 2 partials 2\n",
+            b"1 at 1 from feed 1 a(3)\n2 at 2 from feed 1 b(3)\n3 at 3 from feed 1 b(4)\nfire rule 1 take 1,3\nend running left 2 partials 2\n",
         ),
     ];
     for (script, feed, rest) in cases {
@@ -212,22 +212,22 @@ fn bodies_print_texts_and_exact_sums(rt: HostRuntime) -> Result<(), Fail> {
         (
             b"message say(s: text) message a(x: int) actor m { when say(s) & a(x) if s == \"go\" || x > 5 { print s (x + x - 1); } }",
             b"m,say,no\nm,a,3\nm,a,6\n",
-            b"1 from feed 1 say(\"no\")\n2 from feed 1 a(3)\n3 from feed 1 a(6)\nfire rule 1 take 1,3\nprint \"no11\"\nend running left 2 partials 2\n",
+            b"1 at 1 from feed 1 say(\"no\")\n2 at 2 from feed 1 a(3)\n3 at 3 from feed 1 a(6)\nfire rule 1 take 1,3\nprint \"no11\"\nend running left 2 partials 2\n",
         ),
         (
             b"message n(v: int) actor m { when n(v) { print (v + 1) \" \" (-v) \" \" v; } }",
             b"m,n,9223372036854775807\nm,n,-9223372036854775808\n",
-            b"1 from feed 1 n(9223372036854775807)\nfire rule 1 take 1\nprint \"9223372036854775808 -9223372036854775807 9223372036854775807\"\n2 from feed 1 n(-9223372036854775808)\nfire rule 1 take 2\nprint \"-9223372036854775807 9223372036854775808 -9223372036854775808\"\nend running left - partials 1\n",
+            b"1 at 1 from feed 1 n(9223372036854775807)\nfire rule 1 take 1\nprint \"9223372036854775808 -9223372036854775807 9223372036854775807\"\n2 at 2 from feed 1 n(-9223372036854775808)\nfire rule 1 take 2\nprint \"-9223372036854775807 9223372036854775808 -9223372036854775808\"\nend running left - partials 1\n",
         ),
         (
             b"message n(v: int) actor m { when n(v) & n(w) if v + w == 9223372036854775807 + 9223372036854775807 { } when n(v) & n(w) if v - w < 0 - 9223372036854775807 - 9223372036854775807 { } }",
             b"m,n,-9223372036854775808\nm,n,9223372036854775807\nm,n,9223372036854775807\nm,n,9223372036854775807\n",
-            b"1 from feed 1 n(-9223372036854775808)\n2 from feed 1 n(9223372036854775807)\nfire rule 2 take 1,2\n3 from feed 1 n(9223372036854775807)\n4 from feed 1 n(9223372036854775807)\nfire rule 1 take 3,4\nend running left - partials 2\n",
+            b"1 at 1 from feed 1 n(-9223372036854775808)\n2 at 2 from feed 1 n(9223372036854775807)\nfire rule 2 take 1,2\n3 at 3 from feed 1 n(9223372036854775807)\n4 at 4 from feed 1 n(9223372036854775807)\nfire rule 1 take 3,4\nend running left - partials 2\n",
         ),
         (
             b"message say(s: text) actor m { when say(s) & say(t) if s != t { print s \"|\" t; } }",
             b"m,say,\nm,say,\nm,say,a b\n",
-            b"1 from feed 1 say(\"\")\n2 from feed 1 say(\"\")\n3 from feed 1 say(\"a b\")\nfire rule 1 take 1,3\nprint \"|a b\"\nend running left 2 partials 3\n",
+            b"1 at 1 from feed 1 say(\"\")\n2 at 2 from feed 1 say(\"\")\n3 at 3 from feed 1 say(\"a b\")\nfire rule 1 take 1,3\nprint \"|a b\"\nend running left 2 partials 3\n",
         ),
     ];
     for (script, feed, rest) in cases {
@@ -247,7 +247,7 @@ fn texts_of_a_feed_have_at_most_120_bytes(rt: HostRuntime) -> Result<(), Fail> {
     let alloc = rt.alloc();
     let feed = joined(alloc, &[b"m,say,", LONGEST, b"\n"])?;
     let end: &[u8] = b"\")\nfire rule 1 take 1\nend running left - partials 1\n";
-    let log = joined(alloc, &[b"1 from feed 1 say(\"", LONGEST, end])?;
+    let log = joined(alloc, &[b"1 at 1 from feed 1 say(\"", LONGEST, end])?;
     logs(&rt, alloc, SAY, feed.bytes(), log.bytes())?;
     let longer = joined(alloc, &[b"m,say,", LONGEST, b"k\n"])?;
     let feeds: [&[u8]; 5] = [
@@ -460,7 +460,7 @@ fn values_of_a_feed_are_read(rt: HostRuntime) -> Result<(), Fail> {
     for (feed, message) in cases {
         let mut inputs = inputs_of(alloc, KINDS, feed)?;
         let end: &[u8] = b"\nend running left 1 partials 0\n";
-        let log = joined(alloc, &[HEAD, b"1 from feed 1 ", message, end])?;
+        let log = joined(alloc, &[HEAD, b"1 at 1 from feed 1 ", message, end])?;
         answers(&rt, alloc, RUN, &mut inputs, Status::Done, log.bytes())?;
     }
     Ok(())
@@ -591,7 +591,7 @@ fn nothing_is_fetched_behind_a_refusal(rt: HostRuntime) -> Result<(), Fail> {
 #[test]
 fn a_write_that_fails_leaves_a_beginning(rt: HostRuntime) -> Result<(), Fail> {
     let alloc = rt.alloc();
-    for call in 1..17 {
+    for call in 1..18 {
         let mut inputs = inputs_of(alloc, SCRIPT, FEED)?;
         let mut out = MemorySink::new(alloc, 1000, 10)?;
         out.fail(call as u64)?;
@@ -608,10 +608,10 @@ fn a_write_that_fails_leaves_a_beginning(rt: HostRuntime) -> Result<(), Fail> {
     }
     let mut inputs = inputs_of(alloc, SCRIPT, FEED)?;
     let mut out = MemorySink::new(alloc, 1000, 10)?;
-    out.fail(17)?;
+    out.fail(18)?;
     gives(&rt, alloc, RUN, &mut inputs, &mut out, Status::Done, LOG)?;
     let mut out = MemorySink::new(alloc, 25, 10)?;
-    let written = b"joinlog 1 arrivals 50000 ";
+    let written = b"joinlog 2 arrivals 50000 ";
     gives(
         &rt,
         alloc,
@@ -629,11 +629,11 @@ fn a_write_that_fails_leaves_a_beginning(rt: HostRuntime) -> Result<(), Fail> {
 fn pieces_of_any_size_make_one_output(rt: HostRuntime) -> Result<(), Fail> {
     let alloc = rt.alloc();
     let mut inputs = inputs_of(alloc, SCRIPT, FEED)?;
-    let mut single = MemorySink::new(alloc, 160, 1)?;
+    let mut single = MemorySink::new(alloc, 170, 1)?;
     gives(&rt, alloc, RUN, &mut inputs, &mut single, Status::Done, LOG)?;
-    let mut tens = MemorySink::new(alloc, 160, 10)?;
+    let mut tens = MemorySink::new(alloc, 170, 10)?;
     gives(&rt, alloc, RUN, &mut inputs, &mut tens, Status::Done, LOG)?;
-    let mut whole = MemorySink::new(alloc, 160, 160)?;
+    let mut whole = MemorySink::new(alloc, 170, 170)?;
     gives(&rt, alloc, RUN, &mut inputs, &mut whole, Status::Done, LOG)
 }
 
@@ -662,7 +662,7 @@ fn a_thousand_rows_make_five_hundred_pairs(rt: HostRuntime) -> Result<(), Fail> 
     let lines = out.bytes().iter().filter(|byte| **byte == b'\n').count();
     assert_eq!(rt; lines, 2003);
     let last: &[u8] =
-        b"\n1000 from feed 1 b(1000)\nfire rule 1 take 999,1000\nprint \"hit 9991000\"\nend running left - partials 1\n";
+        b"\n1000 at 1000 from feed 1 b(1000)\nfire rule 1 take 999,1000\nprint \"hit 9991000\"\nend running left - partials 1\n";
     assert!(rt; out.bytes().ends_with(last));
     Ok(())
 }

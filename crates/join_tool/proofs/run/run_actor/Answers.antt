@@ -13,4 +13,5 @@ loop-message-preserved g c = record {
   running = c.in_ok-arrive.ensures.running;
   late = ap (λ (late : Late). length late.actors) c.in_ok-arrive.ensures.late ∙ c.loop-message.invariant.late;
   count = omega (arith, c.in_ok-arrive.ensures.one_more, c.loop-message.invariant.count);
+  stamp = omega (arith, c.in_ok-arrive.ensures.stamp, c.loop-message.invariant.stamp);
 }

@@ -1,6 +1,6 @@
 use Rattle.std.proofs.Common.{◌≡◌, length, take}
 use Rattle.actor_turn.specs.declared.run.Ending.TheVariants.{Running}
-use Rattle.actor_turn.specs.Step.{opening}
+use Rattle.actor_turn.specs.Step.{latest_stamp, opening}
 use Rattle.actor_turn.specs.Fair.{after_all, setting_of}
 use Rattle.join_tool.specs.Verdict.{default_limits}
 use Rattle.join_tool.specs.Sent.{sent_of}
@@ -13,4 +13,5 @@ invariant-loop-message g l = record {
   running : l.actor.state.ending ≡ Running;
   late : length l.actor.state.late.actors ≡ length l.plan.actors;
   count : length l.actor.state.entries ≡ l.message-index;
+  stamp : latest_stamp l.actor.state.entries ≡ l.message-index;
 }
