@@ -1,6 +1,7 @@
 -- The text of a plan. Each line ends with LF.
-use Rattle.std.specs.Prelude.{ℕ, List, [], ◌∷◌, ◌++◌, Option, None, Some, codes}
+use Rattle.std.specs.Prelude.{ℕ, ◌+◌, List, [], ◌∷◌, ◌++◌, Option, None, Some, codes}
 use Rattle.std.specs.List.{flat_map, join_by}
+use Rattle.std.specs.Fmt.{decimal}
 use Rattle.join_base.specs.declared.message.Sort.{Sort}
 use Rattle.script_types.specs.declared.plan.Plan.{Plan}
 use Rattle.script_types.specs.declared.plan.Kind.{Kind}
@@ -9,7 +10,7 @@ use Rattle.script_types.specs.declared.plan.Rule.{Rule}
 use Rattle.script_types.specs.declared.plan.Item.{Item}
 use Rattle.script_types.specs.declared.plan.Item.TheVariants as item
 use Rattle.script_types.specs.declared.plan.Statement.{Statement}
-use Rattle.script_types.specs.declared.plan.Statement.TheVariants.{Print, Post, Stop}
+use Rattle.script_types.specs.declared.plan.Statement.TheVariants.{Print, Post, Stop, Reply}
 use Rattle.plan_text.specs.PlanNames.{Row, Variables, name_of_actor, name_of_kind, sort_name, variable_name}
 use Rattle.plan_text.specs.GuardText.{guard_text, operand_text, term_text, words_text}
 
@@ -46,22 +47,28 @@ item_text variables (item.Words leaf) = words_text variables leaf
 item_text variables (item.Plain place) = variable_name variables place
 item_text variables (item.Sum leaves) = codes "(" ++ (term_text variables leaves ++ codes ")")
 
--- `print ITEM ITEM;`, `post A K(O, O);` or `stop;`
+-- `print ITEM ITEM;`, `post A K(O, O);`, `stop;` or `reply N O;`, where patterns count from 1
 abbrev pub statement_text : Plan → Variables → Statement → List ℕ
 statement_text plan variables (Print items) = codes "print " ++ (join_by (item_text variables) (codes " ") items ++ codes ";")
 statement_text plan variables (Post target kind operands) =
     codes "post " ++ (name_of_actor plan target ++ (codes " " ++ (name_of_kind plan kind ++ (codes "(" ++ (join_by (operand_text variables) (codes ", ") operands ++ codes ");")))))
 statement_text plan variables Stop = codes "stop;"
+statement_text plan variables (Reply pattern operand) = codes "reply " ++ (decimal (pattern + 1) ++ (codes " " ++ (operand_text variables operand ++ codes ";")))
 
 abbrev pub statement_line : Plan → Variables → Statement → List ℕ
 statement_line plan variables statement = codes "    " ++ (statement_text plan variables statement ++ line_end)
 
--- `when PATTERN & PATTERN if GUARD {`
+-- nothing, or ` within N`
+abbrev pub window_text : Option ℕ → List ℕ
+window_text None = []
+window_text (Some number) = codes " within " ++ decimal number
+
+-- `when PATTERN & PATTERN within N if GUARD {`
 abbrev pub when_line : Plan → Rule → List ℕ
 when_line plan rule =
     codes "  when "
     ++ (join_by (pattern_text plan) (codes " & ") (patterns_of rule.definition.patterns rule.variables)
-    ++ (guard_text rule.variables rule.definition.conjuncts ++ (codes " {" ++ line_end)))
+    ++ (window_text rule.definition.window ++ (guard_text rule.variables rule.definition.conjuncts ++ (codes " {" ++ line_end))))
 
 -- a definition, its statements, and `}`
 abbrev pub rule_lines : Plan → Rule → List ℕ

@@ -1,12 +1,12 @@
 //! Definitions as text.
 ghost use Rattle.std.specs.Prelude.{◌≡◌, ◌++◌, OnOk, codes};
 ghost use Rattle.std.specs.List.{flat_map, join_by};
-ghost use Rattle.plan_text.specs.PlanText.{pattern_text, patterns_of, rule_lines, variable_text, when_line};
+ghost use Rattle.plan_text.specs.PlanText.{pattern_text, patterns_of, rule_lines, variable_text, when_line, window_text};
 
 use crate::guards::write_guard;
 use crate::names::{Row, row_of, write_kind_name};
 use crate::statements::write_body;
-use join_base::{Bytes, Name, NoMemory};
+use join_base::{Bytes, Name, NoMemory, write_number};
 use script_types::{Plan, Rule};
 
 fn write_name_or_blank(text: &mut Bytes, name: &Option<Name>) -> Result<(), NoMemory>
@@ -70,12 +70,25 @@ fn write_patterns(
     }
 }
 
+fn write_window(text: &mut Bytes, window: Option<u32>) -> Result<(), NoMemory>
+    ensures { OnOk result (text.new ≡ text.old ++ window_text window) }
+{
+    match window {
+        None => Ok(()),
+        Some(number) => {
+            text.push_all(b" within ")?;
+            write_number(text, i128::from(number))
+        }
+    }
+}
+
 fn write_when(text: &mut Bytes, plan: &Plan, rule: &Rule) -> Result<(), NoMemory>
     ensures { OnOk result (text.new ≡ text.old ++ when_line plan.now rule.now) }
 {
     let variables = rule.variables.as_slice();
     text.push_all(b"  when ")?;
     write_patterns(text, plan, rule.definition.patterns.as_slice(), variables)?;
+    write_window(text, rule.definition.window)?;
     write_guard(text, variables, rule.definition.conjuncts.as_slice())?;
     text.push_all(b" {\n")
 }

@@ -7,7 +7,7 @@ ghost use Rattle.plan_text.specs.PlanText.{item_text, statement_line, statement_
 use crate::names::{Row, write_actor_name, write_kind_name, write_variable};
 use crate::terms::{write_operand, write_term, write_words};
 use guard_eval::Operand;
-use join_base::{Bytes, NoMemory};
+use join_base::{Bytes, NoMemory, write_number};
 use script_types::{Item, Plan, Statement};
 
 fn write_item(text: &mut Bytes, variables: &[Row], item: &Item) -> Result<(), NoMemory>
@@ -84,6 +84,13 @@ fn write_statement(
             text.push_all(b");")
         }
         Statement::Stop => text.push_all(b"stop;"),
+        Statement::Reply { pattern, operand } => {
+            text.push_all(b"reply ")?;
+            write_number(text, i128::from(*pattern) + 1)?;
+            text.push_all(b" ")?;
+            write_operand(text, variables, operand)?;
+            text.push_all(b";")
+        }
     }
 }
 

@@ -77,7 +77,7 @@ fn counted(alloc: Global, name: &[u8]) -> Result<Kind, NoMemory>
     })
 }
 
-// `a(x) & b(y)` under `x == y`, which prints both.
+// `a(x) & b(y)` of the last two messages under `x == y`, which prints both and replies to the second.
 fn hit_rule(alloc: Global) -> Result<Rule, Fail> {
     let x = place(0, 0);
     let y = place(1, 0);
@@ -87,17 +87,22 @@ fn hit_rule(alloc: Global) -> Result<Rule, Fail> {
     conjuncts.push(equal)?;
     let hit = Item::Words(fixed(alloc, b"hit ")?);
     let items = three(alloc, hit, Item::Plain(x), Item::Plain(y))?;
+    let reply = Statement::Reply {
+        pattern: 1,
+        operand: Operand::Words(fixed(alloc, b"ok")?),
+    };
     Ok(Rule {
         definition: Definition {
             patterns: two(alloc, 0, 1)?,
             conjuncts,
+            window: Some(2),
         },
         variables: two(
             alloc,
             one(alloc, named(alloc, b"x")?)?,
             one(alloc, named(alloc, b"y")?)?,
         )?,
-        body: one(alloc, Statement::Print(items))?,
+        body: two(alloc, Statement::Print(items), reply)?,
     })
 }
 
@@ -117,8 +122,9 @@ fn a_guarded_join_is_printed(rt: HostRuntime) -> Result<(), Fail> {
     let text = b"message a(x: int)
 message b(x: int)
 actor m {
-  when a(x) & b(y) if x == y {
+  when a(x) & b(y) within 2 if x == y {
     print \"hit \" x y;
+    reply 2 \"ok\";
   }
 }
 ";
@@ -211,6 +217,7 @@ fn telling_rule(alloc: Global) -> Result<Rule, Fail> {
         definition: Definition {
             patterns: three(alloc, 0, 1, 0)?,
             conjuncts,
+            window: None,
         },
         variables: three(alloc, first, Items::new(alloc), last)?,
         body: two(alloc, Statement::Print(items), post)?,
@@ -239,6 +246,7 @@ fn ending_rule(alloc: Global) -> Result<Rule, Fail> {
         definition: Definition {
             patterns: one(alloc, 1)?,
             conjuncts: ConjunctList::new(alloc),
+            window: Some(1000000),
         },
         variables: one(alloc, Items::new(alloc))?,
         body: three(alloc, post, nothing, Statement::Stop)?,
@@ -284,7 +292,7 @@ actor teller {
     print "\t\x01" who (-n + 7 - k);
     post idle tell(who, -n + 7 - k);
   }
-  when end() {
+  when end() within 1000000 {
     post teller tell("", 0);
     post idle end();
     stop;
@@ -304,6 +312,7 @@ fn what_a_plan_has_not_is_not_named(rt: HostRuntime) -> Result<(), Fail> {
         definition: Definition {
             patterns: one(alloc, 5)?,
             conjuncts: ConjunctList::new(alloc),
+            window: None,
         },
         variables: Items::new(alloc),
         body: one(

@@ -10,17 +10,18 @@ use std::process::Abort;
 const SCRIPT: &[u8] = b"message door(time: int, room: text)
 actor hall {
   when door(at, room) & motion(_, seen) & door(_, other)
-    if at - seen + 1 <= 60 && !(room == other || room != \"x\") && -at == 5 {
+    within 0030 if at - seen + 1 <= 60 && !(room == other || room != \"x\") && -at == 5 {
     print \"in \" room \" at \" at (at + 60 - seen);
     post desk note(room, -at, seen, \"t\");
     stop;
   }
-  when note(at, room, n, _) { print at; post log door(room, at); }
+  when note(at, room, n, _) & tick() { print at; post log door(room, at); reply 2 at; reply 01 n + 1; }
 }
 message motion(room: text, time: int)
 actor log { }
 actor desk { when motion(r, at) { post hall door(at, r); } }
 message note(room: text, at: int, seen: int, words: text)
+message tick()
 ";
 
 fn plan_by(rt: &impl Abort, alloc: Global, script: &[u8]) -> Plan {
@@ -104,20 +105,20 @@ fn is_text(operand: &Operand, bytes: &[u8]) -> bool {
 #[test]
 fn kinds_and_names(rt: HostRuntime) {
     let plan = plan_by(&rt, rt.alloc(), SCRIPT);
-    let names: [&[u8]; 3] = [b"door", b"motion", b"note"];
-    assert_eq!(rt; plan.kinds.len(), 3);
+    let names: [&[u8]; 4] = [b"door", b"motion", b"note", b"tick"];
+    assert_eq!(rt; plan.kinds.len(), 4);
     for (kind, name) in plan.kinds.as_slice().iter().zip(names.iter()) {
         assert!(rt; kind.name.bytes() == *name);
     }
     match plan.kinds.as_slice() {
-        [door, _, _] => match door.fields.as_slice() {
+        [door, _, _, _] => match door.fields.as_slice() {
             [(time, first), (room, second)] => {
                 assert!(rt; is_name(time, b"time") && *first == Sort::Int);
                 assert!(rt; is_name(room, b"room") && *second == Sort::Words);
             }
             _ => panic!(rt; "not two fields"),
         },
-        _ => panic!(rt; "not three kinds"),
+        _ => panic!(rt; "not four kinds"),
     }
     match plan.actors.as_slice() {
         [hall, log, desk] => {
@@ -134,7 +135,7 @@ fn patterns_and_variables(rt: HostRuntime) {
     let plan = plan_by(&rt, rt.alloc(), SCRIPT);
     let first = rule(&rt, &plan, 0, 0);
     assert!(rt; takes(first, &[0, 1, 0]));
-    assert!(rt; takes(rule(&rt, &plan, 0, 1), &[2]));
+    assert!(rt; takes(rule(&rt, &plan, 0, 1), &[2, 3]));
     match first.variables.as_slice() {
         [_, motion, _] => match motion.as_slice() {
             [None, Some(seen)] => assert!(rt; is_name(seen, b"seen")),
@@ -215,5 +216,33 @@ fn posts(rt: HostRuntime) {
     match statement(&rt, rule(&rt, &plan, 0, 1), 1) {
         Statement::Post { target, kind, .. } => assert_eq!(rt; (*target, *kind), (1, 0)),
         _ => panic!(rt; "no post"),
+    }
+}
+
+#[test]
+fn windows(rt: HostRuntime) {
+    let plan = plan_by(&rt, rt.alloc(), SCRIPT);
+    assert_eq!(rt; rule(&rt, &plan, 0, 0).definition.window, Some(30));
+    assert_eq!(rt; rule(&rt, &plan, 0, 1).definition.window, None);
+}
+
+// A pattern counts from 1 in the script, and from 0 in the plan.
+#[test]
+fn replies(rt: HostRuntime) {
+    let plan = plan_by(&rt, rt.alloc(), SCRIPT);
+    let answering = rule(&rt, &plan, 0, 1);
+    match statement(&rt, answering, 2) {
+        Statement::Reply { pattern, operand } => {
+            assert_eq!(rt; *pattern, 1);
+            assert!(rt; is_text_field(operand, 0, 0));
+        }
+        _ => panic!(rt; "no reply"),
+    }
+    match statement(&rt, answering, 3) {
+        Statement::Reply { pattern, operand } => {
+            assert_eq!(rt; *pattern, 0);
+            assert!(rt; is_sum(operand, &[plus(field(0, 2)), plus(Leaf::Number(1))]));
+        }
+        _ => panic!(rt; "no reply"),
     }
 }

@@ -97,7 +97,7 @@ fn each_cause_at_its_place_over_an_integer(rt: HostRuntime) {
 
 #[test]
 fn each_fault_of_a_text_at_its_place(rt: HostRuntime) {
-    let cases: [(&[u8], u64); 8] = [
+    let cases: [(&[u8], u64); 10] = [
         (b"when s(x) if x < 1 { } }", 42),
         (b"when s(x) if x >= \"k\" { } }", 42),
         (b"when s(x) if 1 == x { } }", 47),
@@ -106,12 +106,77 @@ fn each_fault_of_a_text_at_its_place(rt: HostRuntime) {
         (b"when s(x) if 1 == 1 - x { } }", 51),
         (b"when s(x) { print (x); } }", 48),
         (b"when s(x) { post m s(1); } }", 50),
+        (b"when s(x) { reply 1 x + 1; } }", 49),
+        (b"when s(x) & s(y) { reply 1 x; reply 2 -y; } }", 68),
     ];
     for (rest, place) in cases {
         assert_eq!(rt;
             fault_of(&rt, rt.alloc(), TEXT, b"", 0, rest),
             Some((place, ScriptCause::WrongType))
         );
+    }
+}
+
+#[test]
+fn windows_and_replies_at_their_numbers(rt: HostRuntime) {
+    let cases: [(&[u8], u64, ScriptCause); 13] = [
+        (b"when a(x) within 0 { } }", 45, ScriptCause::BadWindow),
+        (b"when a(x) within 00 { } }", 45, ScriptCause::BadWindow),
+        (
+            b"when a(x) within 1000001 { } }",
+            45,
+            ScriptCause::BadWindow,
+        ),
+        (
+            b"when a(x) within 9223372036854775807 { } }",
+            45,
+            ScriptCause::BadWindow,
+        ),
+        (
+            b"when a(x) & a(y) within 0 if z == 1 { reply 9 z; } }",
+            52,
+            ScriptCause::BadWindow,
+        ),
+        (b"when a(x) { reply 0 x; } }", 46, ScriptCause::BadReply),
+        (b"when a(x) { reply 2 x; } }", 46, ScriptCause::BadReply),
+        (b"when a(x) { reply 3 y; } }", 46, ScriptCause::BadReply),
+        (
+            b"when a(x) & a(y) { reply 1 x; reply 1 y; } }",
+            64,
+            ScriptCause::BadReply,
+        ),
+        (
+            b"when a(x) & a(y) { reply 2 x; print x; reply 02 y; } }",
+            73,
+            ScriptCause::BadReply,
+        ),
+        (b"when a(x) { reply 1 y; } }", 48, ScriptCause::UnknownName),
+        (
+            b"when a(x) & a(y) { reply 2 -y; reply 1 x + z; } }",
+            71,
+            ScriptCause::UnknownName,
+        ),
+        (
+            b"when a(x) { stop; reply 1 x; } }",
+            40,
+            ScriptCause::StopNotLast,
+        ),
+    ];
+    for (rest, place, cause) in cases {
+        assert_eq!(rt;
+            fault_of(&rt, rt.alloc(), INT, b"", 0, rest),
+            Some((place, cause))
+        );
+    }
+    let right: [&[u8]; 5] = [
+        b"when a(x) within 1 { } }",
+        b"when a(x) within 1000000 { } }",
+        b"when a(x) & a(y) within 0002 { reply 2 x; reply 1 \"k\"; stop; } }",
+        b"when a(x) { reply 1 x; } when a(y) { reply 1 y; } }",
+        b"when a(_) & a(_) & a(_) { reply 3 -1; reply 1 0; reply 2 5; } }",
+    ];
+    for rest in right {
+        assert_eq!(rt; fault_of(&rt, rt.alloc(), INT, b"", 0, rest), None);
     }
 }
 

@@ -1,5 +1,6 @@
 -- The parts of a tree with each place 0. Two parts differ in places alone where these are equal.
-use Rattle.std.proofs.Common.{inl, inr, ℕ, List, map}
+use Rattle.std.proofs.Common.{inl, inr, ℕ, ℤ, List, map, Option}
+use Rattle.std.specs.Option.{option_map}
 use Rattle.script_grammar.specs.Atoms.{Atom, Atoms, compares, negated, grouped, no_atoms, either}
 use Rattle.script_grammar.specs.Grammar.{Declaration}
 use Rattle.script_grammar.specs.declared.tree.Spelt.{Spelt}
@@ -74,11 +75,15 @@ abbrev pub bare_statement : StatementDecl → StatementDecl
 bare_statement (s.Print place items) = s.Print 0 (map bare_item items)
 bare_statement (s.Post place target kind operands) = s.Post 0 (bare_spelt target) (bare_spelt kind) (map bare_operand operands)
 bare_statement (s.Stop place) = s.Stop 0
+bare_statement (s.Reply place number_place number operand) = s.Reply 0 0 number (bare_operand operand)
 
 -- ---- definitions, actors and trees
 
+abbrev pub bare_window : Option (ℕ × ℤ) → Option (ℕ × ℤ)
+bare_window window = option_map bare_pair window
+
 abbrev pub bare_rule : RuleDecl → RuleDecl
-bare_rule rule = record { place = 0; patterns = map bare_pattern rule.patterns; guard = map bare_atoms rule.guard; body = map bare_statement rule.body }
+bare_rule rule = record { place = 0; patterns = map bare_pattern rule.patterns; window = bare_window rule.window; guard = map bare_atoms rule.guard; body = map bare_statement rule.body }
 
 abbrev pub bare_actor : ActorDecl → ActorDecl
 bare_actor actor = record { name = bare_spelt actor.name; rules = map bare_rule actor.rules }

@@ -1,13 +1,13 @@
 -- A tree has the same faults as one that differs in places alone, each at a place of its own.
-use Rattle.std.proofs.Common.{◌≡◌, ◌∙◌, ℕ, ◌+◌, ◌-◌, Bool, true, false, List, [], ◌∷◌, ◌++◌, length, map, take, Option, None, Some, refl, sym, ap, subst}
-use Rattle.std.specs.Prelude.{not, ◌&&◌, ◌==◌, slice_get}
+use Rattle.std.proofs.Common.{◌≡◌, ◌∙◌, ℕ, ℤ, ◌+◌, ◌-◌, Bool, true, false, List, [], ◌∷◌, ◌++◌, length, map, take, Option, None, Some, refl, sym, ap, subst}
+use Rattle.std.specs.Prelude.{not, ◌&&◌, ◌==◌, slice_get, unsigned_abs}
 use Rattle.std.specs.List.{flat_map}
 use Rattle.std.specs.Option.{is_none, option_map}
 use Rattle.std.proofs.lemmas.List.{length-map, map-append, take-map}
 use Rattle.std.proofs.lemmas.Option.{slice_get-map}
 use Rattle.join_base.specs.declared.message.Sort.{Sort}
 use Rattle.script_reader.specs.declared.fault.ScriptCause.{ScriptCause}
-use Rattle.script_reader.specs.declared.fault.ScriptCause.TheVariants.{TwiceDeclared, UnknownActor, WrongCount, WrongType}
+use Rattle.script_reader.specs.declared.fault.ScriptCause.TheVariants.{BadReply, BadWindow, TwiceDeclared, UnknownActor, WrongCount, WrongType}
 use Rattle.script_grammar.specs.Atoms.{Atom, Atoms, compares, negated, grouped, no_atoms, either}
 use Rattle.script_grammar.specs.declared.tree.Spelt.{Spelt}
 use Rattle.script_grammar.specs.declared.tree.FieldDecl.{FieldDecl}
@@ -30,8 +30,8 @@ use Rattle.script_names.specs.Names.{item_of, names_of, number_of}
 use Rattle.script_names.specs.Scope.{Variable, actor_rows, field_rows, message_of, message_rows, operand_sort, variables_of}
 use Rattle.script_faults.specs.declared.first.Fault.{Fault}
 use Rattle.script_faults.specs.First.{fault_if, one_too_many, too_many}
-use Rattle.script_faults.specs.Faults.{Comparing, actor_faults, atom_comparisons, body_faults, comparison_faults, comparisons, count_faults, faults_of, fields_of, fields_or_none, guard_comparisons, guard_faults, is_order, is_other, is_same, is_words, item_faults, item_place, leaf_faults, message_faults, name_faults, operand_faults, operand_place, own_place, part_faults, pattern_faults, patterns_faults, print_faults, rule_faults, statement_faults, statement_place, stop_fault, stop_faults, term_faults, twice_declared, twice_from, type_faults, wrong_type}
-use Rattle.script_places.proofs.Bare.{bare_place, bare_pair, bare_spelt, bare_field, bare_message, bare_messages, bare_rows, bare_pattern, bare_leaf, bare_operand, bare_atom, bare_atoms, bare_comparing, bare_item, bare_statement, bare_rule, bare_actor, bare_tree, bare_slot, bare_variables, beside}
+use Rattle.script_faults.specs.Faults.{Comparing, actor_faults, atom_comparisons, body_faults, comparison_faults, comparisons, count_faults, faults_of, fields_of, fields_or_none, guard_comparisons, guard_faults, is_order, is_other, is_same, is_window, is_words, item_faults, item_place, leaf_faults, may_reply, message_faults, name_faults, operand_faults, operand_place, own_place, part_faults, pattern_faults, patterns_faults, print_faults, reply_faults, rule_faults, statement_faults, statement_place, stop_fault, stop_faults, term_faults, twice_declared, twice_from, type_faults, window_faults, wrong_type}
+use Rattle.script_places.proofs.Bare.{bare_place, bare_pair, bare_spelt, bare_field, bare_message, bare_messages, bare_rows, bare_pattern, bare_leaf, bare_operand, bare_atom, bare_atoms, bare_comparing, bare_item, bare_statement, bare_window, bare_rule, bare_actor, bare_tree, bare_slot, bare_variables, beside}
 use Rattle.script_places.proofs.NamesLemmas.{actor_rows-bare, append-maps, field_rows-bare, item_of-beside, message_of-bare, message_rows-bare, names-beside, operand_sort-bare, variables_of-bare}
 
 -- ---- faults of the same causes
@@ -254,6 +254,7 @@ stop-same : (x : StatementDecl) → SameCauses (stop_fault (bare_statement x)) (
 stop-same (s.Print place items) = none_same
 stop-same (s.Post place target kind operands) = none_same
 stop-same (s.Stop place) = record { same = refl }
+stop-same (s.Reply place number_place number operand) = none_same
 
 stops-same : (body : List StatementDecl) → SameCauses (stop_faults (map bare_statement body)) (stop_faults body)
 stops-same body =
@@ -280,11 +281,31 @@ module _ (messages : List MessageDecl) (actors : List (List ℕ × ℕ)) where
     statement-same (s.Post place target kind operands) =
         joined (joined (joined (target-same target) (kind-same messages kind (length (map bare_operand operands)) (length operands) (length-map operands bare_operand))) (types-same kind operands)) (operands-same variables operands)
     statement-same (s.Stop place) = none_same
+    statement-same (s.Reply place number_place number operand) = operand-same variables operand
 
     body-same : (body : List StatementDecl) → SameCauses (body_faults (bare_messages messages) (bare_rows actors) (bare_variables variables) (map bare_statement body)) (body_faults messages actors variables body)
     body-same body =
         joined (joined (too_many-same bare_statement 16 statement_place statement_place body) (stops-same body))
         (each-same bare_statement (statement_faults (bare_messages messages) (bare_rows actors) (bare_variables variables)) (statement_faults messages actors variables) statement-same body)
+
+  -- ---- windows and replies
+
+  window-same : (window : Option (ℕ × ℤ)) → SameCauses (window_faults (bare_window window)) (window_faults window)
+  window-same None = none_same
+  window-same (Some number) = by-test (not (is_window (unsigned_abs number.1))) BadWindow 0 number.0
+
+  replies-same : (patterns : ℕ) (earlier : List ℕ) (body : List StatementDecl) → SameCauses (reply_faults patterns earlier (map bare_statement body)) (reply_faults patterns earlier body)
+  replies-same patterns earlier [] = none_same
+  replies-same patterns earlier (s.Print place items ∷ body) = replies-same patterns earlier body
+  replies-same patterns earlier (s.Post place target kind operands ∷ body) = replies-same patterns earlier body
+  replies-same patterns earlier (s.Stop place ∷ body) = replies-same patterns earlier body
+  replies-same patterns earlier (s.Reply place number_place number operand ∷ body) =
+      let n = unsigned_abs number in joined (by-test (not (may_reply patterns earlier n)) BadReply 0 number_place) (replies-same patterns (n ∷ earlier) body)
+
+  rule_replies-same : (rule : RuleDecl) → SameCauses (reply_faults (length (map bare_pattern rule.patterns)) [] (map bare_statement rule.body)) (reply_faults (length rule.patterns) [] rule.body)
+  rule_replies-same rule =
+      subst (λ (n : ℕ). SameCauses (reply_faults n [] (map bare_statement rule.body)) (reply_faults (length rule.patterns) [] rule.body)) (sym (length-map rule.patterns bare_pattern))
+      (replies-same (length rule.patterns) [] rule.body)
 
   -- ---- definitions and actors
 
@@ -296,10 +317,12 @@ module _ (messages : List MessageDecl) (actors : List (List ℕ × ℕ)) where
       let variables = variables_of messages rule in
       subst (λ (others : List Variable). SameCauses
       (patterns_faults (bare_messages messages) (map bare_pattern rule.patterns) ++ twice_declared slot_place others
-      ++ guard_faults others (guard_comparisons (map bare_atoms rule.guard)) ++ body_faults (bare_messages messages) (bare_rows actors) others (map bare_statement rule.body))
+      ++ guard_faults others (guard_comparisons (map bare_atoms rule.guard)) ++ body_faults (bare_messages messages) (bare_rows actors) others (map bare_statement rule.body)
+      ++ window_faults (bare_window rule.window) ++ reply_faults (length (map bare_pattern rule.patterns)) [] (map bare_statement rule.body))
       (rule_faults messages actors rule))
       (sym (variables_of-bare messages rule))
-      (joined (joined (joined (patterns-same messages rule.patterns) (twice_declared-same bare_slot slot_place variables)) (guard-same variables rule.guard)) (body-same variables rule.body))
+      (joined (joined (joined (joined (joined (patterns-same messages rule.patterns) (twice_declared-same bare_slot slot_place variables)) (guard-same variables rule.guard)) (body-same variables rule.body))
+      (window-same rule.window)) (rule_replies-same rule))
 
   abbrev rule_place : RuleDecl → ℕ
   rule_place rule = rule.place

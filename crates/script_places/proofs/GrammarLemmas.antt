@@ -1,5 +1,5 @@
 -- Each rule of the grammar holds at other places, of a part that differs in places alone.
-use Rattle.std.proofs.Common.{inl, inr, ◌≡◌, ◌∙◌, ℕ, zero, suc, ◌<◌, Bool, true, false, cond, List, [], ◌∷◌, Option, Some, None, map, length, refl, sym, ap, subst, arith}
+use Rattle.std.proofs.Common.{inl, inr, ◌≡◌, ◌∙◌, ℕ, ℤ, zero, suc, ◌<◌, Bool, true, false, cond, List, [], ◌∷◌, Option, Some, None, map, length, refl, sym, ap, subst, arith}
 use Rattle.std.specs.Option.{option_map}
 use Rattle.std.proofs.lemmas.List.{length-map}
 use Rattle.join_base.specs.declared.message.Relation.{Relation}
@@ -10,7 +10,7 @@ use Rattle.script_tokens.specs.declared.token.Mark.{Mark}
 use Rattle.script_tokens.specs.declared.token.Mark.TheVariants as m
 use Rattle.script_grammar.specs.Phrases.{one, some, separated}
 use Rattle.script_grammar.specs.Atoms.{Atom, Atoms, compares, negated, grouped, no_atoms, either, listed_atoms, atoms_of}
-use Rattle.script_grammar.specs.Grammar.{Tokens, place_of, name_of, variable_of, sort_of, words_of, part_of, sign_of, relation_of, mark_at, mark, name, field, message, pattern, first_leaf, further_leaf, term, operand, atom, conjunct, guard, item, statement, definition, actor, Declaration, declaration, messages_of, actors_of, tree_of, IsScript}
+use Rattle.script_grammar.specs.Grammar.{Tokens, place_of, name_of, variable_of, sort_of, words_of, numeral_of, part_of, sign_of, relation_of, mark_at, mark, name, field, message, pattern, first_leaf, further_leaf, term, operand, atom, conjunct, window, guard, item, statement, definition, actor, Declaration, declaration, messages_of, actors_of, tree_of, IsScript}
 use Rattle.script_grammar.specs.declared.tree.Spelt.{Spelt}
 use Rattle.script_grammar.specs.declared.tree.FieldDecl.{FieldDecl}
 use Rattle.script_grammar.specs.declared.tree.MessageDecl.{MessageDecl}
@@ -27,7 +27,7 @@ use Rattle.script_grammar.specs.declared.tree.RuleDecl.{RuleDecl}
 use Rattle.script_grammar.specs.declared.tree.ActorDecl.{ActorDecl}
 use Rattle.script_grammar.specs.declared.tree.Tree.{Tree}
 use Rattle.script_grammar.proofs.AtomLemmas.{listed_atoms-atoms_of}
-use Rattle.script_places.proofs.Bare.{bare_place, bare_pair, bare_spelt, bare_field, bare_message, bare_pattern, bare_leaf, bare_operand, bare_atom, bare_atoms, bare_item, bare_statement, bare_rule, bare_actor, bare_declaration, bare_tree}
+use Rattle.script_places.proofs.Bare.{bare_place, bare_pair, bare_spelt, bare_field, bare_message, bare_pattern, bare_leaf, bare_operand, bare_atom, bare_atoms, bare_item, bare_statement, bare_window, bare_rule, bare_actor, bare_declaration, bare_tree}
 use Rattle.script_places.proofs.MovedLemmas.{AreMoved, Moved, Moves, Stays, SeesKind, moved_none, moved_nothing, image, stays-some, stays-then, moves-one, moves-both, behind, before, moves-behind, moves-before, as_list, moves-each, moves-at_least_one, moves-separated, moves-listed}
 
 -- ---- what a token gives
@@ -71,6 +71,13 @@ sees-words place other _ = refl
 
 moves-words : Moves bare_pair (one words_of)
 moves-words = moves-one bare_pair words_of sees-words
+
+sees-numeral : SeesKind bare_pair numeral_of
+sees-numeral place other (kind.Number n) = refl
+sees-numeral place other _ = refl
+
+moves-numeral : Moves bare_pair (one numeral_of)
+moves-numeral = moves-one bare_pair numeral_of sees-numeral
 
 sees-part : SeesKind bare_pair part_of
 sees-part place other (kind.Number n) = refl
@@ -282,6 +289,9 @@ print_with p = s.Print p.0 p.1
 abbrev post_with : ℕ × (Spelt × (Spelt × List OperandDecl)) → StatementDecl
 post_with p = s.Post p.0 p.1.0 p.1.1.0 p.1.1.1
 
+abbrev reply_with : ℕ × ((ℕ × ℤ) × OperandDecl) → StatementDecl
+reply_with p = s.Reply p.0 p.1.0.0 p.1.0.1 p.1.1
+
 statement_moved : (x : StatementDecl) (tokens moved : Tokens) → AreMoved tokens moved → statement x tokens → Moved bare_statement statement x moved
 statement_moved (s.Print place items) tokens moved is h =
     let parts = moves-both (moves-place m.Print) (until m.Semicolon (moves-at_least_one bare_item moves-item)) in
@@ -292,21 +302,35 @@ statement_moved (s.Post place target kind operands) tokens moved is h =
     image bare_statement statement post_with (λ q same. ap post_with same) (λ q k. k) (parts.move (place, (target, (kind, operands))) tokens moved is h)
 statement_moved (s.Stop place) tokens moved is h =
     image bare_statement statement s.Stop (λ q same. ap s.Stop same) (λ q k. k) ((until m.Semicolon (moves-place m.Stop)).move place tokens moved is h)
+statement_moved (s.Reply place number_place number value) tokens moved is h =
+    let parts = moves-both (moves-place m.Reply) (moves-both moves-numeral (until m.Semicolon moves-operand)) in
+    image bare_statement statement reply_with (λ q same. ap reply_with same) (λ q k. k) (parts.move (place, ((number_place, number), value)) tokens moved is h)
 
 moves-statement : Moves bare_statement statement
 moves-statement = record { move = statement_moved }
 
 -- ---- definitions, actors and scripts
 
-abbrev rule_with : ℕ × (List PatternDecl × (List Atoms × List StatementDecl)) → RuleDecl
-rule_with p = record { place = p.0; patterns = p.1.0; guard = p.1.1.0; body = p.1.1.1 }
+abbrev Numeral : Type 0
+Numeral = ℕ × ℤ
+
+window_moved : (w : Option Numeral) (tokens moved : Tokens) → AreMoved tokens moved → window w tokens → Moved bare_window window w moved
+window_moved None tokens moved is h = record { value = None; alike = refl; spelt = moved_none moved (subst (λ (ts : Tokens). AreMoved ts moved) h is) }
+window_moved (Some n) tokens moved is h =
+    image bare_window window (λ (q : Numeral). Some q) (λ q same. ap (λ (pair : Numeral). Some pair) same) (λ q k. k) ((after m.Within moves-numeral).move n tokens moved is h)
+
+moves-window : Moves bare_window window
+moves-window = record { move = window_moved }
+
+abbrev rule_with : ℕ × (List PatternDecl × (Option Numeral × (List Atoms × List StatementDecl))) → RuleDecl
+rule_with p = record { place = p.0; patterns = p.1.0; window = p.1.1.0; guard = p.1.1.1.0; body = p.1.1.1.1 }
 
 moves-definition : Moves bare_rule definition
 moves-definition = record {
   move = λ r tokens moved is h.
       let body = after m.OpenBrace (until m.CloseBrace (moves-each bare_statement moves-statement)) in
-      let parts = moves-both (moves-place m.When) (moves-both (moves-separated bare_pattern (stays-mark m.With) moves-pattern) (moves-both moves-guard body)) in
-      image bare_rule definition rule_with (λ q same. ap rule_with same) (λ q k. k) (parts.move (r.place, (r.patterns, (r.guard, r.body))) tokens moved is h);
+      let parts = moves-both (moves-place m.When) (moves-both (moves-separated bare_pattern (stays-mark m.With) moves-pattern) (moves-both moves-window (moves-both moves-guard body))) in
+      image bare_rule definition rule_with (λ q same. ap rule_with same) (λ q k. k) (parts.move (r.place, (r.patterns, (r.window, (r.guard, r.body)))) tokens moved is h);
 }
 
 abbrev actor_with : Spelt × List RuleDecl → ActorDecl

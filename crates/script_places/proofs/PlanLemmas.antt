@@ -1,5 +1,5 @@
 -- A tree has the same plan as one that differs in places alone.
-use Rattle.std.proofs.Common.{◌≡◌, ◌∙◌, ℕ, List, map, Option, None, Some, refl, ap}
+use Rattle.std.proofs.Common.{◌≡◌, ◌∙◌, ℕ, ℤ, List, map, Option, None, Some, refl, ap}
 use Rattle.std.specs.Option.{option_map}
 use Rattle.join_base.specs.declared.message.Sort.{Sort}
 use Rattle.guard_eval.specs.Condition.{Condition, Compares, Negated, Grouped, Either}
@@ -34,8 +34,8 @@ use Rattle.script_types.specs.declared.plan.Statement.TheVariants as statement
 use Rattle.script_types.specs.declared.plan.Rule.{Rule}
 use Rattle.script_types.specs.declared.plan.ActorPlan.{ActorPlan}
 use Rattle.script_types.specs.declared.plan.Plan.{Plan}
-use Rattle.script_plan.specs.PlanOf.{actor_of, atom_of, by_sort, condition_of, field_of, kind_number, kind_of, leaf_of, names_in, operand_of, or_zero, part_of, pattern_of, place_of, plan_of, print_item, rule_of, rule_with, slot_place, statement_of, sum_operand, target_number, term_of}
-use Rattle.script_places.proofs.Bare.{bare_pair, bare_field, bare_message, bare_pattern, bare_leaf, bare_operand, bare_atom, bare_atoms, bare_item, bare_statement, bare_rule, bare_actor, bare_tree, bare_slot, bare_variables}
+use Rattle.script_plan.specs.PlanOf.{actor_of, atom_of, by_sort, condition_of, field_of, kind_number, kind_of, leaf_of, names_in, operand_of, or_zero, part_of, pattern_number, pattern_of, place_of, plan_of, print_item, rule_of, rule_with, slot_place, statement_of, sum_operand, target_number, term_of, window_of}
+use Rattle.script_places.proofs.Bare.{bare_pair, bare_field, bare_message, bare_pattern, bare_leaf, bare_operand, bare_atom, bare_atoms, bare_item, bare_statement, bare_window, bare_rule, bare_actor, bare_tree, bare_slot, bare_variables}
 use Rattle.script_places.proofs.NamesLemmas.{actor_number-bare, item_of-beside, map_same, message_number-bare, only_name-bare, sort_of-bare, variables_of-bare}
 
 -- ---- terms and operands
@@ -119,11 +119,16 @@ module _ (tree : Tree) where
         ∙ ap (λ (n : ℕ). statement.Post target_moved n (map (operand_of variables) operands)) (kind_number-bare kind.name)
         ∙ ap (λ (n : ℕ). statement.Post n (kind_number tree kind.name) (map (operand_of variables) operands)) (target_number-bare target.name)
     statement_of-bare (s.Stop place) = refl
+    statement_of-bare (s.Reply place number_place number operand) = ap (statement.Reply (pattern_number number)) (operand_of-bare variables operand)
 
     -- ---- definitions, actors and messages
 
-    abbrev rule_made : List ℕ → List Condition → List (List (Option (List ℕ))) → List Statement → Rule
-    rule_made patterns conjuncts names body = record { definition = record { patterns = patterns; conjuncts = conjuncts }; variables = names; body = body }
+    window_of-bare : (window : Option (ℕ × ℤ)) → window_of (bare_window window) ≡ window_of window
+    window_of-bare None = refl
+    window_of-bare (Some number) = refl
+
+    abbrev rule_made : Option ℕ → List ℕ → List Condition → List (List (Option (List ℕ))) → List Statement → Rule
+    rule_made window patterns conjuncts names body = record { definition = record { patterns = patterns; conjuncts = conjuncts; window = window }; variables = names; body = body }
 
     rule_with-bare : (rule : RuleDecl) → rule_with (bare_tree tree) (bare_variables variables) (bare_rule rule) ≡ rule_with tree variables rule
     rule_with-bare rule =
@@ -135,10 +140,12 @@ module _ (tree : Tree) where
         map_same names_in bare_pattern names_in (λ p. map_same (λ (v : ℕ × Option (List ℕ)). v.1) bare_pair (λ (v : ℕ × Option (List ℕ)). v.1) (λ v. refl) p.variables) rule.patterns in
         let body : map (statement_of (bare_tree tree) (bare_variables variables)) (map bare_statement rule.body) ≡ map (statement_of tree variables) rule.body =
         map_same (statement_of (bare_tree tree) (bare_variables variables)) bare_statement (statement_of tree variables) statement_of-bare rule.body in
-        ap (λ (ps : List ℕ). rule_made ps (map (condition_of (bare_variables variables)) (map bare_atoms rule.guard)) (map names_in (map bare_pattern rule.patterns)) (map (statement_of (bare_tree tree) (bare_variables variables)) (map bare_statement rule.body))) patterns
-        ∙ ap (λ (cs : List Condition). rule_made (map (pattern_of tree) rule.patterns) cs (map names_in (map bare_pattern rule.patterns)) (map (statement_of (bare_tree tree) (bare_variables variables)) (map bare_statement rule.body))) conjuncts
-        ∙ ap (λ (ns : List (List (Option (List ℕ)))). rule_made (map (pattern_of tree) rule.patterns) (map (condition_of variables) rule.guard) ns (map (statement_of (bare_tree tree) (bare_variables variables)) (map bare_statement rule.body))) names
-        ∙ ap (rule_made (map (pattern_of tree) rule.patterns) (map (condition_of variables) rule.guard) (map names_in rule.patterns)) body
+        let window = window_of rule.window in
+        ap (λ (w : Option ℕ). rule_made w (map (pattern_of (bare_tree tree)) (map bare_pattern rule.patterns)) (map (condition_of (bare_variables variables)) (map bare_atoms rule.guard)) (map names_in (map bare_pattern rule.patterns)) (map (statement_of (bare_tree tree) (bare_variables variables)) (map bare_statement rule.body))) (window_of-bare rule.window)
+        ∙ ap (λ (ps : List ℕ). rule_made window ps (map (condition_of (bare_variables variables)) (map bare_atoms rule.guard)) (map names_in (map bare_pattern rule.patterns)) (map (statement_of (bare_tree tree) (bare_variables variables)) (map bare_statement rule.body))) patterns
+        ∙ ap (λ (cs : List Condition). rule_made window (map (pattern_of tree) rule.patterns) cs (map names_in (map bare_pattern rule.patterns)) (map (statement_of (bare_tree tree) (bare_variables variables)) (map bare_statement rule.body))) conjuncts
+        ∙ ap (λ (ns : List (List (Option (List ℕ)))). rule_made window (map (pattern_of tree) rule.patterns) (map (condition_of variables) rule.guard) ns (map (statement_of (bare_tree tree) (bare_variables variables)) (map bare_statement rule.body))) names
+        ∙ ap (rule_made window (map (pattern_of tree) rule.patterns) (map (condition_of variables) rule.guard) (map names_in rule.patterns)) body
 
   rule_of-bare : (rule : RuleDecl) → rule_of (bare_tree tree) (bare_rule rule) ≡ rule_of tree rule
   unfolding rule_of
