@@ -5,7 +5,7 @@ ghost use Rattle.join_base.specs.declared.message.Sort.TheVariants as sort;
 ghost use Rattle.guard_eval.specs.declared.term.WordsLeaf.TheVariants as words;
 ghost use Rattle.script_types.specs.declared.plan.Item.TheVariants as item;
 ghost use Rattle.script_types.specs.declared.plan.Statement.TheVariants as statement;
-ghost use Rattle.script_types.specs.Typed.{IsTypedCondition, IsTypedStatement, field_types, kind_types};
+ghost use Rattle.script_types.specs.Typed.{IsTypedCondition, IsTypedStatement, IsTypedWindow, ReplyOnce, field_types, kind_types};
 ghost use Rattle.actor_turn.specs.Fair.{rules_of};
 ghost use Rattle.actor_turn.specs.Step.{fits};
 ghost use Rattle.actor_turn.specs.Runnable.{AreRunnable, IsQuiet, IsRunnable};
@@ -78,17 +78,19 @@ fn silent(alloc: Global, kind: u32) -> Result<Rule, Fail>
         definition: Definition {
             patterns,
             conjuncts: ConjunctList::new(alloc),
+            window: None,
         },
         variables,
         body: Items::new(alloc),
     })
 }
 
-// A rule of two patterns whose body only prints.
+// A rule of two patterns whose body only prints and replies.
 fn pair(
     alloc: Global,
     first: u32,
     second: u32,
+    window: Option<u32>,
     conjuncts: ConjunctList,
     body: Items<Statement>,
 ) -> Result<Rule, Fail>
@@ -98,6 +100,8 @@ fn pair(
     requires few { length body ≤ 16 }
     requires typed { AllByRecursion (IsTypedStatement 1 (replicate 3 (sort.Int ∷ sort.Words ∷ [])) (first ∷ second ∷ [])) body }
     requires quiet { AllByRecursion IsQuiet body }
+    requires once { ReplyOnce body }
+    requires window { IsTypedWindow window }
     ensures { IfOk result (λ r. IsRunnable 1 (replicate 3 (sort.Int ∷ sort.Words ∷ [])) r) }
 {
     let mut patterns = Items::new(alloc);
@@ -110,7 +114,7 @@ fn pair(
         definition: Definition {
             patterns,
             conjuncts,
-            window: None,
+            window,
         },
         variables,
         body,
@@ -123,7 +127,7 @@ fn silent_pair(alloc: Global, first: u32, second: u32) -> Result<Rule, Fail>
     ensures { IfOk result (λ r. IsRunnable 1 (replicate 3 (sort.Int ∷ sort.Words ∷ [])) r) }
 {
     let conjuncts = ConjunctList::new(alloc);
-    pair(alloc, first, second, conjuncts, Items::new(alloc))
+    pair(alloc, first, second, None, conjuncts, Items::new(alloc))
 }
 
 // Prints a text and the variables of two patterns.
@@ -154,7 +158,7 @@ fn printing(alloc: Global, first: u32, second: u32, text: &[u8]) -> Result<Rule,
 {
     let body = print(alloc, text)?;
     let conjuncts = ConjunctList::new(alloc);
-    pair(alloc, first, second, conjuncts, body)
+    pair(alloc, first, second, None, conjuncts, body)
 }
 
 // The sum of a pattern's integer alone.
@@ -186,7 +190,7 @@ fn guarded(alloc: Global, first: u32, relation: Relation, second: u32) -> Result
     let mut conjuncts = ConjunctList::new(alloc);
     conjuncts.push(conjunct)?;
     let body = print(alloc, b"")?;
-    pair(alloc, first, second, conjuncts, body)
+    pair(alloc, first, second, None, conjuncts, body)
 }
 
 // The sum of the integers of two patterns.
@@ -225,7 +229,31 @@ fn adding(alloc: Global) -> Result<Rule, Fail>
     let mut body = Items::new(alloc);
     body.push(Statement::Print(items))?;
     let conjuncts = ConjunctList::new(alloc);
-    pair(alloc, 0, 1, conjuncts, body)
+    pair(alloc, 0, 1, None, conjuncts, body)
+}
+
+// A rule of the first two kinds that sees the latest messages alone.
+fn seeing(alloc: Global, window: u32) -> Result<Rule, Fail>
+    requires some { 1 ≤ window }
+    requires few { window ≤ 1000000 }
+    ensures { IfOk result (λ r. IsRunnable 1 (replicate 3 (sort.Int ∷ sort.Words ∷ [])) r) }
+{
+    let conjuncts = ConjunctList::new(alloc);
+    pair(alloc, 0, 1, Some(window), conjuncts, Items::new(alloc))
+}
+
+// A rule of the first two kinds that replies the sum of both integers to the second.
+fn replying(alloc: Global) -> Result<Rule, Fail>
+    ensures { IfOk result (λ r. IsRunnable 1 (replicate 3 (sort.Int ∷ sort.Words ∷ [])) r) }
+{
+    let operand = Operand::Sum(both_integers(alloc)?);
+    let mut body = Items::new(alloc);
+    body.push(Statement::Reply {
+        pattern: 1,
+        operand,
+    })?;
+    let conjuncts = ConjunctList::new(alloc);
+    pair(alloc, 0, 1, None, conjuncts, body)
 }
 
 fn one(alloc: Global, rule: Rule) -> Result<Items<Rule>, Fail>
@@ -504,6 +532,66 @@ fn one_kind_twice_beside_another_kind(rt: HostRuntime) -> Result<(), Fail> {
         shown(alloc, &run)?.bytes(),
         b" 1 -; 2 rule 1 1 2 same 12; 3 -; 4 rule 2 4 3 other 43; 5 -; left 5 3".as_slice()
     );
+    Ok(())
+}
+
+#[test]
+fn a_window_passes_over_what_came_too_early(rt: HostRuntime) -> Result<(), Fail> {
+    let alloc = rt.alloc();
+    let feed = [(0, 1), (0, 2), (1, 3)];
+    let two = run(alloc, one(alloc, seeing(alloc, 2)?)?, &feed)?;
+    assert_eq!(rt;
+        shown(alloc, &two)?.bytes(),
+        b" 1 -; 2 -; 3 rule 1 2 3; left 1 1".as_slice()
+    );
+    let one_alone = run(alloc, one(alloc, seeing(alloc, 1)?)?, &feed)?;
+    assert_eq!(rt;
+        shown(alloc, &one_alone)?.bytes(),
+        b" 1 -; 2 -; 3 -; left 1 2 3 2".as_slice()
+    );
+    Ok(())
+}
+
+#[test]
+fn a_reply_is_clamped_and_goes_to_its_pattern(rt: HostRuntime) -> Result<(), Fail> {
+    let alloc = rt.alloc();
+    let rules = one(alloc, replying(alloc)?)?;
+    let feed = [(1, 5), (0, 4), (0, 9223372036854775807), (1, 1)];
+    let run = run(alloc, rules, &feed)?;
+    assert_eq!(rt;
+        shown(alloc, &run)?.bytes(),
+        b" 1 -; 2 rule 1 2 1 reply 1 9; 3 -; 4 rule 1 3 4 reply 4 9223372036854775807; left 1".as_slice()
+    );
+    Ok(())
+}
+
+// The stamps of three arrivals whose messages carry these.
+fn stamped<L: Ledger>(alloc: Global, carried: [u64; 3], blank: Blank) -> Result<[u64; 3], Fail>
+    requires small { All (λ s. s < 1000) carried }
+    requires name { blank.name ≡ L.name }
+    requires parts { blank.parts ≡ L.parts }
+    requires some { 0 < L.parts }
+{
+    let mut steps = Steps::<L>::new(blank);
+    let plan = plan(alloc, Items::new(alloc))?;
+    let message = message(alloc, 0, 7)?;
+    let mut actor = Actor::new(alloc, &plan, 0, USUAL, 1)?;
+    let source = Source::Feed(1);
+    actor.arrive(alloc, source, &message, carried[0], &mut steps)?;
+    actor.arrive(alloc, source, &message, carried[1], &mut steps)?;
+    actor.arrive(alloc, source, &message, carried[2], &mut steps)?;
+    let run = actor.into_run();
+    match run.entries.as_slice() {
+        [first, second, third] => Ok([first.stamp, second.stamp, third.stamp]),
+        _ => Ok([0, 0, 0]),
+    }
+}
+
+#[test]
+fn stamps_rise_above_those_that_came(rt: HostRuntime) -> Result<(), Fail> {
+    let alloc = rt.alloc();
+    assert_eq!(rt; stamped::<Brand>(alloc, [0, 5, 0], Blank::new(1))?, [1, 6, 7]);
+    assert_eq!(rt; stamped::<Brand>(alloc, [9, 9, 3], Blank::new(1))?, [10, 11, 12]);
     Ok(())
 }
 

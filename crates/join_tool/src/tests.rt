@@ -236,6 +236,56 @@ fn bodies_print_texts_and_exact_sums(rt: HostRuntime) -> Result<(), Fail> {
     Ok(())
 }
 
+#[test]
+fn a_window_sees_the_latest_arrivals_alone(rt: HostRuntime) -> Result<(), Fail> {
+    let cases: [(&[u8], &[u8], &[u8]); 3] = [
+        (
+            b"message a(x: int) message b(x: int) actor m { when a(x) & b(y) within 2 { } }",
+            b"m,a,1\nm,a,2\nm,b,3\n",
+            b"1 at 1 from feed 1 a(1)\n2 at 2 from feed 1 a(2)\n3 at 3 from feed 1 b(3)\nfire rule 1 take 2,3\nend running left 1 partials 1\n",
+        ),
+        (
+            b"message a(x: int) message b(x: int) actor m { when a(x) & b(y) within 1 { } }",
+            b"m,a,1\nm,b,2\n",
+            b"1 at 1 from feed 1 a(1)\n2 at 2 from feed 1 b(2)\nend running left 1,2 partials 2\n",
+        ),
+        (
+            b"message a(x: int) message b(x: int) message c(x: int) actor m { when a(x) & b(y) within 2 { } when a(x) & b(y) within 3 { } }",
+            b"m,a,1\nm,c,2\nm,b,3\n",
+            b"1 at 1 from feed 1 a(1)\n2 at 2 from feed 1 c(2)\n3 at 3 from feed 1 b(3)\nfire rule 2 take 1,3\nend running left 2 partials 2\n",
+        ),
+    ];
+    for (script, feed, rest) in cases {
+        logs(&rt, rt.alloc(), script, feed, rest)?;
+    }
+    Ok(())
+}
+
+#[test]
+fn a_reply_is_in_the_log(rt: HostRuntime) -> Result<(), Fail> {
+    let cases: [(&[u8], &[u8], &[u8]); 3] = [
+        (
+            b"message q(x: int) actor m { when q(x) { reply 1 x + 1; } }",
+            b"m,q,4\n",
+            b"1 at 1 from feed 1 q(4)\nfire rule 1 take 1\nreply 1 5\nend running left - partials 1\n",
+        ),
+        (
+            b"message q(x: int) message n(x: int) actor m { when n(x) & q(y) { reply 2 x + y; } }",
+            b"m,q,9223372036854775807\nm,n,1\n",
+            b"1 at 1 from feed 1 q(9223372036854775807)\n2 at 2 from feed 1 n(1)\nfire rule 1 take 2,1\nreply 1 9223372036854775807\nend running left - partials 1\n",
+        ),
+        (
+            b"message say(s: text) actor m { when say(s) { print s; reply 1 s; } }",
+            b"m,say,a b\n",
+            b"1 at 1 from feed 1 say(\"a b\")\nfire rule 1 take 1\nprint \"a b\"\nreply 1 \"a b\"\nend running left - partials 1\n",
+        ),
+    ];
+    for (script, feed, rest) in cases {
+        logs(&rt, rt.alloc(), script, feed, rest)?;
+    }
+    Ok(())
+}
+
 // A script with texts, and a text of 120 bytes.
 const SAY: &[u8] = b"message say(s: text) actor m { when say(s) { } }";
 

@@ -170,6 +170,34 @@ fn least<L: Ledger>(alloc: Global, blank: Blank) -> Result<(u32, u32), Fail>
     }
 }
 
+// The numbers of the least match of a definition with a window whose guard is left out, and 0 for none.
+fn least_within<L: Ledger>(alloc: Global, window: u32, blank: Blank) -> Result<(u32, u32), Fail>
+    requires name { blank.name ≡ L.name }
+    requires parts { blank.parts ≡ L.parts }
+    requires owned { 0 < L.parts }
+{
+    let mut steps = Steps::<L>::new(blank);
+    let mut definition = pair(alloc)?;
+    definition.window = Some(window);
+    let letters = three(alloc, 1, 2)?;
+    match least_match(1, &definition, &[1, 2, 3], &letters, &mut steps) {
+        None => Ok((0, 0)),
+        Some(found) => match found.taken.as_slice() {
+            [front, back] => Ok((*front, *back)),
+            _ => Ok((0, 0)),
+        },
+    }
+}
+
+#[test]
+fn a_window_sees_the_latest_messages_alone(rt: HostRuntime) -> Result<(), Fail> {
+    let alloc = rt.alloc();
+    assert_eq!(rt; least_within::<Brand>(alloc, 3, Blank::new(1))?, (1, 3));
+    assert_eq!(rt; least_within::<Brand>(alloc, 2, Blank::new(1))?, (2, 3));
+    assert_eq!(rt; least_within::<Brand>(alloc, 1, Blank::new(1))?, (0, 0));
+    Ok(())
+}
+
 #[test]
 fn the_older_message_is_passed_over_where_the_guard_is_false(rt: HostRuntime) -> Result<(), Fail> {
     assert_eq!(rt; least::<Brand>(rt.alloc(), Blank::new(1))?, (2, 3));

@@ -5,7 +5,7 @@ use Rattle.join_base.specs.declared.message.Sort.TheVariants as sort
 use Rattle.guard_eval.specs.Condition.{Condition}
 use Rattle.script_types.specs.declared.plan.Statement.{Statement}
 use Rattle.script_types.specs.declared.plan.Statement.TheVariants as statement
-use Rattle.script_types.specs.Typed.{IsTypedCondition, IsTypedStatement, ReplyOnce, Sorts, StopsLast, TakesFields}
+use Rattle.script_types.specs.Typed.{IsTypedCondition, IsTypedStatement, IsTypedWindow, ReplyOnce, Sorts, StopsLast, TakesFields}
 use Rattle.actor_turn.specs.Runnable.{IsQuiet, IsRunnable}
 use Rattle.actor_turn.proofs.tests.pair.Goals as goal
 
@@ -30,18 +30,18 @@ stops_nowhere (statement.Post target kind operands ∷ next ∷ others) h = absu
 stops_nowhere (statement.Stop ∷ next ∷ others) h = absurd h.0
 stops_nowhere (statement.Reply pattern operand ∷ next ∷ others) h = (tt, stops_nowhere (next ∷ others) h.1)
 
-runs : (first second : ℕ) (conjuncts : List Condition) (body : List Statement) (left right : List (Option (List ℕ))) (kinds : List ℕ) (rows : List (List (Option (List ℕ))))
+runs : (first second : ℕ) (window : Option ℕ) (conjuncts : List Condition) (body : List Statement) (left right : List (Option (List ℕ))) (kinds : List ℕ) (rows : List (List (Option (List ℕ))))
     → first < 3 → second < 3 → length left ≡ 2 → length right ≡ 2 → kinds ≡ first ∷ second ∷ [] → rows ≡ left ∷ right ∷ []
-    → AllByRecursion (IsTypedCondition three (first ∷ second ∷ [])) conjuncts → length body ≤ 16 → AllByRecursion (IsTypedStatement 1 three (first ∷ second ∷ [])) body → AllByRecursion IsQuiet body → ReplyOnce body
-    → IsRunnable 1 three (record { definition = record { patterns = kinds; conjuncts = conjuncts; window = None }; variables = rows; body = body })
-runs first second conjuncts body left right kinds rows a b two_left two_right kinds_are rows_are guard few typed quiet once =
-    let Runs : List ℕ → List (List (Option (List ℕ))) → Type 0 = λ ks rs. IsRunnable 1 three (record { definition = record { patterns = ks; conjuncts = conjuncts; window = None }; variables = rs; body = body }) in
+    → AllByRecursion (IsTypedCondition three (first ∷ second ∷ [])) conjuncts → length body ≤ 16 → AllByRecursion (IsTypedStatement 1 three (first ∷ second ∷ [])) body → AllByRecursion IsQuiet body → ReplyOnce body → IsTypedWindow window
+    → IsRunnable 1 three (record { definition = record { patterns = kinds; conjuncts = conjuncts; window = window }; variables = rows; body = body })
+runs first second window conjuncts body left right kinds rows a b two_left two_right kinds_are rows_are guard few typed quiet once sees =
+    let Runs : List ℕ → List (List (Option (List ℕ))) → Type 0 = λ ks rs. IsRunnable 1 three (record { definition = record { patterns = ks; conjuncts = conjuncts; window = window }; variables = rs; body = body }) in
     let own : Runs (first ∷ second ∷ []) (left ∷ right ∷ []) = record {
       typed = record {
         some_patterns = omega arith;
         few_patterns = omega arith;
         variables = (takes first left a two_left, (takes second right b two_right, tt));
-        window = tt;
+        window = sees;
         guard = guard;
         few_statements = few;
         body = typed;
@@ -57,5 +57,5 @@ pub returns : goal.returns
 returns c =
     let kinds = c.in_ok-push-2.ensures.ok ∙ ap (λ (ks : List ℕ). ks ++ c.args.second ∷ []) (c.in_ok-push.ensures.ok ∙ ap (λ (ks : List ℕ). ks ++ c.args.first ∷ []) c.new-patterns.ensures.empty) in
     let rows = c.in_ok-push-4.ensures.ok ∙ ap (λ (rs : List (List (Option (List ℕ)))). rs ++ c.in_ok-row-2.field-0 ∷ []) (c.in_ok-push-3.ensures.ok ∙ ap (λ (rs : List (List (Option (List ℕ)))). rs ++ c.in_ok-row.field-0 ∷ []) c.new-variables.ensures.empty) in
-    runs c.args.first c.args.second c.args.conjuncts c.args.body c.in_ok-row.field-0 c.in_ok-row-2.field-0 c.push-2.new.self c.push-4.new.self
-    c.requires.first c.requires.second c.in_ok-row.ensures c.in_ok-row-2.ensures kinds rows c.requires.guard c.requires.few c.requires.typed c.requires.quiet c.requires.once
+    runs c.args.first c.args.second c.args.window c.args.conjuncts c.args.body c.in_ok-row.field-0 c.in_ok-row-2.field-0 c.push-2.new.self c.push-4.new.self
+    c.requires.first c.requires.second c.in_ok-row.ensures c.in_ok-row-2.ensures kinds rows c.requires.guard c.requires.few c.requires.typed c.requires.quiet c.requires.once c.requires.window

@@ -2,6 +2,7 @@ use Rattle.std.proofs.Common.{◌≡◌, ◌≤◌, [], ◌∷◌, length, repli
 use Rattle.join_base.specs.declared.message.Sort.TheVariants as sort
 use Rattle.actor_turn.specs.declared.run.Ending.TheVariants.{Running}
 use Rattle.actor_turn.specs.Held.{CanRun}
+use Rattle.actor_turn.specs.Step.{latest_stamp}
 use Rattle.actor_turn.proofs.tests.run_with.Given as goal
 
 abbrev pub invariant-loop-row : goal.invariant-loop-row
@@ -12,4 +13,5 @@ invariant-loop-row g l = record {
   partials : 32016 ≤ l.actor.setting.limits.partials;
   running : l.actor.state.ending ≡ Running;
   count : length l.actor.state.entries ≡ l.row-index;
+  stamp : latest_stamp l.actor.state.entries ≡ l.row-index;
 }
