@@ -1,5 +1,6 @@
 pub mod Examples
 pub mod ListLemmas
+pub mod OnceLemmas
 pub mod TypedLemmas
 pub mod BodyLemmas
 pub mod RunnableLemmas

@@ -1,11 +1,11 @@
 ghost use Rattle.std.specs.Prelude.{◌≡◌, ◌≤◌, ◌<◌, ◌∷◌, [], All, IfOk, length, replicate, slice_get, true, false};
-ghost use Rattle.std.specs.List.{AllByRecursion};
+ghost use Rattle.std.specs.List.{AllByRecursion, filter_map};
 ghost use Rattle.join_base.specs.Text.{is_name};
 ghost use Rattle.join_base.specs.declared.message.Sort.TheVariants as sort;
 ghost use Rattle.guard_eval.specs.declared.term.WordsLeaf.TheVariants as words;
 ghost use Rattle.script_types.specs.declared.plan.Item.TheVariants as item;
 ghost use Rattle.script_types.specs.declared.plan.Statement.TheVariants as statement;
-ghost use Rattle.script_types.specs.Typed.{IsTypedCondition, IsTypedStatement, IsTypedWindow, ReplyOnce, field_types, kind_types};
+ghost use Rattle.script_types.specs.Typed.{IsTypedCondition, IsTypedStatement, IsTypedWindow, field_types, kind_types, replied_by};
 ghost use Rattle.actor_turn.specs.Fair.{rules_of};
 ghost use Rattle.actor_turn.specs.Step.{fits};
 ghost use Rattle.actor_turn.specs.Runnable.{AreRunnable, IsQuiet, IsRunnable};
@@ -66,6 +66,7 @@ fn row(alloc: Global) -> Result<Items<Option<Name>>, Fail>
 }
 
 // A rule of one pattern without a body.
+#[tactic(auto, using(crate::proofs::OnceLemmas::reply_once_short))]
 fn silent(alloc: Global, kind: u32) -> Result<Rule, Fail>
     requires { kind < 3 }
     ensures { IfOk result (λ r. IsRunnable 1 (replicate 3 (sort.Int ∷ sort.Words ∷ [])) r) }
@@ -100,7 +101,7 @@ fn pair(
     requires few { length body ≤ 16 }
     requires typed { AllByRecursion (IsTypedStatement 1 (replicate 3 (sort.Int ∷ sort.Words ∷ [])) (first ∷ second ∷ [])) body }
     requires quiet { AllByRecursion IsQuiet body }
-    requires once { ReplyOnce body }
+    requires once { length (filter_map replied_by body) ≤ 1 }
     requires window { IsTypedWindow window }
     ensures { IfOk result (λ r. IsRunnable 1 (replicate 3 (sort.Int ∷ sort.Words ∷ [])) r) }
 {

@@ -7,6 +7,7 @@ use Rattle.script_types.specs.declared.plan.Statement.{Statement}
 use Rattle.script_types.specs.declared.plan.Statement.TheVariants as statement
 use Rattle.script_types.specs.Typed.{IsTypedCondition, IsTypedStatement, IsTypedWindow, ReplyOnce, Sorts, StopsLast, TakesFields}
 use Rattle.actor_turn.specs.Runnable.{IsQuiet, IsRunnable}
+use Rattle.actor_turn.proofs.OnceLemmas.{reply_once_short}
 use Rattle.actor_turn.proofs.tests.pair.Goals as goal
 
 abbrev three : Sorts
@@ -58,4 +59,4 @@ returns c =
     let kinds = c.in_ok-push-2.ensures.ok ∙ ap (λ (ks : List ℕ). ks ++ c.args.second ∷ []) (c.in_ok-push.ensures.ok ∙ ap (λ (ks : List ℕ). ks ++ c.args.first ∷ []) c.new-patterns.ensures.empty) in
     let rows = c.in_ok-push-4.ensures.ok ∙ ap (λ (rs : List (List (Option (List ℕ)))). rs ++ c.in_ok-row-2.field-0 ∷ []) (c.in_ok-push-3.ensures.ok ∙ ap (λ (rs : List (List (Option (List ℕ)))). rs ++ c.in_ok-row.field-0 ∷ []) c.new-variables.ensures.empty) in
     runs c.args.first c.args.second c.args.window c.args.conjuncts c.args.body c.in_ok-row.field-0 c.in_ok-row-2.field-0 c.push-2.new.self c.push-4.new.self
-    c.requires.first c.requires.second c.in_ok-row.ensures c.in_ok-row-2.ensures kinds rows c.requires.guard c.requires.few c.requires.typed c.requires.quiet c.requires.once c.requires.window
+    c.requires.first c.requires.second c.in_ok-row.ensures c.in_ok-row-2.ensures kinds rows c.requires.guard c.requires.few c.requires.typed c.requires.quiet (reply_once_short c.args.body c.requires.once) c.requires.window
