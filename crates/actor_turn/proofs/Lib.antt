@@ -10,3 +10,5 @@ pub mod RulesLemmas
 pub mod FairLemmas
 pub mod FitsLemmas
 pub mod LinkedLemmas
+pub mod ChainLemmas
+pub mod StampLemmas

@@ -127,7 +127,7 @@ bare_came [] = refl
 bare_came (post ∷ posts) = ap (λ (xs : List Sent). sent_post post ∷ xs) (bare_came posts)
 
 -- no post of a feed carries a stamp
-feed_unstamped : (actor : ℕ) (o : Option (List (ℕ × Message))) (k : ℕ) → stamp_at (slice_get (feed_posts actor o) k) ≡ 0
+pub feed_unstamped : (actor : ℕ) (o : Option (List (ℕ × Message))) (k : ℕ) → stamp_at (slice_get (feed_posts actor o) k) ≡ 0
 feed_unstamped actor None k = refl
 feed_unstamped actor (Some []) k = refl
 feed_unstamped actor (Some (post ∷ posts)) k = by (post.0 == actor) (λ j. feed_unstamped actor (Some posts) j) k

@@ -4,6 +4,7 @@ pub mod Fair
 pub mod Fits
 pub mod Linked
 pub mod Schedule
+pub mod StampLaw
 pub mod Ready
 pub mod Runnable
 pub mod Held

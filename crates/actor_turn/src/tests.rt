@@ -591,8 +591,14 @@ fn stamped<L: Ledger>(alloc: Global, carried: [u64; 3], blank: Blank) -> Result<
 #[test]
 fn stamps_rise_above_those_that_came(rt: HostRuntime) -> Result<(), Fail> {
     let alloc = rt.alloc();
-    assert_eq!(rt; stamped::<Brand>(alloc, [0, 5, 0], Blank::new(1))?, [1, 6, 7]);
-    assert_eq!(rt; stamped::<Brand>(alloc, [9, 9, 3], Blank::new(1))?, [10, 11, 12]);
+    assert_eq!(rt;
+        stamped::<Brand>(alloc, [0, 5, 0], Blank::new(1))?,
+        [1, 6, 7]
+    );
+    assert_eq!(rt;
+        stamped::<Brand>(alloc, [9, 9, 3], Blank::new(1))?,
+        [10, 11, 12]
+    );
     Ok(())
 }
 

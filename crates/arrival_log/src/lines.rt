@@ -78,12 +78,7 @@ fn write_firing(text: &mut Bytes, plan: &Plan, firing: &Option<Firing>) -> Resul
     }
 }
 
-fn write_arrival(
-    text: &mut Bytes,
-    plan: &Plan,
-    version: u32,
-    entry: &Entry,
-) -> Result<(), NoMemory>
+fn write_arrival(text: &mut Bytes, plan: &Plan, version: u32, entry: &Entry) -> Result<(), NoMemory>
     ensures { OnOk result (text.new ≡ text.old ++ arrival_line plan.now version entry.now) }
 {
     write_count(text, u64::from(entry.number))?;
