@@ -1,9 +1,8 @@
 -- The run of a plan with one actor over one feed is linked.
-use Rattle.std.proofs.Common.{◌≡◌, ◌∙◌, ◌⊎◌, inl, inr, ℕ, zero, suc, ◌+◌, ◌-◌, ◌^◌, ◌<◌, ◌≤◌, min, List, [], ◌∷◌, ◌++◌, length, map, take, drop, Bool, true, false, max, Option, None, Some, refl, ap, sym, subst, arith, slice_get, replicate}
+use Rattle.std.proofs.Common.{◌≡◌, ◌∙◌, ◌⊎◌, inl, inr, ℕ, zero, suc, ◌+◌, ◌-◌, ◌^◌, ◌<◌, ◌≤◌, min, List, [], ◌∷◌, ◌++◌, length, map, take, drop, Bool, true, false, Option, None, Some, refl, ap, sym, subst, arith, slice_get, replicate}
 use Rattle.std.specs.Prelude.{All, IfSome, Contains, ◌==◌, if◌then◌else◌}
 use Rattle.std.specs.List.{AllByRecursion, cons_option, filter_map, flat_map}
 use Rattle.std.proofs.lemmas.List.{append-nil, length-map, take_all}
-use Rattle.std.proofs.lemmas.List.Elements.{filter_map-append}
 use Rattle.join_base.specs.declared.message.Sort.{Sort}
 use Rattle.join_base.specs.declared.message.Message.{Message}
 use Rattle.join_base.specs.declared.message.Stamped.{Stamped}
@@ -23,7 +22,7 @@ use Rattle.actor_turn.specs.declared.run.Entry.{Entry}
 use Rattle.actor_turn.specs.declared.run.Firing.{Firing}
 use Rattle.actor_turn.specs.declared.run.ActorRun.{ActorRun}
 use Rattle.actor_turn.specs.declared.run.Run.{Run}
-use Rattle.actor_turn.specs.Step.{Late, definitions_of, firing_of, fits, latest_stamp, letters_of}
+use Rattle.actor_turn.specs.Step.{Late, definitions_of, firing_of, latest_stamp, letters_of}
 use Rattle.script_types.specs.Typed.{kind_types}
 use Rattle.actor_turn.specs.Fair.{Sent, fair, fair_run, late_counts, partials_of, rules_of, run_of}
 use Rattle.actor_turn.specs.Fits.{ActorRunFits, EntryFits, FiringFits, IsFrom1To, MessageFits, PostFits, RuleFits, SourceFits}

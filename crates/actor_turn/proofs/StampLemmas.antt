@@ -1,5 +1,5 @@
 -- In a linked run with stamps each stamp but 1 is 1 more than another, and so none is greater than the number of arrivals.
-use Rattle.std.proofs.Common.{◌≡◌, ◌∙◌, ◌⊎◌, inl, inr, ℕ, zero, suc, ◌+◌, ◌<◌, ◌≤◌, max, List, [], ◌∷◌, ◌++◌, length, map, Bool, true, false, cond, Option, None, Some, slice_get, refl, ap, sym, subst, arith}
+use Rattle.std.proofs.Common.{◌≡◌, ◌∙◌, ◌⊎◌, inl, inr, ℕ, zero, suc, ◌+◌, ◌≤◌, max, List, [], ◌∷◌, ◌++◌, length, map, Bool, true, false, cond, Option, None, Some, slice_get, refl, ap, sym, subst, arith}
 use Rattle.std.specs.Prelude.{if◌then◌else◌, nat_le, ◌==◌}
 use Rattle.std.specs.List.{cons_option, filter_map, flat_map}
 use Rattle.std.proofs.lemmas.List.{length-map}
@@ -20,7 +20,7 @@ use Rattle.actor_turn.specs.declared.run.ActorRun.{ActorRun}
 use Rattle.actor_turn.specs.declared.run.Run.{Run}
 use Rattle.actor_turn.specs.Fair.{Sent, fair_run, setting_of}
 use Rattle.actor_turn.specs.Step.{opening}
-use Rattle.actor_turn.specs.Linked.{arrived_after, effect_for, entry_posts, feed_posts, firing_effects, given, in_version, posts_in, posts_of, stamp_at, IsLinked, IsLinkedActor}
+use Rattle.actor_turn.specs.Linked.{arrived_after, effect_for, entry_posts, firing_effects, given, in_version, posts_in, posts_of, stamp_at, IsLinkedActor}
 use Rattle.actor_turn.specs.StampLaw.{StampsAreFew, arrivals_of}
 use Rattle.actor_turn.proofs.ChainLemmas.{Records, adds}
 use Rattle.actor_turn.proofs.LinkedLemmas.{feed_unstamped}

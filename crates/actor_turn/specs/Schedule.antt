@@ -1,5 +1,5 @@
 -- Schedules: a run as a list of single steps, each of one actor with the post that waits first on one of its links.
-use Rattle.std.specs.Prelude.{ℕ, ◌+◌, ◌-◌, List, [], ◌∷◌, ◌++◌, ◌&&◌, ◌==◌, Option, None, Some, drop, length, slice_get, if◌then◌else◌}
+use Rattle.std.specs.Prelude.{ℕ, ◌-◌, List, [], ◌∷◌, ◌++◌, ◌&&◌, ◌==◌, Option, None, Some, drop, length, slice_get, if◌then◌else◌}
 use Rattle.std.specs.List.{flat_map}
 use Rattle.std.specs.Option.{option_and_then}
 use Rattle.join_base.specs.declared.message.Message.{Message}

@@ -1,13 +1,11 @@
 -- What a definition sees: of numbers that rise, those behind the last that is not seen.
-use Rattle.std.proofs.Common.{◌≡◌, ℕ, zero, suc, ◌+◌, ◌-◌, ◌<◌, ◌≤◌, List, [], ◌∷◌, length, drop, get_or, Bool, true, false, cond, Option, None, Some, refl, ap, sym, ◌∙◌, subst, arith}
-use Rattle.std.specs.Prelude.{nat_lt, nat_le}
+use Rattle.std.proofs.Common.{◌≡◌, ℕ, zero, suc, ◌+◌, ◌<◌, ◌≤◌, List, [], ◌∷◌, length, drop, get_or, true, false, Option, None, Some, refl, ap, sym, ◌∙◌, subst, arith}
+use Rattle.std.specs.Prelude.{nat_le}
 use Rattle.std.proofs.lemmas.List.{drop_all, drop_more}
 use Rattle.std.specs.List.{filter}
 use Rattle.std.specs.List.Sorted.{IsStrictlyIncreasing}
 use Rattle.std.proofs.lemmas.Bool.Decides.{nat_tests}
-use Rattle.join_base.specs.declared.message.Message.{Message}
 use Rattle.pattern_core.specs.declared.definition.Definition.{Definition}
-use Rattle.pattern_core.specs.Suits.{IsRecorded}
 use Rattle.pattern_core.specs.Window.{is_seen, oldest_seen, seen_of}
 
 -- a number of an arrival is seen where the oldest seen one is not above it

@@ -1,5 +1,4 @@
-use Rattle.std.proofs.Common.{◌≡◌, ◌∙◌, ℕ, ◌+◌, List, length, sym, ap, subst, arith}
-use Rattle.pattern_core.specs.Listing.{count_alone}
+use Rattle.std.proofs.Common.{◌≡◌, ◌∙◌, ℕ, ◌+◌, List, length, sym, ap, arith}
 use Rattle.pattern_core.specs.Matches.{partial_among}
 use Rattle.pattern_core.specs.Window.{seen_of}
 use Rattle.pattern_core.proofs.CountLemmas.{count_single, count_pair}

@@ -1,4 +1,4 @@
-use Rattle.std.proofs.Common.{◌≡◌, ◌∙◌, ℕ, List, [], drop, length, ap, sym, arith}
+use Rattle.std.proofs.Common.{◌≡◌, ◌∙◌, ℕ, drop, ap, sym}
 use Rattle.std.proofs.lemmas.List.{drop_all}
 use Rattle.pattern_core.specs.Window.{seen_of}
 use Rattle.pattern_core.proofs.SeenLemmas.{seen_from, none_seen}

@@ -1,4 +1,4 @@
-use Rattle.std.proofs.Common.{◌≡◌, ◌≤◌, length}
+use Rattle.std.proofs.Common.{◌≡◌}
 use Rattle.pattern_core.proofs.SeenLemmas.{SeenBehind}
 use Rattle.pattern_core.proofs.window.seen.Given as goal
 
