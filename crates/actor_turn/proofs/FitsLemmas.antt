@@ -152,6 +152,7 @@ module _ (plan : Plan) (letters : List Message) (fitting : AllByRecursion (Messa
       (record { utf8 = parts.0; short = omega (arith, parts.1, ready.0.1) }, body_prints taken body ready.1 fit.1)
   body_prints taken (statement.Post target kind operands ∷ body) ready fit = absurd ready.0
   body_prints taken (statement.Stop ∷ body) ready fit = absurd ready.0
+  body_prints taken (statement.Reply pattern operand ∷ body) ready fit = absurd ready.0
 
   -- what a choice fires
   pub firing_fits : (actors : ℕ) (sorts : List (List Sort)) (rules : List Rule) → AreRunnable actors sorts rules → AllByRecursion RuleFits rules → (live : List ℕ) → All (IsRecorded letters) live → length letters < 2 ^ 32

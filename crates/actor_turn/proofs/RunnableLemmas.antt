@@ -99,6 +99,7 @@ module _ (sorts : Sorts) (letters : List Message) (fitting : All (λ m. fits sor
   body_ready actors kinds taken (statement.Print items ∷ body) suits prints typed = ((items_ready kinds taken items suits typed.0.each, typed.0.few), body_ready actors kinds taken body suits prints.1 typed.1)
   body_ready actors kinds taken (statement.Post target kind operands ∷ body) suits prints typed = absurd prints.0
   body_ready actors kinds taken (statement.Stop ∷ body) suits prints typed = absurd prints.0
+  body_ready actors kinds taken (statement.Reply pattern operand ∷ body) suits prints typed = absurd prints.0
 
   module _ (live : List ℕ) (recorded : All (IsRecorded letters) live) (actors : ℕ) where
     ready_by : (rules : List Rule) → AllByRecursion (IsRunnable actors sorts) rules → (o : Option Candidate) → IsChosen letters live (definitions_of rules) o → ChoiceReady rules letters o

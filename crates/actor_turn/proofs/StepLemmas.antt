@@ -27,6 +27,7 @@ no_stop letters taken [] h = refl
 no_stop letters taken (statement.Print items ∷ more) h = no_stop letters taken more h.1
 no_stop letters taken (statement.Post target kind operands ∷ more) h = absurd h.0
 no_stop letters taken (statement.Stop ∷ more) h = absurd h.0
+no_stop letters taken (statement.Reply pattern operand ∷ more) h = absurd h.0
 
 module _ (sorts : List (List Sort)) (rules : List Rule) (limits : Limits) (entries : List Entry) (live : List ℕ) (late : Late) (source : Source) (message : Message) where
   abbrev setting : Setting

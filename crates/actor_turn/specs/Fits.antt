@@ -92,6 +92,7 @@ abbrev pub StatementFits : Statement → Type 0
 StatementFits (statement.Print items) = AllByRecursion ItemFits items
 StatementFits (statement.Post target kind operands) = AllByRecursion OperandFits operands
 StatementFits statement.Stop = Unit {0}
+StatementFits (statement.Reply pattern operand) = OperandFits operand
 
 abbrev pub RuleFits : Rule → Type 0
 RuleFits rule = AllByRecursion StatementFits rule.body

@@ -28,6 +28,7 @@ abbrev pub StatementReady : List Message → Assignment → Statement → Type 0
 StatementReady letters slots (statement.Print items) = AllByRecursion (ItemReady letters slots) items × (length items ≤ 16)
 StatementReady letters slots (statement.Post target kind operands) = ⊥
 StatementReady letters slots statement.Stop = ⊥
+StatementReady letters slots (statement.Reply pattern operand) = ⊥
 
 abbrev pub BodyReady : List Message → List ℕ → List Statement → Type 0
 BodyReady letters taken body = AllByRecursion (StatementReady letters (slots_of taken)) body

@@ -14,6 +14,7 @@ abbrev pub IsPrint : Statement → Type 0
 IsPrint (statement.Print items) = Unit {0}
 IsPrint (statement.Post target kind operands) = ⊥
 IsPrint statement.Stop = ⊥
+IsPrint (statement.Reply pattern operand) = ⊥
 
 pub record IsRunnable (actors : ℕ) (sorts : Sorts) (rule : Rule) : Type 0 where
   pub typed : IsTypedRule actors sorts rule

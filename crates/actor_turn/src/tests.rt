@@ -78,6 +78,7 @@ fn silent(alloc: Global, kind: u32) -> Result<Rule, Fail>
         definition: Definition {
             patterns,
             conjuncts: ConjunctList::new(alloc),
+            window: None,
         },
         variables,
         body: Items::new(alloc),
@@ -110,6 +111,7 @@ fn pair(
         definition: Definition {
             patterns,
             conjuncts,
+            window: None,
         },
         variables,
         body,

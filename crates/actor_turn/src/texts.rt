@@ -76,6 +76,7 @@ fn statement_texts(statement: &Statement)
         Statement::Print(items) => item_texts(items),
         Statement::Post { operands, .. } => operand_texts(operands),
         Statement::Stop => {}
+        Statement::Reply { operand, .. } => operand_text(operand),
     }
 }
 
