@@ -1,7 +1,8 @@
 -- A well typed plan that runs so far is of the first form.
 use Rattle.std.proofs.Common.{◌≡◌, ℕ, Bool, true, List, [], ◌∷◌, length, slice_get, arith}
-use Rattle.std.specs.Prelude.{nat_le, ◌==◌}
+use Rattle.std.specs.Prelude.{nat_le, ◌&&◌, ◌==◌}
 use Rattle.std.specs.List.{AllByRecursion, list_all}
+use Rattle.std.specs.Option.{is_none}
 use Rattle.std.proofs.lemmas.Bool.Decides.{nat_tests}
 use Rattle.script_types.specs.declared.plan.Statement.{Statement}
 use Rattle.script_types.specs.declared.plan.Statement.TheVariants as statement
@@ -27,11 +28,14 @@ only_print : (actors : ℕ) (sorts : Sorts) (patterns : List ℕ) (s : Statement
 only_print actors sorts patterns (statement.Print items) typed runs = tt
 only_print actors sorts patterns (statement.Post target kind operands) typed runs = absurd cc
 only_print actors sorts patterns statement.Stop typed runs = absurd cc
+only_print actors sorts patterns (statement.Reply pattern operand) typed runs = absurd cc
 
 rule_can_run : (actors : ℕ) (sorts : Sorts) (rule : Rule) → IsTypedRule actors sorts rule → rule_runs rule ≡ true → IsRunnable actors sorts rule
 rule_can_run actors sorts rule typed runs =
-    let few = and-left (nat_le (length rule.definition.patterns) 2) (list_all is_print rule.body) runs in
-    let body = and-right (nat_le (length rule.definition.patterns) 2) (list_all is_print rule.body) runs in
+    let prints = list_all is_print rule.body in
+    let no_window = is_none rule.definition.window in
+    let few = and-left (nat_le (length rule.definition.patterns) 2) (no_window && prints) runs in
+    let body = and-right no_window prints (and-right (nat_le (length rule.definition.patterns) 2) (no_window && prints) runs) in
     record {
       typed = typed;
       short = record { some = typed.some_patterns; few = le_true (length rule.definition.patterns) 2 few };

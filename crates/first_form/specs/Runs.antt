@@ -1,6 +1,7 @@
--- Which plans run so far: one actor, definitions of one or two patterns, and bodies that only print.
+-- Which plans run so far: one actor, definitions of one or two patterns without a window, and bodies that only print.
 use Rattle.std.specs.Prelude.{Bool, true, false, ◌&&◌, ◌==◌, nat_le, length}
 use Rattle.std.specs.List.{list_all}
+use Rattle.std.specs.Option.{is_none}
 use Rattle.script_types.specs.declared.plan.Statement.{Statement}
 use Rattle.script_types.specs.declared.plan.Statement.TheVariants as statement
 use Rattle.script_types.specs.declared.plan.Rule.{Rule}
@@ -11,9 +12,10 @@ abbrev pub is_print : Statement → Bool
 is_print (statement.Print items) = true
 is_print (statement.Post target kind operands) = false
 is_print statement.Stop = false
+is_print (statement.Reply pattern operand) = false
 
 abbrev pub rule_runs : Rule → Bool
-rule_runs rule = nat_le (length rule.definition.patterns) 2 && list_all is_print rule.body
+rule_runs rule = nat_le (length rule.definition.patterns) 2 && (is_none rule.definition.window && list_all is_print rule.body)
 
 abbrev pub actor_runs : ActorPlan → Bool
 actor_runs actor = list_all rule_runs actor.rules

@@ -14,6 +14,7 @@ fn is_print(statement: &Statement) -> bool
         Statement::Print(_) => true,
         Statement::Post { .. } => false,
         Statement::Stop => false,
+        Statement::Reply { .. } => false,
     }
 }
 
@@ -26,7 +27,9 @@ fn body_runs(body: &[Statement]) -> bool
 fn rule_runs(rule: &Rule) -> bool
     ensures { result ≡ rule_runs rule.now }
 {
-    rule.definition.patterns.len() <= 2 && body_runs(rule.body.as_slice())
+    rule.definition.patterns.len() <= 2
+        && rule.definition.window.is_none()
+        && body_runs(rule.body.as_slice())
 }
 
 fn actor_runs(actor: &ActorPlan) -> bool
@@ -47,7 +50,8 @@ fn plan_runs(plan: &Plan) -> bool
     plan.actors.len() == 1 && actors_run(plan.actors.as_slice())
 }
 
-/// Whether a plan runs so far: it has one actor, at most two patterns in a definition, and bodies that only print.
+/// Whether a plan runs so far: it has one actor, at most two patterns in a definition and no window, and bodies
+/// that only print.
 #[tactic(auto, using(crate::proofs::RunsLemmas::first_plan))]
 pub fn can_run(plan: &Plan) -> bool
     requires typed { IsTyped plan.now }
