@@ -48,6 +48,8 @@ cause_name cause.UnknownName = codes "UnknownName"
 cause_name cause.WrongCount = codes "WrongCount"
 cause_name cause.WrongType = codes "WrongType"
 cause_name cause.StopNotLast = codes "StopNotLast"
+cause_name cause.BadWindow = codes "BadWindow"
+cause_name cause.BadReply = codes "BadReply"
 
 -- `refused script PLACE CAUSE`
 abbrev pub script_refusal : ℕ → ScriptCause → List ℕ

@@ -68,6 +68,8 @@ fn cause_name(cause: ScriptCause) -> &'static [u8]
         ScriptCause::WrongCount => b"WrongCount",
         ScriptCause::WrongType => b"WrongType",
         ScriptCause::StopNotLast => b"StopNotLast",
+        ScriptCause::BadWindow => b"BadWindow",
+        ScriptCause::BadReply => b"BadReply",
     }
 }
 
