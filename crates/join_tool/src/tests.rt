@@ -375,11 +375,23 @@ fn a_script_is_checked(rt: HostRuntime) -> Result<(), Fail> {
     checks(&rt, rt.alloc(), GUARDED, Status::Done, plan)
 }
 
+#[test]
+fn windows_and_replies_are_checked(rt: HostRuntime) -> Result<(), Fail> {
+    let windowed: &[u8] =
+        b"message a(x: int) message b(x: int) actor m { when a(x) & b(y) within 2 if x == y { } }";
+    let plan: &[u8] =
+        b"message a(x: int)\nmessage b(x: int)\nactor m {\n  when a(x) & b(y) within 2 if x == y {\n  }\n}\n";
+    checks(&rt, rt.alloc(), windowed, Status::Done, plan)?;
+    let replying: &[u8] = b"message q(x: int) actor m { when q(x) { reply 1 x + 1; } }";
+    let plan: &[u8] = b"message q(x: int)\nactor m {\n  when q(x) {\n    reply 1 x + 1;\n  }\n}\n";
+    checks(&rt, rt.alloc(), replying, Status::Done, plan)
+}
+
 // Each script with the fault that both commands answer.
 #[test]
 fn scripts_with_a_fault_are_refused_at_its_place(rt: HostRuntime) -> Result<(), Fail> {
     let alloc = rt.alloc();
-    let cases: [(&[u8], &[u8], &[u8]); 14] = [
+    let cases: [(&[u8], &[u8], &[u8]); 18] = [
         (b"", b"", b"0 BadSyntax"),
         (b"message a(x: int)", b"", b"17 BadSyntax"),
         (b"message ", &[255], b"8 NotText"),
@@ -390,6 +402,18 @@ fn scripts_with_a_fault_are_refused_at_its_place(rt: HostRuntime) -> Result<(), 
         (INT, b"when a(x) if y == 1 { } }", b"41 UnknownName"),
         (INT, b"when a(x) if x == \"k\" { } }", b"46 WrongType"),
         (INT, b"when a(x) { stop; stop; } }", b"40 StopNotLast"),
+        (INT, b"when a(x) within 0 { } }", b"45 BadWindow"),
+        (INT, b"when a(x) within 1000001 { } }", b"45 BadWindow"),
+        (
+            b"message q(x: int) actor m { when q(x) { ",
+            b"reply 2 x; } }",
+            b"46 BadReply",
+        ),
+        (
+            INT,
+            b"when a(x) { reply 1 x; print x; reply 1 x; } }",
+            b"66 BadReply",
+        ),
         (INT, b"when a(x) { post n a(x); } }", b"45 UnknownActor"),
         (
             INT,

@@ -1,6 +1,7 @@
 -- The texts of statements print what they were read from.
-use Rattle.std.proofs.Common.{◌≡◌, ◌∙◌, ℕ, true, false, List, [], ◌++◌, length, refl}
-use Rattle.std.specs.Prelude.{codes}
+use Rattle.std.proofs.Common.{◌≡◌, ◌∙◌, ℕ, ◌+◌, ◌-◌, ◌≤◌, true, false, List, [], ◌++◌, length, refl, ap, arith}
+use Rattle.std.specs.Prelude.{ℤ, codes, unsigned_abs}
+use Rattle.std.specs.Fmt.{decimal}
 use Rattle.std.specs.List.{flat_map}
 use Rattle.std.specs.Option.{is_none}
 use Rattle.join_base.specs.declared.message.Sort.{Sort}
@@ -24,15 +25,16 @@ use Rattle.script_faults.specs.First.{fault_if, too_many}
 use Rattle.script_faults.specs.Faults.{count_faults, fields_of, fields_or_none, item_faults, item_place, operand_faults, post_faults, print_faults, statement_faults, term_faults, type_faults}
 use Rattle.script_types.specs.declared.plan.Item.TheVariants as item
 use Rattle.script_plan.specs.PlanOf.{by_sort, operand_of, place_of, plan_of, print_item, statement_of, term_of}
-use Rattle.script_check.proofs.SmallLemmas.{each_none, each_one, left_none, right_none}
+use Rattle.script_check.proofs.NumberLemmas.{left_none, right_none, NumberFits}
+use Rattle.script_check.proofs.SmallLemmas.{each_none, each_one}
 use Rattle.plan_text.specs.PlanNames.{Variables, variable_name}
 use Rattle.plan_text.specs.GuardText.{operand_text, term_text}
 use Rattle.plan_text.specs.PlanText.{item_text, statement_line, statement_text}
 use Rattle.plan_law.proofs.DeclarationLemmas.{comma_ends, prints_comma}
 use Rattle.plan_law.proofs.NamedLemmas.{Names, actor_named, kind_named, variable_named}
-use Rattle.plan_law.proofs.PhraseLemmas.{Prints, prints_any_then, prints_at_least_one, prints_before, prints_behind, prints_listed, prints_mark, prints_mark_at, prints_then}
-use Rattle.plan_law.proofs.TermLemmas.{prints_name, prints_operand, prints_term, prints_words}
-use Rattle.plan_law.proofs.TokenLemmas.{close_writes, keyword_space_writes, keyword_writes, line_end_writes, open_writes, post_is, print_is, semicolon_writes, space_writes, stop_is, two_spaces_write}
+use Rattle.plan_law.proofs.PhraseLemmas.{Prints, prints_any_then, prints_at_least_one, prints_before, prints_behind, prints_listed, prints_mark, prints_mark_at, prints_text, prints_then}
+use Rattle.plan_law.proofs.TermLemmas.{prints_name, prints_numeral, prints_operand, prints_term, prints_words}
+use Rattle.plan_law.proofs.TokenLemmas.{close_writes, keyword_space_writes, keyword_writes, line_end_writes, open_writes, post_is, print_is, reply_is, semicolon_writes, space_writes, stop_is, two_spaces_write}
 use Rattle.plan_law.proofs.WriteLemmas.{Any, Ends, any, writes_as, writes_then}
 
 module _ (variables : List Variable) (rows : Variables) (named : Names rows variables) where
@@ -91,11 +93,24 @@ module _ (variables : List Variable) (rows : Variables) (named : Names rows vari
         (λ rest q. record { ends = refl })
         (prints_any_then (prints_mark close_writes) (prints_mark semicolon_writes)))))))
 
-    prints_statement : (x : StatementDecl) → statement_faults tree.messages (actor_rows tree.actors) variables x ≡ [] → StatementPrints x
-    prints_statement (s.Print place items) none = prints_print place items none
-    prints_statement (s.Post place target kind operands) none = prints_post place target kind operands none
-    prints_statement (s.Stop place) none = prints_then (prints_mark_at (keyword_writes (codes "stop") m.Stop stop_is)) (λ rest q. record { ends = refl }) (prints_mark semicolon_writes)
+    -- patterns count from 1 in the text
+    from_one : (number : ℕ) → 1 ≤ number → number ≡ number - 1 + 1
+    from_one number some = omega (arith, some)
+
+    prints_reply : (place number_place : ℕ) (number : ℤ) (operand : OperandDecl) → 1 ≤ unsigned_abs number → operand_faults variables operand ≡ [] → StatementPrints (s.Reply place number_place number operand)
+    prints_reply place number_place number operand some none =
+        prints_any_then (prints_mark_at (keyword_space_writes (codes "reply") m.Reply reply_is))
+        (prints_then (prints_text (ap decimal (from_one (unsigned_abs number) some)) (prints_numeral (number_place, number))) (λ rest q. record { ends = refl })
+        (prints_behind space_writes
+        (prints_then (prints_operand variables rows named operand none) (λ rest q. record { ends = refl }) (prints_mark semicolon_writes))))
+
+    prints_statement : (patterns : ℕ) (x : StatementDecl) → statement_faults tree.messages (actor_rows tree.actors) variables x ≡ [] → NumberFits patterns x → StatementPrints x
+    prints_statement patterns (s.Print place items) none fits = prints_print place items none
+    prints_statement patterns (s.Post place target kind operands) none fits = prints_post place target kind operands none
+    prints_statement patterns (s.Reply place number_place number operand) none fits = prints_reply place number_place number operand fits.0 none
+    prints_statement patterns (s.Stop place) none fits = prints_then (prints_mark_at (keyword_writes (codes "stop") m.Stop stop_is)) (λ rest q. record { ends = refl }) (prints_mark semicolon_writes)
 
     -- the line of a statement without a fault
-    pub prints_line : (x : StatementDecl) → statement_faults tree.messages (actor_rows tree.actors) variables x ≡ [] → Prints Any (g.statement x) (statement_line (plan_of tree) rows (statement_of tree variables x))
-    prints_line x none = prints_behind (writes_then two_spaces_write two_spaces_write) (prints_before (prints_statement x none) (λ rest q. any) line_end_writes)
+    pub prints_line : (patterns : ℕ) (x : StatementDecl) → statement_faults tree.messages (actor_rows tree.actors) variables x ≡ [] → NumberFits patterns x
+        → Prints Any (g.statement x) (statement_line (plan_of tree) rows (statement_of tree variables x))
+    prints_line patterns x none fits = prints_behind (writes_then two_spaces_write two_spaces_write) (prints_before (prints_statement patterns x none fits) (λ rest q. any) line_end_writes)

@@ -17,7 +17,8 @@ use Rattle.script_names.specs.Scope.{Variable}
 use Rattle.script_faults.specs.First.{too_many}
 use Rattle.script_faults.specs.Faults.{Comparing, atom_comparisons, comparison_faults, comparisons, guard_comparisons, guard_faults, operand_faults, operand_place}
 use Rattle.script_plan.specs.PlanOf.{atom_of, condition_of, operand_of}
-use Rattle.script_check.proofs.SmallLemmas.{each_left, each_none, each_one, each_right, operands_right, right_none}
+use Rattle.script_check.proofs.NumberLemmas.{right_none}
+use Rattle.script_check.proofs.SmallLemmas.{each_left, each_none, each_one, each_right, operands_right}
 use Rattle.plan_text.specs.PlanNames.{Variables}
 use Rattle.plan_text.proofs.GuardLemmas.{one_text}
 use Rattle.plan_text.specs.GuardText.{atom_texts, comparison_text, condition_text, either_text, guard_text, operand_text, relation_text}

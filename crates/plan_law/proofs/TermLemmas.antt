@@ -1,6 +1,7 @@
 -- The texts of names, terms and operands print what they were read from.
 use Rattle.std.proofs.Common.{◌≡◌, ◌∙◌, ℕ, Bool, true, false, ◌&&◌, not, ◌==◌, List, [], ◌∷◌, ◌++◌, length, Option, None, Some, refl, sym, ap, subst, ⊎_elim}
-use Rattle.std.specs.Prelude.{codes, if◌then◌else◌}
+use Rattle.std.specs.Prelude.{ℤ, codes, if◌then◌else◌, unsigned_abs}
+use Rattle.std.specs.Fmt.{decimal, signed_decimal}
 use Rattle.std.specs.List.{AllByRecursion, flat_map}
 use Rattle.std.proofs.lemmas.List.{append-nil}
 use Rattle.join_base.specs.declared.message.Sort.{Sort}
@@ -24,10 +25,11 @@ use Rattle.script_faults.specs.Faults.{leaf_faults, operand_faults, part_faults,
 use Rattle.guard_eval.specs.declared.term.Operand.TheVariants as operand
 use Rattle.guard_eval.specs.declared.term.WordsLeaf.TheVariants as words
 use Rattle.script_plan.specs.PlanOf.{by_sort, leaf_of, operand_of, part_of, place_of, sum_operand, term_of}
-use Rattle.script_check.proofs.SmallLemmas.{each_none, each_one, right_none}
+use Rattle.script_check.proofs.NumberLemmas.{right_none}
+use Rattle.script_check.proofs.SmallLemmas.{each_none, each_one}
 use Rattle.plan_text.specs.PlanNames.{Variables, variable_name}
 use Rattle.plan_text.specs.GuardText.{first_leaf, further_leaf, leaf_text, operand_text, term_text}
-use Rattle.plan_law.proofs.LexedLemmas.{IsLexed}
+use Rattle.plan_law.proofs.LexedLemmas.{IsLexed, IsNumber}
 use Rattle.plan_law.proofs.NamedLemmas.{Names, variable_named}
 use Rattle.plan_law.proofs.PhraseLemmas.{Begins, begins_one, begins_text, begins_then, Prints, each_leads, prints_each, prints_mark_at, prints_one, prints_text, prints_then, prints_any_then}
 use Rattle.plan_law.proofs.TokenLemmas.{minus_writes, name_opens, name_writes, plus_writes, space_writes}
@@ -57,6 +59,23 @@ words_kind place kind.Bad words e lexed = absurd cc
 -- a quoted text
 pub prints_words : (place : ℕ) (words : List ℕ) → Prints Ends (one g.words_of (place, words)) (quoted words)
 prints_words place words = prints_one (λ t lexed is. words_kind t.place t.kind (place, words) is lexed)
+
+-- a number that was read has no sign
+unsigned_text : (z : ℤ) → IsNumber z → signed_decimal z ≡ decimal (unsigned_abs z)
+unsigned_text z h = rw (h.is) refl
+
+numeral_kind : (place : ℕ) (k : Kind) (n : ℕ × ℤ) → g.numeral_by place k ≡ Some n → IsLexed k → Writes Ends (decimal (unsigned_abs n.1)) (k ∷ [])
+numeral_kind place (kind.Number z) n e lexed =
+    let same : Path (ℕ × ℤ) (place, z) n = cc in
+    subst (λ (m : ℕ × ℤ). Writes Ends (decimal (unsigned_abs m.1)) (kind.Number z ∷ [])) same (writes_text (unsigned_text z lexed) (number_writes z lexed))
+numeral_kind place (kind.Name name) n e lexed = absurd cc
+numeral_kind place (kind.Mark a) n e lexed = absurd cc
+numeral_kind place (kind.Words text) n e lexed = absurd cc
+numeral_kind place kind.Bad n e lexed = absurd cc
+
+-- a number that stands alone
+pub prints_numeral : (n : ℕ × ℤ) → Prints Ends (one g.numeral_of n) (decimal (unsigned_abs n.1))
+prints_numeral n = prints_one (λ t lexed is. numeral_kind t.place t.kind n is lexed)
 
 -- ---- signs
 

@@ -257,6 +257,14 @@ pub post_is : IsKeyword (codes "post") m.Post
 unfolding word_kind
 post_is = record { begins = refl; goes_on = refl; is_mark = refl }
 
+pub within_is : IsKeyword (codes "within") m.Within
+unfolding word_kind
+within_is = record { begins = refl; goes_on = refl; is_mark = refl }
+
+pub reply_is : IsKeyword (codes "reply") m.Reply
+unfolding word_kind
+reply_is = record { begins = refl; goes_on = refl; is_mark = refl }
+
 pub stop_is : IsKeyword (codes "stop") m.Stop
 unfolding word_kind
 stop_is = record { begins = refl; goes_on = refl; is_mark = refl }

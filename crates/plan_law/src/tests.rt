@@ -8,9 +8,9 @@ use std::process::Abort;
 // A script with each form of the language, its messages and actors mixed, and the text of its plan.
 const SCRIPT: &[u8] = b"message door(time: int, room: text) // the door
 actor hall{when door(at,room)&motion(_,seen)&door(_,other)
- if-at-007+9223372036854775807<= 60&&!!(room!=other||\"x\\x01\\\"\"==room)&&at>0||at<seen&&seen>=at{
-print\"in \"room\" at \"at(at+60-seen)(-at);post desk note(room,-at,0,\"\xC3\xA4\\n\");stop;}
-when note(at,_,n,_){}}
+ within 0030if-at-007+9223372036854775807<= 60&&!!(room!=other||\"x\\x01\\\"\"==room)&&at>0||at<seen&&seen>=at{
+print\"in \"room\" at \"at(at+60-seen)(-at);post desk note(room,-at,0,\"\xC3\xA4\\n\");reply 03-at+2;reply 1\"x\";stop;}
+when note(at,_,n,_)within 1{}}
 message tick()
 actor desk{when tick(){post hall tick();}}actor log{}
 message motion(room:text,time:int)message note(room: text, at: int, seen: int, words: text)";
@@ -20,12 +20,14 @@ message tick()
 message motion(room: text, time: int)
 message note(room: text, at: int, seen: int, words: text)
 actor hall {
-  when door(at, room) & motion(_, seen) & door(_, other) if -at - 7 + 9223372036854775807 <= 60 && !!(room != other || \"x\\x01\\\"\" == room) && at > 0 || at < seen && seen >= at {
+  when door(at, room) & motion(_, seen) & door(_, other) within 30 if -at - 7 + 9223372036854775807 <= 60 && !!(room != other || \"x\\x01\\\"\" == room) && at > 0 || at < seen && seen >= at {
     print \"in \" room \" at \" at (at + 60 - seen) (-at);
     post desk note(room, -at, 0, \"\xC3\xA4\\n\");
+    reply 3 -at + 2;
+    reply 1 \"x\";
     stop;
   }
-  when note(at, _, n, _) {
+  when note(at, _, n, _) within 1 {
   }
 }
 actor desk {

@@ -1,5 +1,5 @@
 -- Where no window and no reply has a fault, their numbers are within their bounds, and no two replies of a body name one pattern.
-use Rattle.std.proofs.Common.{◌≡◌, ◌≢◌, ◌⊎◌, inl, inr, ℕ, ℤ, ◌-◌, ◌≤◌, Bool, true, false, not, ◌&&◌, ◌||◌, ◌==◌, List, [], ◌∷◌, ◌++◌, map, refl, sym, ap, ◌∙◌, arith}
+use Rattle.std.proofs.Common.{◌≡◌, ◌⊎◌, inl, inr, ℕ, ℤ, ◌-◌, ◌≤◌, Bool, true, false, not, ◌&&◌, ◌||◌, ◌==◌, List, [], ◌∷◌, ◌++◌, map, refl, arith}
 use Rattle.std.specs.Prelude.{nat_le, unsigned_abs}
 use Rattle.std.specs.List.{AllByRecursion, IsDistinct, filter_map, list_any}
 use Rattle.std.proofs.lemmas.Bool.{leb-true}
@@ -12,7 +12,7 @@ use Rattle.script_grammar.specs.declared.tree.Tree.{Tree}
 use Rattle.script_names.specs.Scope.{Variable}
 use Rattle.script_types.specs.Typed.{ReplyOnce, replied_by}
 use Rattle.script_faults.specs.First.{fault_if}
-use Rattle.script_faults.specs.Faults.{is_window, may_reply, reply_faults, window_faults}
+use Rattle.script_faults.specs.Faults.{is_window, may_reply, reply_faults}
 use Rattle.script_plan.specs.PlanOf.{statement_of}
 
 -- ---- where a list of faults is empty, so are its parts

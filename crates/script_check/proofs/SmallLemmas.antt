@@ -1,6 +1,6 @@
 -- A tree without gaps and without faults is small.
 use Rattle.std.proofs.Common.{◌≡◌, ℕ, zero, suc, ◌≤◌, Bool, true, false, List, [], ◌∷◌, ◌++◌, length, Option, None, Some, refl, subst, arith}
-use Rattle.std.specs.Prelude.{ℤ, not, ◌&&◌, ◌==◌, slice_get, eqb, unsigned_abs}
+use Rattle.std.specs.Prelude.{ℤ, not, ◌&&◌, ◌==◌, slice_get, eqb}
 use Rattle.std.specs.Option.{option_and_then, option_map}
 use Rattle.std.specs.List.{AllByRecursion, flat_map}
 use Rattle.std.proofs.lemmas.Bool.{eqb-true}

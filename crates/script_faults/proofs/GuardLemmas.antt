@@ -1,5 +1,5 @@
 -- The faults of a guard, from those of the comparisons where they lie.
-use Rattle.std.proofs.Common.{◌≡◌, ◌∙◌, ◌++◌, ℕ, zero, suc, List, [], ◌∷◌, Option, refl, sym, ap}
+use Rattle.std.proofs.Common.{◌≡◌, ◌∙◌, ℕ, zero, suc, List, [], ◌∷◌, Option, refl, sym, ap}
 use Rattle.std.specs.List.{flat_map}
 use Rattle.script_names.specs.Scope.{Variable}
 use Rattle.script_faults.specs.declared.first.Fault.{Fault}

@@ -1,19 +1,17 @@
 -- Which replies are wrong, from the marks of the patterns that are still open.
-use Rattle.std.proofs.Common.{◌≡◌, ◌≢◌, ◌⊎◌, inl, inr, ◌∙◌, ◌++◌, ℕ, zero, suc, ◌≤◌, ◌<◌, ◌-◌, Bool, true, false, not, ◌&&◌, ◌||◌, ◌==◌, List, [], ◌∷◌, length, get_or, slice_set, replicate, refl, sym, ap, arith}
-use Rattle.std.specs.Prelude.{nat_le, unsigned_abs, slice_get, if◌then◌else◌}
+use Rattle.std.proofs.Common.{◌≡◌, ◌≢◌, ◌∙◌, ◌++◌, ℕ, zero, suc, ◌≤◌, ◌<◌, ◌-◌, Bool, true, false, not, ◌&&◌, ◌||◌, ◌==◌, List, [], ◌∷◌, get_or, slice_set, replicate, refl, sym, ap, arith}
+use Rattle.std.specs.Prelude.{nat_le, unsigned_abs, if◌then◌else◌}
 use Rattle.std.specs.List.{list_any}
-use Rattle.std.specs.Option.{unwrap_or}
 use Rattle.std.proofs.lemmas.Bool.{eqb-true, eqb-false}
 use Rattle.std.proofs.lemmas.Bool.Decides.{nat_tests}
-use Rattle.std.proofs.lemmas.List.{length-replicate, get_or-replicate, get_or-set_same, get_or-set_other, get_or_past}
+use Rattle.std.proofs.lemmas.List.{length-replicate, get_or-replicate, get_or-set_other, get_or_past}
 use Rattle.std.proofs.lemmas.Option.{unwrap_or-slice_get}
 use Rattle.script_grammar.specs.declared.tree.StatementDecl.{StatementDecl}
 use Rattle.script_grammar.specs.declared.tree.StatementDecl.TheVariants as statement
 use Rattle.script_reader.specs.declared.fault.ScriptCause.TheVariants.{BadReply}
-use Rattle.script_faults.specs.declared.first.Fault.{Fault}
 use Rattle.script_faults.specs.First.{fault_if}
-use Rattle.script_faults.specs.Faults.{may_reply, reply_fault, reply_faults, with_number}
-use Rattle.script_faults.specs.Open.{closed, is_open, open_after, open_fault, open_faults}
+use Rattle.script_faults.specs.Faults.{may_reply, reply_faults}
+use Rattle.script_faults.specs.Open.{closed, is_open, open_faults}
 
 -- the marks say which of so many patterns may be replied to behind these replies
 abbrev Stands : List Bool → ℕ → List ℕ → Type 0
