@@ -1,6 +1,7 @@
 -- In a linked run with stamps each stamp but 1 is 1 more than another, and so none is greater than the number of arrivals.
-use Rattle.std.proofs.Common.{◌≡◌, ◌∙◌, ◌⊎◌, inl, inr, ℕ, zero, suc, ◌+◌, ◌≤◌, max, List, [], ◌∷◌, ◌++◌, length, map, Bool, true, false, cond, Option, None, Some, slice_get, refl, ap, sym, subst, arith}
+use Rattle.std.proofs.Common.{◌≡◌, ◌∙◌, ◌⊎◌, inl, inr, ℕ, zero, suc, ◌+◌, ◌<◌, ◌≤◌, max, List, [], ◌∷◌, ◌++◌, length, map, Bool, true, false, cond, Option, None, Some, slice_get, refl, ap, sym, subst, arith}
 use Rattle.std.specs.Prelude.{if◌then◌else◌, nat_le, ◌==◌}
+use Rattle.std.specs.List.Sorted.{IsStrictlyIncreasing}
 use Rattle.std.specs.List.{cons_option, filter_map, flat_map}
 use Rattle.std.proofs.lemmas.List.{length-map}
 use Rattle.std.proofs.lemmas.Bool.{cases_lt}
@@ -20,8 +21,8 @@ use Rattle.actor_turn.specs.declared.run.ActorRun.{ActorRun}
 use Rattle.actor_turn.specs.declared.run.Run.{Run}
 use Rattle.actor_turn.specs.Fair.{Sent, fair_run, setting_of}
 use Rattle.actor_turn.specs.Step.{opening}
-use Rattle.actor_turn.specs.Linked.{arrived_after, effect_for, entry_posts, firing_effects, given, in_version, posts_in, posts_of, stamp_at, IsLinkedActor}
-use Rattle.actor_turn.specs.StampLaw.{StampsAreFew, arrivals_of}
+use Rattle.actor_turn.specs.Linked.{arrived_after, effect_for, entry_posts, firing_effects, given, in_version, posts_in, posts_of, stamp_at, taken_from, IsLinkedActor}
+use Rattle.actor_turn.specs.StampLaw.{StampsAreFew, StampsFollow, StampsRise, arrivals_of}
 use Rattle.actor_turn.proofs.ChainLemmas.{Records, adds}
 use Rattle.actor_turn.proofs.LinkedLemmas.{feed_unstamped}
 
@@ -177,3 +178,32 @@ stamps_are_few plan limits feeds run linked version entry h =
         (λ y j. entry_known run.actors own.0 y own.1 j) (recorded_given plan limits feeds run place.0 own.0 actor version) e.0 own.2 in
         let same : before.0 ≡ n = omega (arith, before.1, e.2) in
         subst (ZeroOr (Known run.actors)) same before.2
+
+rises : (latest : ℕ) (sent : List Sent) (entries : List Entry) → Records latest sent entries → IsStrictlyIncreasing (map stamp_of_entry entries)
+rises latest sent [] records k l = absurd (omega arith)
+rises latest sent (x ∷ []) records k l = absurd (omega arith)
+rises latest [] (x ∷ y ∷ entries) records k l = absurd records
+rises latest (s ∷ []) (x ∷ y ∷ entries) records k l = absurd records.1
+rises latest (s ∷ t ∷ sent) (x ∷ y ∷ entries) records zero l = let next = records.1.0.stamp in omega arith
+rises latest (s ∷ t ∷ sent) (x ∷ y ∷ entries) records (suc k) l = let e : suc k + 1 ≡ suc (k + 1) = omega arith in rw e (rises x.stamp (t ∷ sent) (y ∷ entries) records.1 k (omega arith))
+
+pub stamps_rise : StampsRise
+stamps_rise plan limits feeds run linked version actor own is =
+    rises 0 (given plan feeds run actor own.entries) own.entries (recorded_given plan limits feeds run actor own (linked.each actor own is) version)
+
+-- a record has a greater stamp than its message
+follows : (posts : Source → List Stamped) (rest : List Sent) (before entries : List Entry) (latest : ℕ) → Records latest (arrived_after posts before entries ++ rest) entries
+    → (k : ℕ) (e : Entry) (s : Sent) → slice_get entries k ≡ Some e → slice_get (arrived_after posts before entries) k ≡ Some s → s.1.stamp < e.stamp
+follows posts rest before [] latest records k e s found sent = absurd cc
+follows posts rest before (x ∷ entries) latest records zero e s found sent =
+    let entry : x ≡ e = cc in
+    let carried : Sent = (x.source, record { message = x.message; stamp = stamp_at (slice_get (posts x.source) (length (taken_from x.source before))) }) in
+    let message : carried ≡ s = cc in
+    let stamp = records.0.stamp in
+    let here : carried.1.stamp < x.stamp = omega arith in
+    subst (λ (y : Entry). s.1.stamp < y.stamp) entry (subst (λ (t : Sent). t.1.stamp < x.stamp) message here)
+follows posts rest before (x ∷ entries) latest records (suc k) e s found sent = follows posts rest (before ++ x ∷ []) entries x.stamp records.1 k e s found sent
+
+pub stamps_follow : StampsFollow
+stamps_follow plan limits feeds run linked version actor own is =
+    follows (λ source. posts_of feeds run.actors source actor) _ [] own.entries 0 (recorded_given plan limits feeds run actor own (linked.each actor own is) version)
