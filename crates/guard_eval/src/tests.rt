@@ -5,7 +5,7 @@ ghost use Rattle.guard_eval.specs.Shape.{conjunct_condition};
 use crate::{
     Atom, Conjunct, ConjunctList, Leaf, Operand, Place, Signed, Term, WordsLeaf, decided, holds,
 };
-use join_base::{Items, Letters, NoMemory, Relation, Slots, Text};
+use join_base::{Items, NoMemory, Relation, Slots, Text};
 use std::alloc::Global;
 use std::test::Fail;
 
@@ -99,7 +99,7 @@ fn compare(alloc: Global, left: i64, relation: Relation, right: i64) -> Result<b
         relation,
         right,
     })?;
-    Ok(holds(&conjunct, &Slots::new(1), &Letters::new(alloc)))
+    Ok(holds(&conjunct, &Slots::new(1), &[]))
 }
 
 #[test]

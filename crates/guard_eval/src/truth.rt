@@ -9,7 +9,7 @@ ghost use Rattle.guard_eval.specs.Shape.{atom_condition, conjunct_condition};
 use crate::conjunct::{Atom, Conjunct};
 use crate::sums::sum;
 use crate::term::{Operand, Place, WordsLeaf};
-use join_base::{Letters, Relation, Slots, Value};
+use join_base::{Message, Relation, Slots, Value, letter};
 
 fn int_relation(relation: Relation, left: i128, right: i128) -> bool
     ensures { result ≡ int_relation relation left right }
@@ -47,14 +47,14 @@ fn words_of(value: &Value) -> &[u8]
 }
 
 // The text that a variable has.
-fn place_words<'a>(place: Place, slots: &Slots, letters: &'a Letters) -> &'a [u8]
+fn place_words<'a>(place: Place, slots: &Slots, letters: &'a [Message]) -> &'a [u8]
     requires { IsWordsReady letters.now slots.now place }
     ensures value { result.now ≡ words_of (value_at letters.now slots.now place) }
     ensures text { IsText 120 result.now }
 {
     match slots.get(place.pattern) {
         Some(number) => {
-            let message = letters.at((number - 1) as usize);
+            let message = letter(letters, number);
             words_of(message.fields.at(place.field as usize))
         }
         None => &[],
@@ -62,7 +62,7 @@ fn place_words<'a>(place: Place, slots: &Slots, letters: &'a Letters) -> &'a [u8
 }
 
 /// The text of a leaf, of at most 120 bytes.
-pub fn words<'a>(leaf: &'a WordsLeaf, slots: &Slots, letters: &'a Letters) -> &'a [u8]
+pub fn words<'a>(leaf: &'a WordsLeaf, slots: &Slots, letters: &'a [Message]) -> &'a [u8]
     requires { AreReady letters.now slots.now (words_needs leaf.now) }
     ensures value { result.now ≡ words_value letters.now slots.now leaf.now }
     ensures text { IsText 120 result.now }
@@ -79,7 +79,7 @@ fn compares(
     relation: Relation,
     right: &Operand,
     slots: &Slots,
-    letters: &Letters,
+    letters: &[Message],
 ) -> bool
     requires left { AreReady letters.now slots.now (operand_needs left.now) }
     requires right { AreReady letters.now slots.now (operand_needs right.now) }
@@ -101,7 +101,7 @@ fn compares(
 }
 
 #[cycle(holds)]
-fn atom_holds(atom: &Atom, slots: &Slots, letters: &Letters) -> bool
+fn atom_holds(atom: &Atom, slots: &Slots, letters: &[Message]) -> bool
     requires ready { AreReady letters.now slots.now (needs_of (atom_condition atom.now)) }
     ensures { result ≡ is_true letters.now slots.now (atom_condition atom.now) }
 {
@@ -119,7 +119,7 @@ fn atom_holds(atom: &Atom, slots: &Slots, letters: &Letters) -> bool
 /// Whether a conjunct is true at an assignment: one of its atoms is. The patterns of its variables are filled with
 /// numbers of recorded messages, whose fields have the types that the conjunct needs.
 #[cycle(holds)]
-pub fn holds(conjunct: &Conjunct, slots: &Slots, letters: &Letters) -> bool
+pub fn holds(conjunct: &Conjunct, slots: &Slots, letters: &[Message]) -> bool
     requires ready { AreReady letters.now slots.now (needs_of (conjunct_condition conjunct.now)) }
     ensures { result ≡ is_true letters.now slots.now (conjunct_condition conjunct.now) }
 {

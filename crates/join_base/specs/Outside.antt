@@ -1,5 +1,5 @@
 -- What the outside holds, where it tells, and when it may refuse.
-use Rattle.std.specs.Prelude.{◌≡◌, ◌⊎◌, ℕ, ◌+◌, ◌-◌, ◌^◌, ◌≤◌, ◌<◌, min, List, [], ◌∷◌, ◌++◌, length, take, Option, None, Some, Result, Ok, Err, OnErr, if◌then◌else◌}
+use Rattle.std.specs.Prelude.{◌≡◌, ◌⊎◌, ℕ, ◌+◌, ◌-◌, ◌^◌, ◌≤◌, ◌<◌, min, List, [], ◌∷◌, ◌++◌, length, take, Option, None, Some, Result, Ok, Err, if◌then◌else◌}
 use Rattle.std.specs.Str.{bytes_eq}
 use Rattle.join_base.specs.declared.outside.FetchFault.{FetchFault}
 use Rattle.join_base.specs.declared.outside.FetchFault.TheVariants.{Failed, TooLong, NoMemory}
@@ -55,15 +55,22 @@ FetchTells None (Some now) name max result = ⊥
 FetchTells (Some before) None name max result = ⊥
 FetchTells (Some before) (Some now) name max result = Fetches before now name max result
 
--- a fetch fails only where the count of faults rose, and the count never falls
-pub record FetchCause (before now : ℕ) (result : Result (List ℕ) FetchFault) : Type 0 where
+-- a count of faults rose, and did not fall
+pub record Rises (before now : ℕ) : Type 0 where
   pub later : before ≤ now
-  pub failed : result ≡ Err Failed → Rose before now
+  pub rose : Rose before now
 
--- the same of a write
-pub record WriteCause {T E : Type 0} (before now : ℕ) (result : Result T E) : Type 0 where
-  pub later : before ≤ now
-  pub failed : OnErr result (Rose before now)
+-- the count of faults rises where a fetch fails, and is as before at every other answer
+abbrev pub FetchCause : ℕ → ℕ → Result (List ℕ) FetchFault → Type 0
+FetchCause before now (Ok bytes) = now ≡ before
+FetchCause before now (Err Failed) = Rises before now
+FetchCause before now (Err TooLong) = now ≡ before
+FetchCause before now (Err NoMemory) = now ≡ before
+
+-- it rises where a write fails, and is as before where bytes were taken
+abbrev pub WriteCause : {T E : Type 0} → ℕ → ℕ → Result T E → Type 0
+WriteCause {T} {E} before now (Ok count) = now ≡ before
+WriteCause {T} {E} before now (Err fault) = Rises before now
 
 -- the bytes taken have grown by the first of the piece; at a fault they are as before
 abbrev pub WriteTells : {E : Type 0} → Option (List ℕ) → Option (List ℕ) → List ℕ → Result ℕ E → Type 0

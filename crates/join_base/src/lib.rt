@@ -1,4 +1,15 @@
-//! Values, messages, assignments, lists, and the outside: what every layer speaks of.
+//! Values, messages, assignments, lists, texts, quoting, and the outside: what every layer speaks of.
+//!
+//! - **Lists**: `Items<T>` is seen as a list, and its calls do what they do on one.
+//! - **Texts**: `Bytes`, `Text` (at most 120 bytes), `Line` (at most 1,920), `Name` and `Word` are seen as their bytes. A `Text` and a
+//!   `Line` are UTF-8, and a `Name` is no keyword: that is part of the type, and `bytes` tells it.
+//! - **Messages**: `Value`, `Fields` (at most 8 values), `Message`, `Stamped`, `Source`; `letter` is the message of an arrival number.
+//! - **Assignments**: `Slots` and `Numbers`, which take no memory, are seen as lists of at most 8. `Steps` counts without memory.
+//! - **Quoting**: `write_quoted` and `read_quoted` are exact for the quoted form; by `quoted_law` none begins another.
+//! - **Integers**: `read_integer` and `write_number`, in decimal.
+//! - **The outside**: the traits `Inputs` and `Sink`, with `MemoryInputs` and `MemorySink` over memory.
+//!
+//! Only tested: that calls succeed where memory is ample, and what the texts of errors say.
 #![tactic(auto)]
 
 mod integer;
@@ -18,6 +29,7 @@ pub use items::{Items, NoMemory};
 pub use memory::{MemoryInputs, MemorySink};
 pub use message::{
     FeedList, Fields, Letters, Message, Posts, PushFault, Relation, Sort, Source, Stamped, Value,
+    letter,
 };
 pub use outside::{Failed, FetchFault, Inputs, Sink};
 pub use quoted::{
@@ -25,4 +37,4 @@ pub use quoted::{
 };
 pub use slots::{Numbers, Slots};
 pub use steps::Steps;
-pub use text::{Bytes, Line, Name, Text, TextFault, Word, WordList};
+pub use text::{Bytes, Line, Name, Text, TextFault, Word, WordList, byte_at};

@@ -1,5 +1,5 @@
 //! What actors send each other.
-ghost use Rattle.std.specs.Prelude.{◌≡◌, ◌∷◌, [], ◌++◌, ◌<◌, ◌≤◌, length, IfOk, OnOk, OnErr, Err, slice_get, Some};
+ghost use Rattle.std.specs.Prelude.{◌≡◌, ◌∷◌, [], ◌++◌, ◌-◌, ◌<◌, ◌≤◌, length, IfOk, OnOk, OnErr, Err, slice_get, Some};
 
 use crate::items::{Items, NoMemory};
 use crate::text::Text;
@@ -175,8 +175,17 @@ pub enum Relation {
     GreaterEqual,
 }
 
-/// The recorded messages of an actor. Arrival n is the message at place n - 1.
+/// The recorded messages of an actor, as a list of their own. Arrival n is the message at place n - 1.
 pub type Letters = Items<Message>;
+
+/// The message of an arrival.
+pub fn letter(letters: &[Message], number: u32) -> &Message
+    requires some { 1 ≤ number }
+    requires within { number ≤ length letters.now }
+    ensures item { slice_get letters.now (number - 1) ≡ Some result.now }
+{
+    &letters[(number - 1) as usize]
+}
 
 /// Messages, each with the actor that it is for.
 pub type Posts = Items<(u32, Message)>;

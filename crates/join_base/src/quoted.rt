@@ -8,14 +8,17 @@ ghost use Rattle.join_base.specs.Quoted.{is_control, byte_form, quoted, Unquotes
 ghost use Rattle.join_base.specs.Unquoted.{hex_value, hex_byte, is_hex_escaped, hex_escape, escape, form_of, form_at, IsFront};
 
 use crate::items::NoMemory;
-use crate::text::{Bytes, Line, Text};
+use crate::text::{Bytes, Line, Text, byte_at};
 use std::alloc::{AllocError, Global};
+use thiserror::Error;
 
 /// Why no text was read.
-#[derive(Clone, Copy, PartialEq, Eq, Debug)]
+#[derive(Clone, Copy, PartialEq, Eq, Debug, Error)]
 pub enum QuoteFault {
     /// No quoted form of a text that is short enough begins there.
+    #[error("no quoted text")]
     BadQuote,
+    #[error("out of memory")]
     NoMemory,
 }
 
@@ -143,13 +146,6 @@ fn escape(letter: u8, high: u8, low: u8) -> Option<(u8, usize)>
         b'x' => hex_escape(high, low),
         _ => None,
     }
-}
-
-// The byte at a place, or 0 past the end.
-fn byte_at(bytes: &[u8], place: usize) -> u8
-    ensures { result ≡ slice_index bytes.now place }
-{
-    if place < bytes.len() { bytes[place] } else { 0 }
 }
 
 // The byte whose form stands in front, and the length of this form.

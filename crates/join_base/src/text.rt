@@ -1,11 +1,19 @@
 //! Bytes, names, words and texts. Contracts see each of them as a list of bytes.
-ghost use Rattle.std.specs.Prelude.{◌≡◌, [], ◌++◌, ◌<◌, ◌≤◌, length, take, IfOk, OnOk, OnErr, ◌↔◌, Err, true};
+ghost use Rattle.std.specs.Prelude.{◌≡◌, [], ◌++◌, ◌<◌, ◌≤◌, length, slice_index, take, IfOk, OnOk, OnErr, ◌↔◌, Err, true};
 ghost use Rattle.std.specs.Str.{IsUtf8};
 ghost use Rattle.join_base.specs.Text.{IsText, is_name};
 
 use crate::items::{Items, NoMemory};
 use std::alloc::{AllocError, Global};
 use std::marker::Model;
+use thiserror::Error;
+
+/// The byte at a place, counted from 0, or 0 past the end.
+pub fn byte_at(bytes: &[u8], place: usize) -> u8
+    ensures { result ≡ slice_index bytes.now place }
+{
+    if place < bytes.len() { bytes[place] } else { 0 }
+}
 
 /// Bytes that grow at their end.
 #[derive(Drop)]
@@ -68,12 +76,15 @@ impl Bytes {
 }
 
 /// Why bytes are no text of a kind.
-#[derive(Clone, Copy, PartialEq, Eq, Debug)]
+#[derive(Clone, Copy, PartialEq, Eq, Debug, Error)]
 pub enum TextFault {
     /// They are not UTF-8.
+    #[error("not UTF-8")]
     NotText,
     /// They are UTF-8, and too many.
+    #[error("too long")]
     TooLong,
+    #[error("out of memory")]
     NoMemory,
 }
 
@@ -209,7 +220,8 @@ impl Line {
     }
 }
 
-/// The name of an actor, a kind, a field or a variable: 1 to 64 ASCII letters, digits and `_`, the first no digit.
+/// The name of an actor, a kind, a field or a variable: 1 to 64 ASCII letters, digits and `_`, the first no digit. It is no
+/// keyword of a script, and not `_` alone.
 #[derive(Drop)]
 pub struct Name {
     bytes: Vec<u8>,
@@ -244,6 +256,7 @@ impl Name {
 
     pub fn copy(&self, alloc: Global) -> Result<Name, NoMemory>
         ensures equal { IfOk result (λ n. n ≡ self.now) }
+        ensures is_name { is_name self.now ≡ true }
     {
         let bytes = self.bytes.as_slice().to_vec(alloc)?;
         Ok(Name { bytes })

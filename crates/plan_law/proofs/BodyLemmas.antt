@@ -20,7 +20,7 @@ use Rattle.script_grammar.specs.Phrases.{some}
 use Rattle.script_grammar.specs.Grammar as g
 use Rattle.script_names.specs.Names.{names_of, number_of}
 use Rattle.script_names.specs.Scope.{Variable, actor_rows, sort_of}
-use Rattle.script_reader.specs.declared.fault.ScriptCause.TheVariants.{UnknownActor}
+use Rattle.script_grammar.specs.declared.fault.ScriptCause.TheVariants.{UnknownActor}
 use Rattle.script_faults.specs.First.{fault_if, too_many}
 use Rattle.script_faults.specs.Faults.{count_faults, fields_of, fields_or_none, item_faults, item_place, operand_faults, post_faults, print_faults, statement_faults, term_faults, type_faults}
 use Rattle.script_types.specs.declared.plan.Item.TheVariants as item

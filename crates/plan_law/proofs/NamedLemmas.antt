@@ -16,13 +16,14 @@ use Rattle.script_grammar.specs.declared.tree.Tree.{Tree}
 use Rattle.script_names.specs.declared.scope.Slot.{Slot}
 use Rattle.script_names.specs.Names.{item_of, names_of, number_of}
 use Rattle.script_names.specs.Scope.{Variable, actor_number, actor_rows, message_number, message_rows, sort_at, sorts_of, variable_at, variables_from, variables_in, variables_of}
-use Rattle.script_reader.specs.declared.fault.ScriptCause.TheVariants.{UnknownActor}
+use Rattle.script_grammar.specs.declared.fault.ScriptCause.TheVariants.{UnknownActor}
 use Rattle.script_faults.specs.First.{fault_if}
 use Rattle.script_faults.specs.Faults.{count_faults, fields_of, name_faults}
 use Rattle.script_plan.specs.PlanOf.{actor_of, kind_number, kind_of, names_in, or_zero, place_of, plan_of, slot_place, target_number}
 use Rattle.script_plan.proofs.SmallLemmas.{each_append}
 use Rattle.script_check.proofs.SmallLemmas.{at_number, each_one}
-use Rattle.plan_text.specs.PlanNames.{Row, Variables, actor_name, kind_name, name_of_actor, name_of_kind, name_or_empty, row_of, variable_name}
+use Rattle.plan_text.specs.PlanNames.{Row, Variables, name_or_empty, row_of, variable_name}
+use Rattle.script_types.specs.Names.{actor_name, kind_name, name_of_actor, name_of_kind}
 
 -- ---- the name at the number of a name
 

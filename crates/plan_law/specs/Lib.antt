@@ -1,1 +1,2 @@
+-- the law
 pub mod Printed

@@ -1,3 +1,4 @@
+-- the text of a plan
+pub mod PlanText
 pub mod GuardText
 pub mod PlanNames
-pub mod PlanText

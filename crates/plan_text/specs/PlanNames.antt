@@ -1,12 +1,9 @@
--- The names that the numbers and places of a plan stand for. A number or a place that the plan has not gives the
--- empty name; a plan that was checked has none.
+-- The names that the places of a plan stand for. A place that the plan has not gives the empty name; a plan that was checked
+-- has none.
 use Rattle.std.specs.Prelude.{ℕ, List, [], Option, None, Some, slice_get, codes}
 use Rattle.join_base.specs.declared.message.Sort.{Sort}
 use Rattle.join_base.specs.declared.message.Sort.TheVariants as sort
 use Rattle.guard_eval.specs.declared.term.Place.{Place}
-use Rattle.script_types.specs.declared.plan.Plan.{Plan}
-use Rattle.script_types.specs.declared.plan.Kind.{Kind}
-use Rattle.script_types.specs.declared.plan.ActorPlan.{ActorPlan}
 
 -- the variables of a pattern, a name or the blank for each field
 abbrev pub Row : Type 0
@@ -15,20 +12,6 @@ Row = List (Option (List ℕ))
 -- the variables of a rule, a row for each pattern
 abbrev pub Variables : Type 0
 Variables = List Row
-
-abbrev pub kind_name : Option Kind → List ℕ
-kind_name None = []
-kind_name (Some kind) = kind.name
-
-abbrev pub actor_name : Option ActorPlan → List ℕ
-actor_name None = []
-actor_name (Some actor) = actor.name
-
-abbrev pub name_of_kind : Plan → ℕ → List ℕ
-name_of_kind plan kind = kind_name (slice_get plan.kinds kind)
-
-abbrev pub name_of_actor : Plan → ℕ → List ℕ
-name_of_actor plan actor = actor_name (slice_get plan.actors actor)
 
 abbrev pub row_or_empty : Option Row → Row
 row_or_empty None = []

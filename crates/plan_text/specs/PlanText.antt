@@ -11,7 +11,8 @@ use Rattle.script_types.specs.declared.plan.Item.{Item}
 use Rattle.script_types.specs.declared.plan.Item.TheVariants as item
 use Rattle.script_types.specs.declared.plan.Statement.{Statement}
 use Rattle.script_types.specs.declared.plan.Statement.TheVariants.{Print, Post, Stop, Reply}
-use Rattle.plan_text.specs.PlanNames.{Row, Variables, name_of_actor, name_of_kind, sort_name, variable_name}
+use Rattle.plan_text.specs.PlanNames.{Row, Variables, sort_name, variable_name}
+use Rattle.script_types.specs.Names.{name_of_actor, name_of_kind}
 use Rattle.plan_text.specs.GuardText.{guard_text, operand_text, term_text, words_text}
 
 -- the end of a line, LF

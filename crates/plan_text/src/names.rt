@@ -1,31 +1,13 @@
-//! The names that numbers and places stand for. Each is empty where the plan has none, which no checked plan needs.
+//! The names that places stand for. Each is empty where the plan has none, which no checked plan needs.
 ghost use Rattle.std.specs.Prelude.{◌≡◌, ◌++◌, OnOk};
-ghost use Rattle.plan_text.specs.PlanNames.{name_of_actor, name_of_kind, row_of, sort_name, variable_name};
+ghost use Rattle.plan_text.specs.PlanNames.{row_of, sort_name, variable_name};
+ghost use Rattle.script_types.specs.Names.{name_of_actor, name_of_kind};
 
 use guard_eval::Place;
 use join_base::{Bytes, Items, Name, NoMemory, Sort};
-use script_types::Plan;
 
 /// The variables of a pattern: a name for each field, or `None` for the blank.
 pub(crate) type Row = Items<Option<Name>>;
-
-pub(crate) fn write_kind_name(text: &mut Bytes, plan: &Plan, kind: u32) -> Result<(), NoMemory>
-    ensures { OnOk result (text.new ≡ text.old ++ name_of_kind plan.now kind) }
-{
-    match plan.kinds.as_slice().get(kind as usize) {
-        Some(kind) => text.push_all(kind.name.bytes()),
-        None => Ok(()),
-    }
-}
-
-pub(crate) fn write_actor_name(text: &mut Bytes, plan: &Plan, actor: u32) -> Result<(), NoMemory>
-    ensures { OnOk result (text.new ≡ text.old ++ name_of_actor plan.now actor) }
-{
-    match plan.actors.as_slice().get(actor as usize) {
-        Some(actor) => text.push_all(actor.name.bytes()),
-        None => Ok(()),
-    }
-}
 
 // The variables of the pattern at a place.
 pub(crate) fn row_of(variables: &[Row], pattern: usize) -> &[Option<Name>]

@@ -4,10 +4,10 @@ ghost use Rattle.std.specs.List.{flat_map, join_by};
 ghost use Rattle.plan_text.specs.PlanText.{pattern_text, patterns_of, rule_lines, variable_text, when_line, window_text};
 
 use crate::guards::write_guard;
-use crate::names::{Row, row_of, write_kind_name};
+use crate::names::{Row, row_of};
 use crate::statements::write_body;
 use join_base::{Bytes, Name, NoMemory, write_number};
-use script_types::{Plan, Rule};
+use script_types::{Plan, Rule, write_kind_name};
 
 fn write_name_or_blank(text: &mut Bytes, name: &Option<Name>) -> Result<(), NoMemory>
     ensures { OnOk result (text.new ≡ text.old ++ variable_text name.now) }

@@ -4,11 +4,11 @@ ghost use Rattle.std.specs.List.{flat_map, join_by};
 ghost use Rattle.plan_text.specs.GuardText.{operand_text};
 ghost use Rattle.plan_text.specs.PlanText.{item_text, statement_line, statement_text};
 
-use crate::names::{Row, write_actor_name, write_kind_name, write_variable};
+use crate::names::{Row, write_variable};
 use crate::terms::{write_operand, write_term, write_words};
 use guard_eval::Operand;
 use join_base::{Bytes, NoMemory, write_number};
-use script_types::{Item, Plan, Statement};
+use script_types::{Item, Plan, Statement, write_actor_name, write_kind_name};
 
 fn write_item(text: &mut Bytes, variables: &[Row], item: &Item) -> Result<(), NoMemory>
     ensures { OnOk result (text.new ≡ text.old ++ item_text variables.now item.now) }

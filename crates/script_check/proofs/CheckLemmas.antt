@@ -11,6 +11,7 @@ use Rattle.script_plan.specs.PlanOf.{plan_of}
 use Rattle.script_plan.specs.Small.{IsSmall}
 use Rattle.script_check.specs.Types.{IsFaultOf, NoBoth, OneFault, OnePlan, Types}
 use Rattle.script_check.proofs.LeastLemmas.{at_member, least_first, none_first, one_fault}
+use Rattle.script_types.specs.Names.{HasNames}
 use Rattle.script_types.specs.Typed.{IsTyped}
 use Rattle.script_check.proofs.SmallLemmas.{small_tree}
 use Rattle.script_check.proofs.PlanLemmas.{plan_typed}
@@ -39,5 +40,5 @@ one_fault_of tree place place' cause cause' f g =
     (at_member (λ (h : Fault). is_before h (fault cause' place') ≡ false) (faults_of tree) (fault cause place) g.least f.stands)
     (at_member (λ (h : Fault). is_before h (fault cause place) ≡ false) (faults_of tree) (fault cause' place') f.least g.stands)
 
-pub typed_plan : (tree : Tree) (plan : Plan) → IsFilled tree → None ≡ first_fault tree → plan ≡ plan_of tree → IsTyped plan
-typed_plan tree plan filled none is = subst IsTyped (sym is) (plan_typed tree filled (none_first (faults_of tree) (sym none)))
+pub typed_plan : (tree : Tree) (plan : Plan) → IsFilled tree → None ≡ first_fault tree → plan ≡ plan_of tree → HasNames plan → IsTyped plan
+typed_plan tree plan filled none is names = subst IsTyped (sym is) (plan_typed tree filled (none_first (faults_of tree) (sym none)) (subst HasNames is names))

@@ -1,6 +1,8 @@
 pub mod LeastLemmas
 pub mod NumberLemmas
 pub mod SmallLemmas
+pub mod NameLemmas
+pub mod CountLemmas
 pub mod CheckLemmas
 pub mod VariableLemmas
 pub mod TypedLemmas

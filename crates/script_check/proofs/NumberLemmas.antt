@@ -4,8 +4,8 @@ use Rattle.std.specs.Prelude.{nat_le, unsigned_abs}
 use Rattle.std.specs.List.{AllByRecursion, IsDistinct, filter_map, list_any}
 use Rattle.std.proofs.lemmas.Bool.{leb-true}
 use Rattle.std.proofs.lemmas.Bool.Decides.{nat_tests}
-use Rattle.script_reader.specs.declared.fault.ScriptCause.{ScriptCause}
-use Rattle.script_reader.specs.declared.fault.ScriptCause.TheVariants.{BadReply, BadWindow}
+use Rattle.script_grammar.specs.declared.fault.ScriptCause.{ScriptCause}
+use Rattle.script_grammar.specs.declared.fault.ScriptCause.TheVariants.{BadReply, BadWindow}
 use Rattle.script_grammar.specs.declared.tree.StatementDecl.{StatementDecl}
 use Rattle.script_grammar.specs.declared.tree.StatementDecl.TheVariants as s
 use Rattle.script_grammar.specs.declared.tree.Tree.{Tree}

@@ -19,14 +19,19 @@ use Rattle.script_grammar.specs.declared.tree.ActorDecl.{ActorDecl}
 use Rattle.script_grammar.specs.declared.tree.Tree.{Tree}
 use Rattle.script_names.specs.declared.scope.Slot.{Slot}
 use Rattle.script_names.specs.Names.{names_of, number_of}
-use Rattle.script_names.specs.Scope.{Variable, actor_rows, field_sorts, message_number, message_of, message_rows, operand_sort, sorts_in, sorts_of, variables_of}
+use Rattle.script_names.specs.Scope.{Variable, actor_rows, field_rows, field_sorts, message_number, message_of, message_rows, operand_sort, sorts_in, sorts_of, variables_of}
 use Rattle.script_names.proofs.NameLemmas.{number_within}
-use Rattle.script_reader.specs.declared.fault.ScriptCause.TheVariants.{UnknownActor}
+use Rattle.script_grammar.specs.declared.fault.ScriptCause.TheVariants.{UnknownActor}
 use Rattle.script_faults.specs.First.{fault_if, too_many}
 use Rattle.script_faults.specs.Faults.{Comparing, actor_faults, body_faults, comparison_faults, count_faults, faults_of, fields_of, fields_or_none, guard_comparisons, guard_faults, item_faults, item_place, message_faults, operand_faults, operand_place, own_place, pattern_faults, patterns_faults, post_faults, reply_faults, rule_faults, statement_faults, statement_place, stop_fault, stop_faults, twice_declared, type_faults, window_faults, wrong_type}
 use Rattle.script_plan.specs.PlanOf.{actor_of, field_of, kind_of, kind_number, names_in, operand_of, or_zero, pattern_of, plan_of, print_item, rule_of, statement_of, target_number, window_of}
-use Rattle.script_types.specs.Typed.{IsNoStop, IsTyped, IsTypedActor, IsTypedItem, IsTypedKind, IsTypedOperand, IsTypedPost, IsTypedRule, IsTypedStatement, IsTypedWindow, StopsLast, TakeFields, TakesFields, type_of}
+use Rattle.script_types.specs.declared.plan.Kind.{Kind}
+use Rattle.script_types.specs.declared.plan.Rule.{Rule}
+use Rattle.script_types.specs.Names.{AreNames, AreOwnNames, HasNames, field_names}
+use Rattle.script_types.specs.Typed.{ComparesFew, IsNoStop, IsTyped, IsTypedActor, IsTypedItem, IsTypedKind, IsTypedOperand, IsTypedPost, IsTypedRule, IsTypedStatement, IsTypedWindow, StopsLast, TakeFields, TakesFields, type_of}
 use Rattle.script_check.proofs.NumberLemmas.{left_none, right_none, NumberFits, numbers_fit, replies_once, window_fits}
+use Rattle.script_check.proofs.CountLemmas.{count_guard}
+use Rattle.script_check.proofs.NameLemmas.{own_actors, own_fields, own_kinds}
 use Rattle.script_check.proofs.SmallLemmas.{each_none, each_one, few, right_count, small_fields}
 use Rattle.script_check.proofs.VariableLemmas.{HasFields, all_fields, field_types-of, sorts_by}
 use Rattle.script_check.proofs.TypedLemmas.{AreFields, operand_type, same_of, typed_guard, typed_item, typed_operand}
@@ -206,6 +211,9 @@ window_typed (Some number) none = window_fits number none
 abbrev pattern_place : PatternDecl → ℕ
 pattern_place p = p.kind.place
 
+abbrev comparison_place : Comparing → ℕ
+comparison_place c = operand_place c.left
+
 abbrev slot_place_of : Slot → ℕ
 slot_place_of slot = slot.place
 
@@ -247,11 +255,32 @@ rule_typed tree rule filled none =
       reply_once = replies_once tree vs (length rule.patterns) [] rule.body no_reply;
     }
 
+compares_few : (tree : Tree) (rule : RuleDecl) → rule_faults tree.messages (actor_rows tree.actors) rule ≡ [] → ComparesFew (rule_of tree rule).definition.conjuncts
+unfolding rule_of
+compares_few tree rule none =
+    let vs = variables_of tree.messages rule in
+    let cs = guard_comparisons rule.guard in
+    let patterns = patterns_faults tree.messages rule.patterns in
+    let twice = twice_declared slot_place_of vs in
+    let guard = guard_faults vs cs in
+    let body = body_faults tree.messages (actor_rows tree.actors) vs rule.body in
+    let window = window_faults rule.window in
+    let replies = reply_faults (length rule.patterns) [] rule.body in
+    let parts = left_none (patterns ++ twice ++ guard ++ body ++ window) replies none in
+    let three = left_none (patterns ++ twice ++ guard) body (left_none (patterns ++ twice ++ guard ++ body) window parts) in
+    let no_guard = right_none (patterns ++ twice) guard three in
+    omega (arith, count_guard vs rule.guard, few 64 comparison_place cs (left_none (too_many 64 comparison_place cs) (flat_map (comparison_faults vs) cs) no_guard))
+
 module _ (tree : Tree) where
   rules_typed : (rules : List RuleDecl) → AllByRecursion RuleFilled rules → AllByRecursion (λ (rule : RuleDecl). rule_faults tree.messages (actor_rows tree.actors) rule ≡ []) rules
       → AllByRecursion (IsTypedRule (length tree.actors) (sorts_by tree.messages)) (map (rule_of tree) rules)
   rules_typed [] fs ns = tt
   rules_typed (rule ∷ rules) fs ns = (rule_typed tree rule fs.0 ns.0, rules_typed rules fs.1 ns.1)
+
+  compare_few : (rules : List RuleDecl) → AllByRecursion (λ (rule : RuleDecl). rule_faults tree.messages (actor_rows tree.actors) rule ≡ []) rules
+      → AllByRecursion (λ (rule : Rule). ComparesFew rule.definition.conjuncts) (map (rule_of tree) rules)
+  compare_few [] ns = tt
+  compare_few (rule ∷ rules) ns = (compares_few tree rule ns.0, compare_few rules ns.1)
 
   actors_typed : (actors : List ActorDecl) → AllByRecursion ActorFilled actors → AllByRecursion (λ (actor : ActorDecl). actor_faults tree.messages (actor_rows tree.actors) actor ≡ []) actors
       → AllByRecursion (IsTypedActor (length tree.actors) (sorts_by tree.messages)) (map (actor_of tree) actors)
@@ -262,6 +291,7 @@ module _ (tree : Tree) where
       let count = length-map actor.rules (rule_of tree) in (
         record {
           few = omega (arith, count, few 16 (λ (r : RuleDecl). r.place) actor.rules (left_none many each ns.0));
+          few_comparisons = compare_few actor.rules (each_none (rule_faults tree.messages (actor_rows tree.actors)) actor.rules (right_none many each ns.0));
           each = rules_typed actor.rules fs.0 (each_none (rule_faults tree.messages (actor_rows tree.actors)) actor.rules (right_none many each ns.0));
         },
         actors_typed actors fs.1 ns.1,
@@ -271,8 +301,15 @@ kinds_typed : (messages : List MessageDecl) → AllByRecursion (λ (m : MessageD
 kinds_typed [] each = tt
 kinds_typed (m ∷ messages) each = (omega (arith, small_fields m each.0, length-map m.fields field_of), kinds_typed messages each.1)
 
-pub plan_typed : (tree : Tree) → IsFilled tree → faults_of tree ≡ [] → IsTyped (plan_of tree)
-plan_typed tree filled none =
+fields_named : (messages : List MessageDecl) → AllByRecursion (λ (m : MessageDecl). message_faults m ≡ []) messages
+    → AllByRecursion (λ (kind : Kind). AreNames (field_names kind)) (map kind_of messages) → AllByRecursion (λ (kind : Kind). AreOwnNames (field_names kind)) (map kind_of messages)
+fields_named [] each names = tt
+fields_named (m ∷ messages) each names =
+    let many = too_many 8 (λ (f : FieldDecl). f.name.place) m.fields in
+    (own_fields m (right_none many (twice_declared own_place (field_rows m.fields)) each.0) names.0, fields_named messages each.1 names.1)
+
+pub plan_typed : (tree : Tree) → IsFilled tree → faults_of tree ≡ [] → HasNames (plan_of tree) → IsTyped (plan_of tree)
+plan_typed tree filled none names =
     let rows = actor_rows tree.actors in
     let a = too_many 64 (λ (m : MessageDecl). m.name.place) tree.messages in
     let b = twice_declared own_place (message_rows tree.messages) in
@@ -283,12 +320,17 @@ plan_typed tree filled none =
     let five = left_none (a ++ b ++ c ++ d ++ e) f none in
     let four = left_none (a ++ b ++ c ++ d) e five in
     let three = left_none (a ++ b ++ c) d four in
+    let no_message = each_none message_faults tree.messages (right_none (a ++ b) c three) in
     let kind_count = length-map tree.messages kind_of in
     let actor_count = length-map tree.actors (actor_of tree) in
     record {
       few_kinds = omega (arith, kind_count, few 64 (λ (m : MessageDecl). m.name.place) tree.messages (left_none a b (left_none (a ++ b) c three)));
+      some_actors = omega (arith, actor_count, filled.actor);
       few_actors = omega (arith, actor_count, few 32 (λ (a : ActorDecl). a.name.place) tree.actors (right_none (a ++ b ++ c) d four));
-      kinds = kinds_typed tree.messages (each_none message_faults tree.messages (right_none (a ++ b) c three));
+      kind_names = own_kinds tree.messages (right_none a b (left_none (a ++ b) c three)) names.kinds;
+      actor_names = own_actors tree (right_none (a ++ b ++ c ++ d) e five) names.actors;
+      field_names = fields_named tree.messages no_message names.fields;
+      kinds = kinds_typed tree.messages no_message;
       actors = subst (λ (n : ℕ). AllByRecursion (IsTypedActor n (sorts_by tree.messages)) (map (actor_of tree) tree.actors)) (sym actor_count)
           (actors_typed tree tree.actors filled.actors (each_none (actor_faults tree.messages rows) tree.actors (right_none (a ++ b ++ c ++ d ++ e) f none)));
     }

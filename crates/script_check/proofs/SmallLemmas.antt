@@ -22,7 +22,7 @@ use Rattle.script_grammar.specs.declared.tree.ActorDecl.{ActorDecl}
 use Rattle.script_grammar.specs.declared.tree.Tree.{Tree}
 use Rattle.script_names.specs.declared.scope.Slot.{Slot}
 use Rattle.script_names.specs.Scope.{Variable, actor_rows, field_rows, message_number, message_of, message_rows, variables_of}
-use Rattle.script_reader.specs.declared.fault.ScriptCause.TheVariants.{WrongCount}
+use Rattle.script_grammar.specs.declared.fault.ScriptCause.TheVariants.{WrongCount}
 use Rattle.script_faults.specs.First.{fault_if, too_many}
 use Rattle.script_faults.specs.Faults.{Comparing, actor_faults, atom_comparisons, body_faults, comparison_faults, comparisons, count_faults, faults_of, guard_comparisons, guard_faults, item_faults, item_place, leaf_faults, message_faults, operand_faults, operand_place, own_place, pattern_faults, patterns_faults, reply_faults, rule_faults, statement_faults, statement_place, stop_faults, term_faults, twice_declared, window_faults}
 use Rattle.script_check.proofs.NumberLemmas.{left_none, right_none, NumberFits, numbers_fit, window_fits}

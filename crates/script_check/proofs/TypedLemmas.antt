@@ -27,7 +27,7 @@ use Rattle.script_grammar.specs.declared.tree.Tree.{Tree}
 use Rattle.script_names.specs.declared.scope.Slot.{Slot}
 use Rattle.script_names.specs.Names.{item_of}
 use Rattle.script_names.specs.Scope.{Variable, name_in, name_sort, only_name, operand_sort, sort_in, sort_of, variables_of}
-use Rattle.script_reader.specs.declared.fault.ScriptCause.TheVariants.{WrongType}
+use Rattle.script_grammar.specs.declared.fault.ScriptCause.TheVariants.{WrongType}
 use Rattle.script_types.specs.declared.plan.Item.{Item}
 use Rattle.script_types.specs.declared.plan.Item.TheVariants as item
 use Rattle.script_faults.specs.First.{fault_if, too_many}

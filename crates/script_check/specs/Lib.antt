@@ -1,1 +1,2 @@
+-- the answer of the checker
 pub mod Types

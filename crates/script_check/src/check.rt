@@ -5,9 +5,8 @@ ghost use Rattle.script_types.specs.Typed.{IsTyped};
 ghost use Rattle.script_check.specs.Types.{Checks, NoBoth, OneFault, OnePlan};
 
 use script_faults::first_fault;
-use script_grammar::Tree;
+use script_grammar::{ScriptFault, Tree};
 use script_plan::plan_of;
-use script_reader::ScriptFault;
 use script_types::Plan;
 use std::alloc::Global;
 

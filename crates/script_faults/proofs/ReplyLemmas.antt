@@ -8,7 +8,7 @@ use Rattle.std.proofs.lemmas.List.{length-replicate, get_or-replicate, get_or-se
 use Rattle.std.proofs.lemmas.Option.{unwrap_or-slice_get}
 use Rattle.script_grammar.specs.declared.tree.StatementDecl.{StatementDecl}
 use Rattle.script_grammar.specs.declared.tree.StatementDecl.TheVariants as statement
-use Rattle.script_reader.specs.declared.fault.ScriptCause.TheVariants.{BadReply}
+use Rattle.script_grammar.specs.declared.fault.ScriptCause.TheVariants.{BadReply}
 use Rattle.script_faults.specs.First.{fault_if}
 use Rattle.script_faults.specs.Faults.{may_reply, reply_faults}
 use Rattle.script_faults.specs.Open.{closed, is_open, open_faults}

@@ -1,7 +1,7 @@
 -- Which patterns may still be replied to, as a row of marks, one for each pattern.
 use Rattle.std.specs.Prelude.{ℕ, ◌-◌, Bool, false, not, ◌&&◌, nat_le, if◌then◌else◌, unsigned_abs, List, [], ◌∷◌, ◌++◌, slice_get, slice_set}
 use Rattle.std.specs.Option.{unwrap_or}
-use Rattle.script_reader.specs.declared.fault.ScriptCause.TheVariants.{BadReply}
+use Rattle.script_grammar.specs.declared.fault.ScriptCause.TheVariants.{BadReply}
 use Rattle.script_grammar.specs.declared.tree.StatementDecl.{StatementDecl}
 use Rattle.script_grammar.specs.declared.tree.StatementDecl.TheVariants as statement
 use Rattle.script_faults.specs.declared.first.Fault.{Fault}

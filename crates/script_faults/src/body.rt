@@ -7,9 +7,8 @@ ghost use Rattle.script_faults.specs.Faults.{body_faults, count_faults, field_am
 use crate::first::{Fault, note, note_if, note_too_many};
 use crate::placed::Placed;
 use crate::term::{is_same, note_name, note_operand, note_term, operand_sort};
-use script_grammar::{FieldDecl, ItemDecl, OperandDecl, Spelt, StatementDecl};
+use script_grammar::{FieldDecl, ItemDecl, OperandDecl, ScriptCause, Spelt, StatementDecl};
 use script_names::{Messages, NameTable, Slot};
-use script_reader::ScriptCause;
 
 /// What the names in a body mean.
 #[derive(Clone, Copy, Drop)]

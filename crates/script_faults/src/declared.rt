@@ -7,9 +7,8 @@ ghost use Rattle.script_faults.specs.Faults.{is_other, message_faults, twice_dec
 use crate::first::{Fault, note_if, note_too_many};
 use crate::placed::Placed;
 use join_base::NoMemory;
-use script_grammar::MessageDecl;
+use script_grammar::{MessageDecl, ScriptCause};
 use script_names::{NameTable, field_names};
-use script_reader::ScriptCause;
 use std::alloc::Global;
 
 // Whether a name stands for another row than its own.

@@ -3,7 +3,7 @@ ghost use Rattle.std.specs.Prelude.{◌≡◌, ◌==◌};
 ghost use Rattle.script_faults.specs.First.{earlier, fault_if, first_of, is_before, rank, too_many};
 
 use crate::placed::Placed;
-use script_reader::ScriptCause;
+use script_grammar::ScriptCause;
 
 /// A place of the text at which a rule of names or types is broken, and which.
 #[derive(Clone, Copy, PartialEq, Eq, Debug)]

@@ -10,9 +10,8 @@ use crate::first::{Fault, note_if, note_too_many};
 use crate::placed::Placed;
 use crate::term::{is_same, is_words, note_operand, operand_sort};
 use join_base::{Items, NoMemory, Relation};
-use script_grammar::{AtomDecl, ConjunctDecl, OperandDecl};
+use script_grammar::{AtomDecl, ConjunctDecl, OperandDecl, ScriptCause};
 use script_names::{NameTable, Slot};
-use script_reader::ScriptCause;
 use std::alloc::Global;
 
 // Two operands and what is between them.

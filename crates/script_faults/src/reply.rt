@@ -6,8 +6,7 @@ ghost use Rattle.script_faults.specs.Open.{closed, is_open, open_after, open_fau
 
 use crate::first::{Fault, note_if};
 use join_base::NoMemory;
-use script_grammar::StatementDecl;
-use script_reader::ScriptCause;
+use script_grammar::{ScriptCause, StatementDecl};
 use std::alloc::Global;
 
 // A mark for each pattern: all may be replied to.

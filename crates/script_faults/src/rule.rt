@@ -10,9 +10,8 @@ use crate::first::{Fault, note_if, note_too_many};
 use crate::guard::note_guard;
 use crate::reply::note_replies;
 use join_base::NoMemory;
-use script_grammar::{ActorDecl, PatternDecl, RuleDecl, Tree};
+use script_grammar::{ActorDecl, PatternDecl, RuleDecl, ScriptCause, Tree};
 use script_names::{Messages, NameTable, actor_names, variables_of};
-use script_reader::ScriptCause;
 use std::alloc::Global;
 
 fn note_pattern(found: &mut Option<Fault>, messages: &Messages, pattern: &PatternDecl)

@@ -8,9 +8,8 @@ ghost use Rattle.script_faults.specs.Faults.{is_same, is_words, leaf_faults, nam
 
 use crate::first::{Fault, note, note_if, note_too_many};
 use join_base::{Name, Sort};
-use script_grammar::{LeafDecl, OperandDecl, Part};
+use script_grammar::{LeafDecl, OperandDecl, Part, ScriptCause};
 use script_names::{NameTable, Slot};
-use script_reader::ScriptCause;
 
 pub(crate) fn is_words(sort: Sort) -> bool
     ensures { result ≡ is_words sort }

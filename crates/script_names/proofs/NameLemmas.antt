@@ -47,7 +47,7 @@ number_kept names new there name = by-test (bytes_eq name new) refl ∙ sym (num
     by-test true is = some (number_of name names) (Some (length names)) (ap (λ (x : List ℕ). is_some (number_of x names)) (same_name name new (bytes_eq name new) (bytes_eq-Decides name new) is) ∙ there)
     by-test false is = none (number_of name names)
 
-eq_sym : (a b : List ℕ) → bytes_eq a b ≡ bytes_eq b a
+pub eq_sym : (a b : List ℕ) → bytes_eq a b ≡ bytes_eq b a
 eq_sym a b = both (bytes_eq a b) (bytes_eq b a) (bytes_eq-Decides a b) (bytes_eq-Decides b a)
   where
     both : (s t : Bool) → Decides s (a ≡ b) → Decides t (b ≡ a) → s ≡ t

@@ -1,2 +1,3 @@
+-- what a name stands for
 pub mod Names
 pub mod Scope

@@ -1,4 +1,11 @@
-//! What the names of a script stand for.
+//! What the names of a script stand for. A name means its first declaration.
+//!
+//! - `NameTable` is a list of names, each with an item: `number_of` and `item_of` find the first of a name at once.
+//! - `Messages::fields_of` gives the fields of the message of a name.
+//! - `actor_names`, `field_names` and `variables_of` make the tables of actors, of the fields of a message, and of the variables of a
+//!   definition.
+//!
+//! A contract sees a table as the list of its rows, a name and an item each.
 #![tactic(auto)]
 
 mod scope;

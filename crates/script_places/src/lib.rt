@@ -1,4 +1,8 @@
 //! The places of a script's tokens do not matter to its plan.
+//!
+//! - `places_law` is a law on a function without a body: a script whose tokens stand at other places has the same plan.
+//!
+//! There is no code here, and no test.
 #![tactic(auto)]
 
 mod law;

@@ -140,7 +140,14 @@ typed_rule = record {
 typed : IsTyped expected
 typed = record {
   few_kinds = omega arith;
+  some_actors = omega arith;
   few_actors = omega arith;
+  kind_names = record { each = (refl, (refl, tt)); apart = ((refl, tt), (tt, tt)) };
+  actor_names = record { each = (refl, (refl, tt)); apart = ((refl, tt), (tt, tt)) };
+  field_names = (record { each = (refl, (refl, tt)); apart = ((refl, tt), (tt, tt)) }, (record { each = (refl, tt); apart = (tt, tt) }, tt));
   kinds = (omega arith, (omega arith, tt));
-  actors = (record { few = omega arith; each = (typed_rule, tt) }, (record { few = omega arith; each = tt }, tt));
+  actors = (
+    record { few = omega arith; few_comparisons = (omega arith, tt); each = (typed_rule, tt) },
+    (record { few = omega arith; few_comparisons = tt; each = tt }, tt),
+  );
 }

@@ -1,2 +1,3 @@
+-- the plan of a tree, and of which trees it is one
 pub mod PlanOf
 pub mod Small

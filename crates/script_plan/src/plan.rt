@@ -1,6 +1,8 @@
 //! The plan of a script, from its messages and its actors.
-ghost use Rattle.std.specs.Prelude.{◌≡◌, IfOk, map};
+ghost use Rattle.std.specs.Prelude.{◌≡◌, IfOk, map, true};
 ghost use Rattle.std.specs.List.{AllByRecursion};
+ghost use Rattle.join_base.specs.Text.{is_name};
+ghost use Rattle.script_types.specs.Names.{AreNames, HasNames, actor_names, field_names, kind_names};
 ghost use Rattle.script_plan.specs.PlanOf.{actor_of, definition_of, field_of, kind_of, names_in, pattern_of, plan_of, rule_of, rule_with, window_of};
 ghost use Rattle.script_plan.specs.Small.{IsSmall, IsSmallActor, IsSmallRule, IsSmallWindow};
 
@@ -10,11 +12,12 @@ use crate::names::{Script, Variables};
 use join_base::{Items, Name, NoMemory, Sort};
 use pattern_core::Definition;
 use script_grammar::{ActorDecl, FieldDecl, MessageDecl, PatternDecl, RuleDecl, Tree};
-use script_types::{ActorPlan, Kind, Plan, Rule};
+use script_types::{ActorPlan, Kind, Plan, Rule, copy_variable};
 use std::alloc::Global;
 
 fn fields_of(alloc: Global, decls: &[FieldDecl]) -> Result<Items<(Name, Sort)>, NoMemory>
-    ensures { IfOk result (λ fields. fields ≡ map field_of decls.now) }
+    ensures fields { IfOk result (λ fields. fields ≡ map field_of decls.now) }
+    ensures names { IfOk result (λ fields. AreNames (map (λ field. field.0) fields)) }
 {
     let mut fields = Items::new(alloc);
     for decl in decls {
@@ -25,7 +28,9 @@ fn fields_of(alloc: Global, decls: &[FieldDecl]) -> Result<Items<(Name, Sort)>, 
 }
 
 fn kind_of(alloc: Global, message: &MessageDecl) -> Result<Kind, NoMemory>
-    ensures { IfOk result (λ kind. kind ≡ kind_of message.now) }
+    ensures kind { IfOk result (λ kind. kind ≡ kind_of message.now) }
+    ensures name { IfOk result (λ kind. is_name kind.name ≡ true) }
+    ensures names { IfOk result (λ kind. AreNames (field_names kind)) }
 {
     Ok(Kind {
         name: message.name.name.copy(alloc)?,
@@ -34,7 +39,9 @@ fn kind_of(alloc: Global, message: &MessageDecl) -> Result<Kind, NoMemory>
 }
 
 fn kinds_of(alloc: Global, messages: &[MessageDecl]) -> Result<Items<Kind>, NoMemory>
-    ensures { IfOk result (λ kinds. kinds ≡ map kind_of messages.now) }
+    ensures kinds { IfOk result (λ kinds. kinds ≡ map kind_of messages.now) }
+    ensures names { IfOk result (λ kinds. AreNames (kind_names kinds)) }
+    ensures fields { IfOk result (λ kinds. AllByRecursion (λ kind. AreNames (field_names kind)) kinds) }
 {
     let mut kinds = Items::new(alloc);
     for message in messages {
@@ -58,22 +65,12 @@ fn patterns_of(
     Ok(patterns)
 }
 
-// A copy of a variable's name.
-fn copy_name(alloc: Global, name: &Option<Name>) -> Result<Option<Name>, NoMemory>
-    ensures { IfOk result (λ copied. copied ≡ name.now) }
-{
-    match name {
-        None => Ok(None),
-        Some(name) => Ok(Some(name.copy(alloc)?)),
-    }
-}
-
 fn names_in(alloc: Global, pattern: &PatternDecl) -> Result<Items<Option<Name>>, NoMemory>
     ensures { IfOk result (λ names. names ≡ names_in pattern.now) }
 {
     let mut names = Items::new(alloc);
     for (_, name) in pattern.variables.as_slice() {
-        let copied = copy_name(alloc, name)?;
+        let copied = copy_variable(alloc, name)?;
         names.push(copied)?;
     }
     Ok(names)
@@ -166,7 +163,8 @@ fn actor_of<'a>(
     actor: &'a ActorDecl,
 ) -> Result<ActorPlan, NoMemory>
     requires { IsSmallActor actor.now }
-    ensures { IfOk result (λ plan. plan ≡ actor_of script.now.tree.now actor.now) }
+    ensures actor { IfOk result (λ plan. plan ≡ actor_of script.now.tree.now actor.now) }
+    ensures name { IfOk result (λ plan. is_name plan.name ≡ true) }
 {
     Ok(ActorPlan {
         name: actor.name.name.copy(alloc)?,
@@ -180,7 +178,8 @@ fn actors_of<'a>(
     decls: &'a [ActorDecl],
 ) -> Result<Items<ActorPlan>, NoMemory>
     requires { AllByRecursion IsSmallActor decls.now }
-    ensures { IfOk result (λ actors. actors ≡ map (actor_of script.now.tree.now) decls.now) }
+    ensures actors { IfOk result (λ actors. actors ≡ map (actor_of script.now.tree.now) decls.now) }
+    ensures names { IfOk result (λ actors. AreNames (actor_names actors)) }
 {
     let mut actors = Items::new(alloc);
     for decl in decls {
@@ -191,10 +190,11 @@ fn actors_of<'a>(
 }
 
 /// The plan of a script whose sizes are small enough for one. Where the script has a fault, as a name that is not
-/// declared, the plan has 0 in its place.
+/// declared, the plan has 0 in its place. Its names are names, since the tree's are.
 pub fn plan_of(alloc: Global, tree: &Tree) -> Result<Plan, NoMemory>
     requires small { IsSmall tree.now }
     ensures plan { IfOk result (λ plan. plan ≡ plan_of tree.now) }
+    ensures names { IfOk result HasNames }
 {
     let script = Script::new(alloc, tree)?;
     Ok(Plan {

@@ -10,10 +10,10 @@ use Rattle.script_grammar.specs.Grammar.{IsScript}
 use Rattle.script_grammar.specs.Filled.{IsFilled, ScriptsAreFilled}
 use Rattle.script_grammar.specs.Refusal.{Refuses}
 use Rattle.script_grammar.specs.Refusal as refusal
-use Rattle.script_reader.specs.declared.fault.ScriptCause.{ScriptCause}
-use Rattle.script_reader.specs.declared.fault.ScriptCause.TheVariants.{NotText, BadToken, BadSyntax, TooMany, TwiceDeclared, UnknownMessage, UnknownActor, UnknownName, WrongCount, WrongType, StopNotLast, BadWindow, BadReply}
-use Rattle.script_reader.specs.declared.fault.ScriptFault.{ScriptFault}
-use Rattle.script_reader.specs.declared.fault.ScriptFault.TheVariants.{Bad}
+use Rattle.script_grammar.specs.declared.fault.ScriptCause.{ScriptCause}
+use Rattle.script_grammar.specs.declared.fault.ScriptCause.TheVariants.{NotText, BadToken, BadSyntax, TooMany, TwiceDeclared, UnknownMessage, UnknownActor, UnknownName, WrongCount, WrongType, StopNotLast, BadWindow, BadReply}
+use Rattle.script_grammar.specs.declared.fault.ScriptFault.{ScriptFault}
+use Rattle.script_grammar.specs.declared.fault.ScriptFault.TheVariants.{Bad}
 use Rattle.script_reader.specs.Spells.{Spells, IsNoText, IsRefused, IsFault, FaultIs, Reads, place_of, cause_of, OneTree, NoBoth, OneFault}
 
 -- a fault of reading is no text, or a refusal

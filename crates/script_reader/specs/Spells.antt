@@ -6,10 +6,10 @@ use Rattle.script_tokens.specs.Tokens.{AreTokens, is_bad}
 use Rattle.script_grammar.specs.declared.tree.Tree.{Tree}
 use Rattle.script_grammar.specs.Grammar.{IsScript}
 use Rattle.script_grammar.specs.Refusal.{Refuses}
-use Rattle.script_reader.specs.declared.fault.ScriptCause.{ScriptCause}
-use Rattle.script_reader.specs.declared.fault.ScriptCause.TheVariants.{NotText, BadToken, BadSyntax, TooMany, TwiceDeclared, UnknownMessage, UnknownActor, UnknownName, WrongCount, WrongType, StopNotLast, BadWindow, BadReply}
-use Rattle.script_reader.specs.declared.fault.ScriptFault.{ScriptFault}
-use Rattle.script_reader.specs.declared.fault.ScriptFault.TheVariants.{Bad, NoMemory}
+use Rattle.script_grammar.specs.declared.fault.ScriptCause.{ScriptCause}
+use Rattle.script_grammar.specs.declared.fault.ScriptCause.TheVariants.{NotText, BadToken, BadSyntax, TooMany, TwiceDeclared, UnknownMessage, UnknownActor, UnknownName, WrongCount, WrongType, StopNotLast, BadWindow, BadReply}
+use Rattle.script_grammar.specs.declared.fault.ScriptFault.{ScriptFault}
+use Rattle.script_grammar.specs.declared.fault.ScriptFault.TheVariants.{Bad, NoMemory}
 
 -- the text cut into its longest tokens, and the tokens derived by the grammar
 pub record Spells (bytes : List ℕ) (tree : Tree) : Type 0 where

@@ -4,10 +4,9 @@ ghost use Rattle.std.specs.Str.{IsUtf8};
 ghost use Rattle.script_tokens.specs.Tokens.{AreTokens, AreFront};
 ghost use Rattle.script_grammar.specs.Filled.{IsFilled};
 ghost use Rattle.script_reader.specs.Spells.{Reads, FaultIs, OneTree, NoBoth, OneFault, place_of, cause_of};
-ghost use Rattle.script_reader.specs.declared.fault.ScriptFault.TheVariants.{Bad};
+ghost use Rattle.script_grammar.specs.declared.fault.ScriptFault.TheVariants.{Bad};
 
-use crate::fault::{ScriptCause, ScriptFault};
-use script_grammar::{Stop, Tree, read_tokens};
+use script_grammar::{ScriptCause, ScriptFault, Stop, Tree, read_tokens};
 use script_tokens::{Token, push_tokens};
 use std::alloc::Global;
 

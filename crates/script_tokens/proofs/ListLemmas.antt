@@ -1,5 +1,5 @@
 -- A text has one list of tokens.
-use Rattle.std.proofs.Common.{◌≡◌, ℕ, ◌+◌, ◌-◌, ◌<◌, ◌≤◌, zero, suc, ◌⊎◌, inl, inr, ⊎_elim, Bool, true, false, List, [], ◌∷◌, length, drop, get_or, refl, sym, ap, subst, ◌∙◌, arith}
+use Rattle.std.proofs.Common.{◌≡◌, ℕ, ◌+◌, ◌-◌, ◌<◌, ◌≤◌, zero, suc, ◌⊎◌, inl, inr, ⊎_elim, Bool, true, false, List, [], ◌∷◌, ◌++◌, length, take, drop, get_or, refl, sym, ap, subst, ◌∙◌, arith}
 use Rattle.std.specs.Prelude.{MatchBool}
 use Rattle.std.proofs.lemmas.Bool.{cases_Bool}
 use Rattle.std.proofs.lemmas.List.{nil_from_length, length-append, length-drop}
@@ -128,3 +128,13 @@ tokens_by decided (suc bound) size text few fits =
 pub some_list : QuotedIsDecided → SomeList
 unfolding SomeTokens
 some_list decided size text fits = tokens_by decided (length text) size text (omega arith) fits
+
+-- ---- a list that grows keeps its front
+
+pub kept_more : {X : Type 0} (xs ys : List X) (y : X) → take (length xs) ys ≡ xs → take (length xs) (ys ++ y ∷ []) ≡ xs
+kept_more [] ys y kept = refl
+kept_more (x ∷ xs) [] y kept = absurd cc
+kept_more {X} (x ∷ xs) (z ∷ ys) y kept =
+    let head : z ≡ x = cc in
+    let tail : take (length xs) ys ≡ xs = cc in
+    ap (λ (w : X). w ∷ take (length xs) (ys ++ y ∷ [])) head ∙ ap (λ (ws : List X). x ∷ ws) (kept_more xs ys y tail)

@@ -8,7 +8,7 @@ ghost use Rattle.join_base.specs.Text.{begins_word, goes_on_word};
 ghost use Rattle.script_tokens.specs.Tokens.{is_blank, skip, word_kind, number_kind, symbol_at, plain_at, IsToken, IsQuotedToken, is_bad, AreTokens, AreFront, SomeList, OneList};
 
 use crate::token::{Kind, Mark, Token};
-use join_base::{Name, NoMemory, QuoteFault, read_integer, read_quoted_text};
+use join_base::{Name, NoMemory, QuoteFault, byte_at, read_integer, read_quoted_text};
 use std::alloc::Global;
 
 fn is_blank(b: u8) -> bool
@@ -58,13 +58,6 @@ fn skip(text: &[u8]) -> &[u8]
         rest = more;
     }
     rest
-}
-
-// The byte at a place, or 0 past the end.
-fn byte_at(text: &[u8], place: usize) -> u8
-    ensures { result ≡ slice_index text.now place }
-{
-    if place < text.len() { text[place] } else { 0 }
 }
 
 // How many bytes of a word stand in front.
@@ -227,8 +220,11 @@ fn token_at(alloc: Global, text: &[u8]) -> Result<(Kind, usize), NoMemory>
     }
 }
 
-/// Appends the tokens that stand at the front of the rest of a text, as many as `count`, each with its place. Where no
-/// token begins, the last one is `Bad`. The answer is the rest behind them, or `None` where these are all.
+/// Appends the tokens that stand at the front of the rest of a text, each with its place. The answer is the rest behind
+/// them, and then they are `count`; or `None` where the text has no more tokens, and then they are at most `count`. Where no
+/// token begins, the last one is `Bad`. After `NoMemory` those that stood there before stand there still, and at most
+/// `count` behind them.
+#[tactic(auto, using(crate::proofs::ListLemmas::kept_more))]
 pub fn push_tokens<'a>(
     alloc: Global,
     tokens: &mut Vec<Token>,
@@ -240,6 +236,9 @@ pub fn push_tokens<'a>(
     requires front { AreFront text.now tokens.old.items rest.now }
     ensures pushed { IfOk result (λ next. MatchOption next (AreTokens (length text.now) text.now tokens.new.items) (λ r. AreFront text.now tokens.new.items r.now)) }
     ensures shorter { IfOk result (λ next. MatchOption next ⊤ (λ r. length r.now + count ≤ length rest.now)) }
+    ensures few { length tokens.new.items ≤ length tokens.old.items + count }
+    ensures as_many { IfOk result (λ next. MatchOption next ⊤ (λ r. length tokens.new.items ≡ length tokens.old.items + count)) }
+    ensures kept { take (length tokens.old.items) tokens.new.items ≡ tokens.old.items }
 {
     let mut left = rest;
     for _ in 0..count {

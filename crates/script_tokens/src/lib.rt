@@ -1,4 +1,9 @@
-//! The tokens of a script.
+//! The tokens of a script: words, numbers, quoted texts and signs, each with its place.
+//!
+//! - `push_tokens` appends the tokens at the front of a text, as many as it is told, and answers with the rest.
+//! - `one_list` says that each text has one list of tokens.
+//!
+//! A contract says by `AreTokens` which tokens a text has, and by `AreFront` which ones stand in front of a rest.
 #![tactic(auto)]
 
 mod lexer;

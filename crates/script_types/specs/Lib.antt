@@ -1,1 +1,3 @@
+-- what is claimed of a plan
 pub mod Typed
+pub mod Names

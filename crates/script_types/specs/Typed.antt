@@ -1,6 +1,7 @@
--- A plan is well typed: each number names something, each place has the type that is wanted there, and nothing is too many.
-use Rattle.std.specs.Prelude.{◌≡◌, ℕ, ◌<◌, ◌≤◌, ◌==◌, List, [], ◌∷◌, Option, None, Some, length, map, slice_get}
-use Rattle.std.specs.List.{AllByRecursion, IsDistinct, filter_map}
+-- A plan is well typed: each number names something, each place has the type that is wanted there, nothing is too many, and names are
+-- names that differ.
+use Rattle.std.specs.Prelude.{◌≡◌, ℕ, ◌+◌, ◌<◌, ◌≤◌, ◌==◌, List, [], ◌∷◌, Option, None, Some, length, map, slice_get}
+use Rattle.std.specs.List.{AllByRecursion, IsDistinct, filter_map, sum_by}
 use Rattle.std.specs.Option.{option_and_then, option_map}
 use Rattle.join_base.specs.declared.message.Relation.{Relation}
 use Rattle.join_base.specs.declared.message.Relation.TheVariants as relation
@@ -23,6 +24,7 @@ use Rattle.script_types.specs.declared.plan.Statement.TheVariants as statement
 use Rattle.script_types.specs.declared.plan.Rule.{Rule}
 use Rattle.script_types.specs.declared.plan.ActorPlan.{ActorPlan}
 use Rattle.script_types.specs.declared.plan.Plan.{Plan}
+use Rattle.script_types.specs.Names.{AreOwnNames, actor_names, field_names, kind_names}
 
 -- the types of the fields of each kind
 abbrev pub Sorts : Type 0
@@ -85,6 +87,18 @@ IsTypedCondition sorts patterns (Compares left given right) = IsTypedComparison 
 IsTypedCondition sorts patterns (Negated inner) = IsTypedCondition sorts patterns inner
 IsTypedCondition sorts patterns (Grouped inner) = IsTypedCondition sorts patterns inner
 IsTypedCondition sorts patterns (Either atom rest) = IsTypedCondition sorts patterns atom × IsTypedCondition sorts patterns rest
+
+-- how many comparisons a condition makes
+abbrev pub comparison_count : Condition → ℕ
+comparison_count Never = 0
+comparison_count (Compares left given right) = 1
+comparison_count (Negated inner) = comparison_count inner
+comparison_count (Grouped inner) = comparison_count inner
+comparison_count (Either atom rest) = comparison_count atom + comparison_count rest
+
+-- a guard makes at most 64 comparisons
+abbrev pub ComparesFew : List Condition → Type 0
+ComparesFew conjuncts = sum_by comparison_count conjuncts ≤ 64
 
 -- ---- bodies
 
@@ -162,6 +176,7 @@ pub record IsTypedRule (actors : ℕ) (sorts : Sorts) (rule : Rule) : Type 0 whe
 
 pub record IsTypedActor (actors : ℕ) (sorts : Sorts) (actor : ActorPlan) : Type 0 where
   pub few : length actor.rules ≤ 16
+  pub few_comparisons : AllByRecursion (λ (rule : Rule). ComparesFew rule.definition.conjuncts) actor.rules
   pub each : AllByRecursion (IsTypedRule actors sorts) actor.rules
 
 abbrev pub IsTypedKind : Kind → Type 0
@@ -169,6 +184,10 @@ IsTypedKind kind = length kind.fields ≤ 8
 
 pub record IsTyped (plan : Plan) : Type 0 where
   pub few_kinds : length plan.kinds ≤ 64
+  pub some_actors : 1 ≤ length plan.actors
   pub few_actors : length plan.actors ≤ 32
+  pub kind_names : AreOwnNames (kind_names plan.kinds)
+  pub actor_names : AreOwnNames (actor_names plan.actors)
+  pub field_names : AllByRecursion (λ (kind : Kind). AreOwnNames (field_names kind)) plan.kinds
   pub kinds : AllByRecursion IsTypedKind plan.kinds
   pub actors : AllByRecursion (IsTypedActor (length plan.actors) (kind_types plan.kinds)) plan.actors

@@ -77,7 +77,8 @@ fn copy_body(alloc: Global, body: &Items<Statement>) -> Result<Items<Statement>,
     Ok(copied)
 }
 
-fn copy_variable(alloc: Global, variable: &Option<Name>) -> Result<Option<Name>, NoMemory>
+/// An equal variable. `NoMemory` where there is no memory for it.
+pub fn copy_variable(alloc: Global, variable: &Option<Name>) -> Result<Option<Name>, NoMemory>
     ensures equal { IfOk result (λ v. v ≡ variable.now) }
 {
     match variable {

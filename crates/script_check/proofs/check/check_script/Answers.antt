@@ -12,4 +12,4 @@ pub returns-in_ok-plan_of-in-None-clause-checks : goal.returns-in_ok-plan_of-in-
 returns-in_ok-plan_of-in-None-clause-checks c = typed c.args.tree.now c.in_ok-plan_of-in-None.field-0 (sym c.in-None.is ∙ c.in_ok-fault.ensures) c.in_ok-plan_of-in-None.ensures.plan
 
 pub returns-in_ok-plan_of-in-None-clause-typed : goal.returns-in_ok-plan_of-in-None-clause-typed
-returns-in_ok-plan_of-in-None-clause-typed c = typed_plan c.args.tree.now c.in_ok-plan_of-in-None.field-0 c.requires.filled (sym c.in-None.is ∙ c.in_ok-fault.ensures) c.in_ok-plan_of-in-None.ensures.plan
+returns-in_ok-plan_of-in-None-clause-typed c = typed_plan c.args.tree.now c.in_ok-plan_of-in-None.field-0 c.requires.filled (sym c.in-None.is ∙ c.in_ok-fault.ensures) c.in_ok-plan_of-in-None.ensures.plan c.in_ok-plan_of-in-None.ensures.names

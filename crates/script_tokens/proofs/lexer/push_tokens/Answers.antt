@@ -1,6 +1,7 @@
 use Rattle.std.proofs.Common.{◌≡◌, ◌<◌, ◌≤◌, List, ℕ, length, subst, sym, ◌∙◌, rules, arith}
 use Rattle.std.proofs.lemmas.List.{nil_from_length}
 use Rattle.script_tokens.specs.Tokens.{IsToken}
+use Rattle.script_tokens.proofs.ListLemmas.{kept_more}
 use Rattle.script_tokens.proofs.TokenLemmas.{front_end, front_next}
 use Rattle.script_tokens.proofs.lexer.push_tokens.Goals as goal
 
@@ -19,4 +20,6 @@ loop-preserved c =
           c.loop.invariant.front c.skip-front.ensures.rest some fits
           (subst (λ (l : List ℕ). IsToken c.skip-front.result.now c.in_ok-kind.kind l) (sym c.split_at.ensures.back) c.in_ok-kind.ensures.token)
           (sym c.if-is_bad.ensures) c.in_ok-push.ensures.items;
+      counted = search rules;
+      kept = rw c.in_ok-push.ensures.items (kept_more c.args.tokens.now.items c.loop.tokens.items _ c.loop.invariant.kept);
     }
