@@ -1,14 +1,14 @@
 -- The best of the candidates that a fact describes, and how it goes on.
-use Rattle.std.proofs.Common.{◌≡◌, ◌⊎◌, inl, inr, List, ◌++◌, Bool, true, false, Option, Some, None, refl, sym, subst}
+use Rattle.std.proofs.Common.{◌≡◌, ◌⊎◌, inl, inr, List, ◌++◌, Bool, true, false, Option, Some, None, refl, sym}
 use Rattle.std.specs.Prelude.{if◌then◌else◌}
-use Rattle.std.specs.Ordering.{is_le, is_gt}
+use Rattle.std.specs.Ordering.{is_le}
 use Rattle.std.proofs.lemmas.Cmp.{upto}
 use Rattle.pattern_core.specs.declared.candidate.Candidate.{Candidate}
 use Rattle.pattern_core.specs.Members.{IsIn}
 use Rattle.pattern_core.specs.Key.{key_cmp}
 use Rattle.pattern_core.specs.Choice.{lesser_of, least, IsBestOf, IsChoice}
 use Rattle.pattern_core.proofs.MembersLemmas.{IsIn-append_left, IsIn-append_right, IsIn-append_cases}
-use Rattle.pattern_core.proofs.ChoiceLemmas.{key_cmp_total, itself, le_not_gt, not_le_back, least-IsChoice, least_from_IsChoice}
+use Rattle.pattern_core.proofs.ChoiceLemmas.{key_cmp_total, le_not_gt, not_le_back, least-IsChoice, least_from_IsChoice}
 
 pub IsBestOf-same : (P Q : Candidate → Type 0) → ((c : Candidate) → P c → Q c) → ((c : Candidate) → Q c → P c) → (o : Option Candidate) → IsBestOf P o → IsBestOf Q o
 IsBestOf-same P Q forth back None h = λ c q. h c (back c q)
@@ -35,10 +35,6 @@ pub IsBestOf-lesser_of : (P Q : Candidate → Type 0) (a b : Option Candidate) �
 IsBestOf-lesser_of P Q None b hp hq = IsBestOf-same Q (λ c. P c ⊎ Q c) (λ c q. inr q) (λ c k. elim k [ inl p ↦ absurd (hp c p) | inr q ↦ q ]) b hq
 IsBestOf-lesser_of P Q (Some a) None hp hq = IsBestOf-same P (λ c. P c ⊎ Q c) (λ c p. inl p) (λ c k. elim k [ inl p ↦ p | inr q ↦ absurd (hq c q) ]) (Some a) hp
 IsBestOf-lesser_of P Q (Some a) (Some b) hp hq = lesser_by P Q a b (is_le (key_cmp a b)) refl hp hq
-
--- a candidate is the best of itself
-pub IsBestOf-one : (new : Candidate) → IsBestOf (λ c. new ≡ c) (Some new)
-IsBestOf-one new = (refl, λ c e. subst (λ (x : Candidate). is_gt (key_cmp new x) ≡ false) e (itself new))
 
 IsChoice-from : (cs : List Candidate) (o : Option Candidate) → IsBestOf (λ c. IsIn c cs) o → IsChoice cs o
 IsChoice-from cs None h = h

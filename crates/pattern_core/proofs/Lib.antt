@@ -6,8 +6,6 @@ pub mod AssignsLemmas
 pub mod AgreeLemmas
 pub mod GuardLemmas
 pub mod BestLemmas
-pub mod ListingLemmas
 pub mod LawLemmas
 pub mod SuitsLemmas
-pub mod CountLemmas
 pub mod DefinitionsLemmas

@@ -1,5 +1,5 @@
 -- Slots that suit a definition: full ones, empty ones, and what follows.
-use Rattle.std.proofs.Common.{◌≡◌, ◌∙◌, inl, inr, ℕ, zero, suc, ◌+◌, ◌≤◌, List, [], ◌∷◌, length, drop, replicate, slice_get, slice_index, slice_set, Bool, true, false, ◌&&◌, ◌||◌, ◌<◌, Option, Some, None, refl, ap, sym, subst, arith}
+use Rattle.std.proofs.Common.{◌≡◌, inl, inr, ℕ, zero, suc, ◌+◌, List, [], ◌∷◌, length, drop, replicate, slice_get, slice_index, slice_set, Bool, true, false, ◌&&◌, ◌||◌, Option, Some, None, refl, ap, sym, subst, arith}
 use Rattle.std.specs.Prelude.{All, ◌==◌}
 use Rattle.std.proofs.lemmas.Bool.Decides.{nat_tests}
 use Rattle.join_base.specs.declared.message.Message.{Message}
@@ -7,9 +7,7 @@ use Rattle.guard_eval.specs.Meaning.{Assignment, letter_at, is_slot_filled}
 use Rattle.pattern_core.specs.Assigns.{Assigns}
 use Rattle.pattern_core.specs.Members.{IsIn}
 use Rattle.pattern_core.specs.Matches.{is_of_kind, holds_number, slot_is, is_full}
-use Rattle.pattern_core.specs.Listing.{alone}
 use Rattle.pattern_core.specs.Suits.{IsRecorded, SlotsSuit}
-use Rattle.pattern_core.proofs.ListingLemmas.{two_of}
 
 pub length-SlotsSuit : (letters : List Message) (kinds : List ℕ) (slots : Assignment) → SlotsSuit letters kinds slots → length slots ≡ length kinds
 length-SlotsSuit letters [] [] h = refl
@@ -21,17 +19,6 @@ length-SlotsSuit letters (kind ∷ kinds) (Some n ∷ slots) h = ap suc (length-
 pub suits_empty : (letters : List Message) (kinds : List ℕ) → SlotsSuit letters kinds (replicate (length kinds) None)
 suits_empty letters [] = tt
 suits_empty letters (kind ∷ kinds) = suits_empty letters kinds
-
-pub first_empty : (n : ℕ) (slots : Assignment) → 1 ≤ n → slots ≡ replicate n None → slice_get slots 0 ≡ Some None
-first_empty zero slots l e = absurd (omega arith)
-first_empty (suc n) slots l e = ap (λ (s : Assignment). slice_get s 0) e
-
-none_held : (n m : ℕ) → holds_number (replicate n None) m ≡ false
-none_held zero m = refl
-none_held (suc n) m = none_held n m
-
-pub empty_holds : (n m : ℕ) (slots : Assignment) → slots ≡ replicate n None → holds_number slots m ≡ false
-empty_holds n m slots e = ap (λ (s : Assignment). holds_number s m) e ∙ none_held n m
 
 both_false : (a b : Bool) → (a || b) ≡ false → (a ≡ false) × (b ≡ false)
 both_false true b e = absurd cc
@@ -63,23 +50,6 @@ suits_further letters (k ∷ kinds) (Some m ∷ slots) (suc p) n suits empty rec
     let parts = both_false (n == m) (holds_number slots n) apart in
     (suits.0, suits.1, holds_further slots p n m suits.2 (apart_too n m parts.0), suits_further letters kinds slots p n suits.3 empty recorded kind parts.1)
 
-empty_place : (n p : ℕ) → p < n → let empty : Assignment = replicate n None in slice_get empty p ≡ Some None
-empty_place zero p within = absurd (omega arith)
-empty_place (suc n) zero within = refl
-empty_place (suc n) (suc p) within = empty_place n p (omega arith)
-
--- slots of which one pattern alone has a number
-pub suits_alone : (letters : List Message) (kinds : List ℕ) (p n : ℕ) (slots : Assignment) → p < length kinds → IsRecorded letters n → is_of_kind (letter_at letters n) (slice_index kinds p) ≡ true → slots ≡ alone (length kinds) p n → SlotsSuit letters kinds slots
-suits_alone letters kinds p n slots within recorded kind e =
-    subst (SlotsSuit letters kinds) (sym e)
-    (suits_further letters kinds (replicate (length kinds) None) p n (suits_empty letters kinds) (empty_place (length kinds) p within) recorded kind (none_held (length kinds) n))
-
--- slots whose first of two patterns has a number
-pub suits_front : (letters : List Message) (kinds : List ℕ) (front : ℕ) (slots : Assignment) → length kinds ≡ 2 → IsRecorded letters front → is_of_kind (letter_at letters front) (slice_index kinds 0) ≡ true → slots ≡ Some front ∷ None ∷ [] → SlotsSuit letters kinds slots
-suits_front letters kinds front slots two recorded kind e =
-    let P : List ℕ → Type 0 = λ ks. SlotsSuit letters ks (Some front ∷ None ∷ []) in
-    subst (SlotsSuit letters kinds) (sym e) (subst P (sym (two_of kinds two)) (recorded, kind, refl, tt))
-
 pub recorded_of : (letters : List Message) (live : List ℕ) (n : ℕ) → All (IsRecorded letters) live → IsIn n live → IsRecorded letters n
 recorded_of letters [] n h m = absurd m
 recorded_of letters (x ∷ live) n h (inl e) = subst (IsRecorded letters) e (h 0 0 (omega arith))
@@ -104,16 +74,3 @@ pub full_further : (slots : Assignment) (i n : ℕ) → slice_get slots i ≡ So
 full_further [] i n e = absurd cc
 full_further (slot ∷ slots) zero n e = let filled : slot ≡ Some n = cc in ap (λ (s : Option ℕ). is_slot_filled s && is_full slots) (sym filled)
 full_further (slot ∷ slots) (suc i) n e = let more : suc i + 1 ≡ suc (i + 1) = omega arith in rw more (full_further slots i n e)
-
-full_past : (slots : Assignment) (i : ℕ) → length slots ≤ i → is_full (drop i slots) ≡ true
-full_past [] zero l = refl
-full_past [] (suc i) l = refl
-full_past (slot ∷ slots) zero l = absurd (omega arith)
-full_past (slot ∷ slots) (suc i) l = full_past slots i (omega arith)
-
-pub full_at_end : (slots : Assignment) (i : ℕ) → length slots ≤ i → is_full (drop i slots) ≡ is_full slots → is_full slots ≡ true
-full_at_end slots i l e = sym e ∙ full_past slots i l
-
-pub and_true : (a : Bool) → (a && true) ≡ a
-and_true true = refl
-and_true false = refl

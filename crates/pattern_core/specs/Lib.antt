@@ -1,9 +1,9 @@
-pub mod Members
-pub mod Key
-pub mod Window
+-- what a match, the choice and the window are
 pub mod Matches
-pub mod Assigns
+pub mod Window
+pub mod Key
 pub mod Choice
 pub mod Law
 pub mod Suits
-pub mod Listing
+pub mod Assigns
+pub mod Members

@@ -6,19 +6,19 @@ ghost use Rattle.pattern_core.specs.Suits.{DefinitionSuits, IsRecorded, SlotsSui
 
 use crate::definition::Definition;
 use guard_eval::{decided, holds};
-use join_base::{Letters, Slots, Steps};
+use join_base::{Message, Slots, Steps, letter};
 use std::sync::ledger::Ledger;
 
 /// Whether a recorded message has the kind.
-pub fn has_kind(letters: &Letters, number: u32, kind: u32) -> bool
+pub fn has_kind(letters: &[Message], number: u32, kind: u32) -> bool
     requires { IsRecorded letters.now number }
     ensures { result ≡ is_of_kind (letter_at letters.now number) kind }
 {
-    letters.at((number - 1) as usize).kind == kind
+    letter(letters, number).kind == kind
 }
 
 /// Whether every decided conjunct is true.
-pub fn agrees(definition: &Definition, slots: &Slots, letters: &Letters) -> bool
+pub fn agrees(definition: &Definition, slots: &Slots, letters: &[Message]) -> bool
     requires definition { DefinitionSuits letters.now definition.now }
     requires suits { SlotsSuit letters.now definition.now.patterns slots.now }
     ensures { result ≡ is_agreeable letters.now definition.now.conjuncts slots.now }
@@ -38,7 +38,7 @@ pub fn try_extend<L: Ledger>(
     slots: &Slots,
     pattern: u32,
     number: u32,
-    letters: &Letters,
+    letters: &[Message],
     steps: &mut Steps<L>,
 ) -> bool
     requires definition { DefinitionSuits letters.now definition.now }
@@ -58,8 +58,8 @@ pub fn try_extend<L: Ledger>(
     agrees(definition, &slots.with(pattern, number), letters)
 }
 
-// Whether no pattern is empty.
-fn is_full(patterns: u32, slots: &Slots) -> bool
+/// Whether no pattern is empty.
+pub fn is_full(patterns: u32, slots: &Slots) -> bool
     requires { length slots.now ≡ patterns }
     ensures { result ≡ is_full slots.now }
 {
@@ -72,7 +72,7 @@ fn is_full(patterns: u32, slots: &Slots) -> bool
 }
 
 // Whether every conjunct is true where no pattern is empty.
-fn all_hold(definition: &Definition, slots: &Slots, letters: &Letters) -> bool
+fn all_hold(definition: &Definition, slots: &Slots, letters: &[Message]) -> bool
     requires definition { DefinitionSuits letters.now definition.now }
     requires suits { SlotsSuit letters.now definition.now.patterns slots.now }
     requires full { is_full slots.now ≡ true }
@@ -88,7 +88,7 @@ fn all_hold(definition: &Definition, slots: &Slots, letters: &Letters) -> bool
 
 /// Whether the assignment is a complete match: no pattern is empty, and every conjunct is true, those without a
 /// variable too.
-pub fn complete(definition: &Definition, slots: &Slots, letters: &Letters) -> bool
+pub fn complete(definition: &Definition, slots: &Slots, letters: &[Message]) -> bool
     requires definition { DefinitionSuits letters.now definition.now }
     requires suits { SlotsSuit letters.now definition.now.patterns slots.now }
     requires agreeable { is_agreeable letters.now definition.now.conjuncts slots.now ≡ true }

@@ -1,0 +1,300 @@
+-- A walk over rows, of which those so far were visited and the others are as they were.
+use Rattle.std.specs.declared.collections.VecDeque.{VecDeque}
+use Rattle.std.proofs.Common.{◌≡◌, ◌⊎◌, inl, inr, ◌∙◌, ℕ, zero, suc, ◌+◌, ◌<◌, ◌≤◌, List, [], ◌∷◌, ◌++◌, map, length, take, drop, get_or, set, max, replicate, Bool, true, false, ◌||◌, Option, None, Some, refl, sym, ap, subst, arith, length-append, append_assoc}
+use Rattle.std.specs.Prelude.{◌==◌, if◌then◌else◌}
+use Rattle.std.specs.Ordering.{is_le}
+use denote.Param.Weighed.{most, most-append}
+use Rattle.pattern_core.specs.Key.{key_cmp}
+use Rattle.std.specs.List.{filter, AllByRecursion}
+use Rattle.std.proofs.lemmas.Bool.Decides.{nat_tests}
+use Rattle.std.proofs.lemmas.List.{take_more, take_more_set, length-take-le, append-nil, map-append}
+use Rattle.std.proofs.lemmas.List.Elements.{filter-append}
+use Rattle.guard_eval.specs.Meaning.{Assignment}
+use Rattle.pattern_core.specs.declared.candidate.Candidate.{Candidate}
+use Rattle.pattern_core.specs.Members.{IsIn}
+use Rattle.pattern_core.specs.Choice.{least, lesser_of}
+use Rattle.pattern_core.proofs.BestLemmas.{least-append}
+use Rattle.pattern_core.proofs.MembersLemmas.{IsIn-filter, IsIn-filter_from}
+use Rattle.match_tree.specs.Routes.{Route, Branch, step, node_routes, row_routes, rows_routes, lacks, is_one_of}
+use Rattle.std.specs.declared.alloc.Global.{Global}
+use Rattle.match_tree.specs.declared.node.Node.{Node}
+use Rattle.match_tree.specs.Rows.{rows_of}
+use Rattle.match_tree.specs.Offers.{Offered, places, may_take, leaves_one_free, matches_at, seen, new_matches, takers, growing}
+use Rattle.match_tree.specs.Offering.{LeadsOn, LeadOn}
+use Rattle.match_tree.specs.Order.{Rise, IsOrderedNode, IsSoundRow, AreSound}
+use Rattle.match_tree.specs.Growth.{Lasts, Grows}
+use Rattle.match_tree.specs.Tries.{tries_behind}
+use Rattle.match_tree.proofs.GrowLemmas.{lasts_both, grows_both, grows_step, grows_here}
+use Rattle.match_tree.proofs.LeadLemmas.{all_both, lead_lasts, lead_rows_drop, lead_below}
+use Rattle.match_tree.proofs.TriesLemmas.{tries_append}
+use Rattle.match_tree.proofs.FirstLemmas.{matches_both}
+use Rattle.match_tree.proofs.VisitLemmas.{row_append}
+use Rattle.match_tree.proofs.WalkLemmas.{split_at_place, set_at_place, left_more, all_drop}
+use Rattle.guard_eval.proofs.ReadyLemmas.{all_left, all_right}
+
+pub rows_append : (p : ℕ) (xs ys : List (List Branch)) → rows_routes p (xs ++ ys) ≡ rows_routes p xs ++ rows_routes (p + length xs) ys
+rows_append p [] ys = let e : p ≡ p + 0 = omega arith in ap (λ (k : ℕ). rows_routes k ys) e
+rows_append p (row ∷ xs) ys =
+    let e : p + 1 + length xs ≡ p + suc (length xs) = omega arith in
+    ap (λ (rs : List Route). row_routes p row ++ rs) (rows_append (p + 1) xs ys ∙ ap (λ (k : ℕ). rows_routes (p + 1) xs ++ rows_routes k ys) e)
+    ∙ sym (append_assoc (row_routes p row) (rows_routes (p + 1) xs) (rows_routes (p + suc (length xs)) ys))
+
+pub places_append : {X : Type 0} (p : ℕ) (xs ys : List X) → places p (xs ++ ys) ≡ places p xs ++ places (p + length xs) ys
+places_append p [] ys = let e : p ≡ p + 0 = omega arith in ap (λ (k : ℕ). places k ys) e
+places_append {X} p (x ∷ xs) ys =
+    let e : p + 1 + length xs ≡ p + suc (length xs) = omega arith in
+    ap (λ (ps : List ℕ). p ∷ ps) (places_append (p + 1) xs ys ∙ ap (λ (k : ℕ). places (p + 1) xs ++ places k ys) e)
+
+-- the routes of the first rows and of one more
+pub rows_end : (i : ℕ) (xs : List (List Branch)) (row : List Branch) → length xs ≡ i → rows_routes 0 (xs ++ row ∷ []) ≡ rows_routes 0 xs ++ row_routes i row
+rows_end i xs row count =
+    let at : 0 + length xs ≡ i = omega arith in
+    rows_append 0 xs (row ∷ []) ∙ ap (λ (k : ℕ). rows_routes 0 xs ++ rows_routes k (row ∷ [])) at ∙ ap (λ (rs : List Route). rows_routes 0 xs ++ rs) (append-nil (row_routes i row))
+
+-- the routes of all rows, with one apart
+pub rows_middle : (i : ℕ) (xs : List (List Branch)) (row : List Branch) (ys : List (List Branch)) → length xs ≡ i → rows_routes 0 (xs ++ row ∷ ys) ≡ rows_routes 0 xs ++ (row_routes i row ++ rows_routes (i + 1) ys)
+rows_middle i xs row ys count =
+    let at : 0 + length xs ≡ i = omega arith in
+    rows_append 0 xs (row ∷ ys) ∙ ap (λ (k : ℕ). rows_routes 0 xs ++ rows_routes k (row ∷ ys)) at
+
+pub rows_empty : (p k : ℕ) → rows_routes p (replicate k []) ≡ []
+rows_empty p zero = refl
+rows_empty p (suc k) = rows_empty (p + 1) k
+
+pub sound_empty : (k : ℕ) → AreSound (replicate k [])
+sound_empty zero = tt
+sound_empty (suc k) = (record { rise = tt; ordered = tt }, sound_empty k)
+
+-- further rows without nodes change nothing
+pub rows_more : (rows grown : List (List Branch)) (k : ℕ) → grown ≡ rows ++ replicate k [] → rows_routes 0 grown ≡ rows_routes 0 rows
+rows_more rows grown k e = ap (rows_routes 0) e ∙ rows_append 0 rows (replicate k []) ∙ ap (λ (rs : List Route). rows_routes 0 rows ++ rs) (rows_empty (0 + length rows) k) ∙ append-nil (rows_routes 0 rows)
+
+pub sound_more : (rows grown : List (List Branch)) (k : ℕ) → grown ≡ rows ++ replicate k [] → AreSound rows → AreSound grown
+sound_more rows grown k e h = subst AreSound (sym e) (all_both IsSoundRow rows (replicate k []) h (sound_empty k))
+
+-- the lesser of two is none only where both are
+pub lesser_none : (a b : Option Candidate) → lesser_of a b ≡ None → (a ≡ None) × (b ≡ None)
+lesser_none None b e = (refl, e)
+lesser_none (Some x) None e = absurd cc
+lesser_none (Some x) (Some y) e = by (is_le (key_cmp x y)) e
+  where
+    by : (t : Bool) → (if t then Some x else Some y) ≡ None → (Some x ≡ None) × (Some y ≡ None)
+    by true k = absurd cc
+    by false k = absurd cc
+
+-- ---- one row further
+
+module _ (rows items : List (List Branch)) (i : ℕ) (row now d : List Branch) (within : i < length rows) (within' : i < length items) (is : row ≡ get_or rows i d) where
+  front_count : (xs : List (List Branch)) → i < length xs → length (take i xs) ≡ i
+  front_count xs w = length-take-le i xs (omega arith)
+
+  before_on : take (i + 1) rows ≡ take i rows ++ row ∷ []
+  before_on = take_more rows i d within ∙ ap (λ (x : List Branch). take i rows ++ x ∷ []) (sym is)
+
+  pub before_routes : rows_routes 0 (take (i + 1) rows) ≡ rows_routes 0 (take i rows) ++ row_routes i row
+  before_routes = ap (rows_routes 0) before_on ∙ rows_end i (take i rows) row (front_count rows within)
+
+  pub now_routes : rows_routes 0 (take (i + 1) (set items i now)) ≡ rows_routes 0 (take i items) ++ row_routes i now
+  now_routes = ap (rows_routes 0) (take_more_set items i now within') ∙ rows_end i (take i items) now (front_count items within')
+
+  pub before_all : rows_routes 0 rows ≡ rows_routes 0 (take i rows) ++ (row_routes i row ++ rows_routes (i + 1) (drop (i + 1) rows))
+  before_all = ap (rows_routes 0) (split_at_place rows i d within ∙ ap (λ (x : List Branch). take i rows ++ x ∷ drop (i + 1) rows) (sym is)) ∙ rows_middle i (take i rows) row (drop (i + 1) rows) (front_count rows within)
+
+  pub now_all : drop i items ≡ drop i rows → rows_routes 0 (set items i now) ≡ rows_routes 0 (take i items) ++ (row_routes i now ++ rows_routes (i + 1) (drop (i + 1) rows))
+  now_all left =
+      ap (rows_routes 0) (set_at_place items i now within' ∙ ap (λ (xs : List (List Branch)). take i items ++ now ∷ xs) (left_more items rows i left))
+      ∙ rows_middle i (take i items) now (drop (i + 1) rows) (front_count items within')
+
+  pub sound_on : AreSound (take i items) → IsSoundRow now → AreSound (take (i + 1) (set items i now))
+  sound_on h k = subst AreSound (sym (take_more_set items i now within')) (all_both IsSoundRow (take i items) (now ∷ []) h (k, tt))
+
+  pub sound_all : drop i items ≡ drop i rows → AreSound rows → AreSound (take i items) → IsSoundRow now → AreSound (set items i now)
+  sound_all left whole h k =
+      subst AreSound (sym (set_at_place items i now within' ∙ ap (λ (xs : List (List Branch)). take i items ++ now ∷ xs) (left_more items rows i left)))
+      (all_both IsSoundRow (take i items) (now ∷ drop (i + 1) rows) h (k, all_drop IsSoundRow rows (i + 1) whole))
+
+  pub lasts_on : (n : ℕ) → Lasts n (rows_routes 0 (take i rows)) (rows_routes 0 (take i items)) → Lasts n (row_routes i row) (row_routes i now) → Lasts n (rows_routes 0 (take (i + 1) rows)) (rows_routes 0 (take (i + 1) (set items i now)))
+  lasts_on n h k = ap (filter (lacks (n ∷ []))) now_routes ∙ lasts_both n (rows_routes 0 (take i rows)) (row_routes i row) (rows_routes 0 (take i items)) (row_routes i now) h k ∙ sym before_routes
+
+  pub lasts_all : (o : Offered) (slots : Assignment) → drop i items ≡ drop i rows → LeadOn o slots (rows_routes 0 rows) → Lasts o.number (rows_routes 0 (take i rows)) (rows_routes 0 (take i items)) → Lasts o.number (row_routes i row) (row_routes i now)
+      → Lasts o.number (rows_routes 0 rows) (rows_routes 0 (set items i now))
+  lasts_all o slots left lead h k =
+      let rest : List Route = rows_routes (i + 1) (drop (i + 1) rows) in
+      let place : 0 + (i + 1) ≡ i + 1 = omega arith in
+      let At : ℕ → Type 0 = λ m. LeadOn o slots (rows_routes m (drop (i + 1) rows)) in
+      let behind = lead_lasts o slots rest (subst At place (lead_rows_drop o slots 0 rows (i + 1) lead)) in
+      ap (filter (lacks (o.number ∷ []))) (now_all left)
+      ∙ lasts_both o.number (rows_routes 0 (take i rows)) (row_routes i row ++ rest) (rows_routes 0 (take i items)) (row_routes i now ++ rest) h (lasts_both o.number (row_routes i row) rest (row_routes i now) rest k behind)
+      ∙ sym before_all
+
+  pub best_on : (o : Offered) (slots : Assignment) (best found : Option Candidate) → best ≡ least (new_matches o slots ([] ∷ seen o (rows_routes 0 (take i rows)))) → found ≡ least (new_matches o slots (seen o (row_routes i row)))
+      → lesser_of best found ≡ least (new_matches o slots ([] ∷ seen o (rows_routes 0 (take (i + 1) rows))))
+  best_on o slots best found h k =
+      let here : List Candidate = matches_at o slots in
+      let front : List Candidate = new_matches o slots (seen o (rows_routes 0 (take i rows))) in
+      let more : List Candidate = new_matches o slots (seen o (row_routes i row)) in
+      (λ j. lesser_of (h j) (k j))
+      ∙ sym (least-append (here ++ front) more)
+      ∙ ap least (append_assoc here front more)
+      ∙ ap (λ (cs : List Candidate). least (here ++ cs)) (sym (matches_both o slots (rows_routes 0 (take i rows)) (row_routes i row)) ∙ ap (λ (rs : List Route). new_matches o slots (seen o rs)) (sym before_routes))
+
+  pub grows_on : (o : Offered) (slots : Assignment) (begun : List ℕ) → Grows o slots (filter (is_one_of begun) (places 0 (take i rows))) (rows_routes 0 (take i rows)) (rows_routes 0 (take i items))
+      → Grows o slots (filter (is_one_of begun) (i ∷ [])) (row_routes i row) (row_routes i now)
+      → Grows o slots (filter (is_one_of begun) (places 0 (take (i + 1) rows))) (rows_routes 0 (take (i + 1) rows)) (rows_routes 0 (take (i + 1) (set items i now)))
+  grows_on o slots begun h k =
+      let at : 0 + length (take i rows) ≡ i = let e = front_count rows within in omega arith in
+      let here : filter (is_one_of begun) (places 0 (take (i + 1) rows)) ≡ filter (is_one_of begun) (places 0 (take i rows)) ++ filter (is_one_of begun) (i ∷ []) =
+      ap (λ (xs : List (List Branch)). filter (is_one_of begun) (places 0 xs)) before_on
+      ∙ ap (filter (is_one_of begun)) (places_append 0 (take i rows) (row ∷ []) ∙ ap (λ (m : ℕ). places 0 (take i rows) ++ m ∷ []) at)
+      ∙ filter-append (is_one_of begun) (places 0 (take i rows)) (i ∷ [])
+      in
+      let both = grows_both o slots (filter (is_one_of begun) (places 0 (take i rows))) (filter (is_one_of begun) (i ∷ [])) (rows_routes 0 (take i rows)) (row_routes i row) (rows_routes 0 (take i items)) (row_routes i now) h k in
+      subst (λ (ps : List ℕ). Grows o slots ps (rows_routes 0 (take (i + 1) rows)) (rows_routes 0 (take (i + 1) (set items i now)))) (sym here)
+      (subst (λ (rs : List Route). Grows o slots (filter (is_one_of begun) (places 0 (take i rows)) ++ filter (is_one_of begun) (i ∷ [])) rs (rows_routes 0 (take (i + 1) (set items i now)))) (sym before_routes)
+      (subst (λ (rs : List Route). Grows o slots (filter (is_one_of begun) (places 0 (take i rows)) ++ filter (is_one_of begun) (i ∷ [])) (rows_routes 0 (take i rows) ++ row_routes i row) rs) (sym now_routes) both))
+
+  pub counts_rows_on : (length (rows_routes 0 (take (i + 1) rows)) ≡ length (rows_routes 0 (take i rows)) + length (row_routes i row)) × (length (rows_routes 0 (take (i + 1) (set items i now))) ≡ length (rows_routes 0 (take i items)) + length (row_routes i now))
+  counts_rows_on = (
+    ap (λ (rs : List Route). length rs) before_routes ∙ length-append (rows_routes 0 (take i rows)) (row_routes i row),
+    ap (λ (rs : List Route). length rs) now_routes ∙ length-append (rows_routes 0 (take i items)) (row_routes i now),
+  )
+
+  pub tries_rows_on : (o : Offered) (slots : Assignment) → tries_behind o slots (rows_routes 0 (take (i + 1) rows)) ≡ tries_behind o slots (rows_routes 0 (take i rows)) + tries_behind o slots (row_routes i row)
+  tries_rows_on o slots = ap (tries_behind o slots) before_routes ∙ tries_append o slots (rows_routes 0 (take i rows)) (row_routes i row)
+
+  pub tries_rows_most : (o : Offered) (slots : Assignment) → tries_behind o slots (rows_routes 0 (take i rows)) + tries_behind o slots (row_routes i row) ≤ tries_behind o slots (rows_routes 0 rows)
+  tries_rows_most o slots =
+      let whole = ap (tries_behind o slots) before_all ∙ tries_append o slots (rows_routes 0 (take i rows)) (row_routes i row ++ rows_routes (i + 1) (drop (i + 1) rows)) in
+      let rest = tries_append o slots (row_routes i row) (rows_routes (i + 1) (drop (i + 1) rows)) in
+      omega arith
+
+pub drop-map : (i : ℕ) (xs : List (VecDeque Node Global)) → rows_of (drop i xs) ≡ drop i (rows_of xs)
+drop-map zero xs = refl
+drop-map (suc i) [] = refl
+drop-map (suc i) (x ∷ xs) = drop-map i xs
+
+pub get_or-map : {X Y : Type 0} (xs : List X) (i : ℕ) (d : X) (f : X → Y) → f (get_or xs i d) ≡ get_or (map f xs) i (f d)
+get_or-map [] i d f = refl
+get_or-map (x ∷ xs) zero d f = refl
+get_or-map (x ∷ xs) (suc i) d f = get_or-map xs i d f
+
+-- ---- a node for the number at the end of a row
+
+abbrev pub leaf : ℕ → Branch
+leaf n = record { number = n; routes = [] }
+
+rise_push : (ns : List ℕ) (n : ℕ) → Rise ns → AllByRecursion (λ m. m < n) ns → Rise (ns ++ n ∷ [])
+rise_push [] n h k = (tt, tt)
+rise_push (m ∷ ns) n h k = (all_both (λ x. m < x) ns (n ∷ []) h.0 (k.0, tt), rise_push ns n h.1 k.1)
+
+pub numbers_below : (o : Offered) (slots : Assignment) (q : ℕ) (row : List Branch) → LeadOn o slots (row_routes q row) → AllByRecursion (λ m. m < o.number) (map (λ node. node.number) row)
+numbers_below o slots q [] h = tt
+numbers_below o slots q (node ∷ row) h =
+    ((lead_below o slots q node (all_left (LeadsOn o slots) (node_routes q node) (row_routes q row) h)).less, numbers_below o slots q row (all_right (LeadsOn o slots) (node_routes q node) (row_routes q row) h))
+
+pub push_sound : (n : ℕ) (row : List Branch) → IsSoundRow row → AllByRecursion (λ m. m < n) (map (λ node. node.number) row) → IsSoundRow (row ++ leaf n ∷ [])
+push_sound n row h k = record {
+  rise = subst Rise (sym (map-append (λ (node : Branch). node.number) row (leaf n ∷ []))) (rise_push (map (λ node. node.number) row) n h.rise k);
+  ordered = all_both IsOrderedNode row (leaf n ∷ []) h.ordered ((tt, tt), tt);
+}
+
+pub push_grows : (o : Offered) (slots : Assignment) (q : ℕ) (before now : List Branch) → Grows o slots [] (row_routes q before) (row_routes q now) → Grows o slots (q ∷ []) (row_routes q before) (row_routes q (now ++ leaf o.number ∷ []))
+push_grows o slots q before now g =
+    let both = grows_both o slots [] (q ∷ []) (row_routes q before) [] (row_routes q now) ((step q o.number ∷ []) ∷ []) g (grows_step o slots q) in
+    subst (λ (rs : List Route). Grows o slots (q ∷ []) rs (row_routes q (now ++ leaf o.number ∷ []))) (append-nil (row_routes q before))
+    (subst (λ (rs : List Route). Grows o slots (q ∷ []) (row_routes q before ++ []) rs) (sym (row_append q now (leaf o.number ∷ []))) both)
+
+-- ---- where the number begins
+
+pub one_of_in : (ps : List ℕ) (p : ℕ) → is_one_of ps p ≡ true → IsIn p ps
+one_of_in [] p h = absurd cc
+one_of_in (x ∷ ps) p h = by (p == x) refl h (one_of_in ps p)
+  where
+    by : (b : Bool) → (p == x) ≡ b → (b || is_one_of ps p) ≡ true → (is_one_of ps p ≡ true → IsIn p ps) → IsIn p (x ∷ ps)
+    by true e k later = inl (grind (arith, nat_tests))
+    by false e k later = inr (later k)
+
+or_true : (b : Bool) → (b || true) ≡ true
+or_true true = refl
+or_true false = refl
+
+in_one_of : (ps : List ℕ) (p : ℕ) → IsIn p ps → is_one_of ps p ≡ true
+in_one_of [] p m = absurd m
+in_one_of (x ∷ ps) p (inl e) = let same : (p == x) ≡ true = grind (arith, nat_tests) in λ i. same i || is_one_of ps p
+in_one_of (x ∷ ps) p (inr m) = (λ i. (p == x) || in_one_of ps p m i) ∙ or_true (p == x)
+
+in_places : {X : Type 0} (p k : ℕ) (xs : List X) → k ≤ p → p < k + length xs → IsIn p (places k xs)
+in_places p k [] l h = absurd (omega arith)
+in_places {X} p k (x ∷ xs) l h = by (k == p) refl (λ m. in_places p (k + 1) xs m (omega arith))
+  where
+    by : (b : Bool) → (k == p) ≡ b → (k + 1 ≤ p → IsIn p (places (k + 1) xs)) → IsIn p (k ∷ places (k + 1) xs)
+    by true e later = inl (grind (arith, nat_tests))
+    by false e later = inr (later (grind (arith, nat_tests)))
+
+from_places : {X : Type 0} (p k : ℕ) (xs : List X) → IsIn p (places k xs) → p < k + length xs
+from_places p k [] m = absurd m
+from_places p k (x ∷ xs) (inl e) = omega arith
+from_places p k (x ∷ xs) (inr m) = let l = from_places p (k + 1) xs m in omega arith
+
+-- each of the patterns at which the number begins has a row
+pub begins_in_rows : (o : Offered) (slots : Assignment) (rows : List (List Branch)) (before now : List Route) → length o.definition.patterns ≤ length rows
+    → Grows o slots (filter (is_one_of (growing o slots)) (places 0 rows)) before now → Grows o slots (growing o slots) before now
+begins_in_rows o slots rows before now enough g =
+    let begun : List ℕ = growing o slots in
+    grows_here o slots (filter (is_one_of begun) (places 0 rows)) begun before now
+    (λ p m. one_of_in begun p (IsIn-filter_from (is_one_of begun) p (places 0 rows) m).1)
+    (λ p m.
+    let in_takers = (IsIn-filter_from (leaves_one_free o slots) p (takers o slots) m).0 in
+    let below = from_places p 0 o.definition.patterns (IsIn-filter_from (may_take o slots) p (places 0 o.definition.patterns) in_takers).0 in
+    IsIn-filter (is_one_of begun) p (places 0 rows) (in_one_of begun p m) (in_places p 0 rows (omega arith) (omega arith)))
+    g
+
+-- without a pattern at which it begins it begins nowhere
+pub begins_nowhere : (o : Offered) (slots : Assignment) (rows : List (List Branch)) (before now : List Route) → growing o slots ≡ []
+    → Grows o slots (filter (is_one_of (growing o slots)) (places 0 rows)) before now → Grows o slots (growing o slots) before now
+begins_nowhere o slots rows before now none g =
+    let begun : List ℕ = growing o slots in
+    grows_here o slots (filter (is_one_of begun) (places 0 rows)) begun before now
+    (λ p m. one_of_in begun p (IsIn-filter_from (is_one_of begun) p (places 0 rows) m).1)
+    (λ p m. absurd (subst (λ (ps : List ℕ). IsIn p ps) none m))
+    g
+
+-- rows that may have become more: they have the same routes, and there is one for each pattern at which a number begins
+pub record Roomy (o : Offered) (slots : Assignment) (before now : List (List Branch)) : Type 0 where
+  pub routes : rows_routes 0 now ≡ rows_routes 0 before
+  pub sound : AreSound now
+  pub enough : (length o.definition.patterns ≤ length now) ⊎ (growing o slots ≡ [])
+  pub no_deeper : (size : Branch → ℕ) → most (most size) now ≤ most (most size) before
+
+most_empty : (size : Branch → ℕ) (k : ℕ) → most (most size) (replicate k []) ≡ 0
+most_empty size zero = refl
+most_empty size (suc k) = let e = most_empty size k in omega arith
+
+pub roomy_grown : (o : Offered) (slots : Assignment) (before now : List (List Branch)) (k : ℕ) → now ≡ before ++ replicate k [] → AreSound before → length o.definition.patterns ≤ length now → Roomy o slots before now
+roomy_grown o slots before now k e sound enough = record {
+  routes = rows_more before now k e;
+  sound = sound_more before now k e sound;
+  enough = inl enough;
+  no_deeper = λ size. let is = ap (most (most size)) e ∙ most-append (most size) before (replicate k []) in let none = most_empty size k in omega arith;
+}
+
+pub roomy_same : (o : Offered) (slots : Assignment) (before now : List (List Branch)) → now ≡ before → AreSound before → growing o slots ≡ [] → Roomy o slots before now
+roomy_same o slots before now e sound none = record {
+  routes = ap (rows_routes 0) e;
+  sound = subst AreSound (sym e) sound;
+  enough = inr none;
+  no_deeper = λ size. let is = ap (most (most size)) e in omega arith;
+}
+
+pub most_map : {X Y : Type 0} (f : Y → ℕ) (g : X → Y) (xs : List X) → most f (map g xs) ≡ most (λ x. f (g x)) xs
+most_map f g [] = refl
+most_map f g (x ∷ xs) = ap (max (f (g x))) (most_map f g xs)
+
+pub grows_roomy : (o : Offered) (slots : Assignment) (before rows : List (List Branch)) (now : List Route) → Roomy o slots before rows
+    → Grows o slots (filter (is_one_of (growing o slots)) (places 0 rows)) (rows_routes 0 rows) now → Grows o slots (growing o slots) (rows_routes 0 before) now
+grows_roomy o slots before rows now roomy g =
+    subst (λ (rs : List Route). Grows o slots (growing o slots) rs now) roomy.routes
+    (elim roomy.enough [
+      | inl enough ↦ begins_in_rows o slots rows (rows_routes 0 rows) now enough g
+      | inr none ↦ begins_nowhere o slots rows (rows_routes 0 rows) now none g
+    ])

@@ -1,0 +1,14 @@
+use Rattle.std.proofs.Common.{◌≡◌, ◌+◌, length}
+use Rattle.match_tree.specs.Routes.{row_routes}
+use Rattle.match_tree.specs.Order.{IsSoundRow}
+use Rattle.match_tree.specs.Pruned.{AreShort, seen_nodes}
+use Rattle.match_tree.proofs.expire.drop_front.Given as goal
+
+abbrev pub invariant-loop-dropped : goal.invariant-loop-dropped
+invariant-loop-dropped l = record {
+  same : seen_nodes l.oldest l.row.items ≡ seen_nodes l.oldest l.initial.row.items;
+  sound : IsSoundRow l.row.items;
+  short : AreShort l.levels (row_routes 0 l.row.items);
+  long : l._dropped + length l.row.items ≡ length l.initial.row.items;
+  counted : l.gone + length (row_routes 0 l.row.items) ≡ length (row_routes 0 l.initial.row.items);
+}

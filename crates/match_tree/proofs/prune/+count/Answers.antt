@@ -1,0 +1,103 @@
+use Rattle.std.specs.declared.collections.VecDeque.{VecDeque}
+use Rattle.std.proofs.Common.{◌≡◌, ◌∙◌, ◌≤◌, ◌<◌, ◌+◌, ◌-◌, ◌^◌, ◌∷◌, ℕ, List, ap, sym, subst, arith, length, drop, get_or, refl, length-append}
+use Rattle.std.specs.declared.alloc.Global.{Global}
+use Rattle.std.proofs.lemmas.List.{drop_more, at_drop_more}
+use Rattle.guard_eval.proofs.ReadyLemmas.{all_left, all_right}
+use denote.Param.Weighed.{at_most, most}
+use Rattle.match_tree.specs.declared.node.Node.{Node}
+use Rattle.match_tree.specs.declared.node.Node.TheDeep.{size-Node}
+use Rattle.match_tree.specs.declared.node.Node.TheShapes.{weighed-Node-rows-at-1}
+use Rattle.match_tree.specs.declared.node.Node.TheView.{size}
+use Rattle.match_tree.specs.Smaller.{most_of_rows}
+use Rattle.match_tree.specs.Routes.{Route, Branch, row_routes, rows_routes, node_routes}
+use Rattle.match_tree.specs.Rows.{rows_of}
+use Rattle.match_tree.specs.Order.{AreOrdered, IsOrderedNode, AreSound}
+use Rattle.match_tree.specs.Pruned.{AreShort}
+use Rattle.match_tree.proofs.OrderLemmas.{rows_sound}
+use Rattle.match_tree.proofs.WalkLemmas.{all_at, node_length}
+use Rattle.match_tree.proofs.PruneLemmas.{short_below, leaves_count, rows_count, short_rows}
+use Rattle.match_tree.proofs.prune.+count.Goals as goal
+
+pub count_node-count_rows-requires : goal.count_node-count_rows-requires
+count_node-count_rows-requires t c =
+    let a = c.args in
+    let rows = c.node.inside.rows.items in
+    let same = sym c.deref.ensures.value in
+    let routes_are : rows_routes 0 (rows_of rows) ≡ a.node.now.routes = ap (λ (x : Branch). x.routes) c.node.view_is in
+    let smaller : most (weighed-Node-rows-at-1.weight Node size-Node) rows ≤ length (rows_routes 0 (rows_of rows)) = most_of_rows size-Node (λ x. omega arith) (λ row. row.items) 0 rows in
+    let sized : size a.node.now ≡ length a.node.now.routes = refl in
+    let deep = ap (most (weighed-Node-rows-at-1.weight Node size-Node)) same in
+    let count = ap (λ (rs : List Route). length rs) routes_are in
+    let at : (P : List (VecDeque Node Global) → Type 0) → P rows → P c.deref.result.now = λ P p. subst P same p in (
+      omega (arith, c.decreases),
+      (
+        at (λ xs. length (rows_routes 0 (rows_of xs)) < 2 ^ 64) (omega (arith, c.requires.few)),
+        (
+          at (λ xs. AreSound (rows_of xs)) (rows_sound 0 (rows_of rows) (subst AreOrdered (sym routes_are) c.requires.ordered.1)),
+          at (λ xs. AreShort a.levels (rows_routes 0 (rows_of xs))) (subst (AreShort a.levels) (sym routes_are) c.requires.short),
+        ),
+      ),
+    )
+
+pub count_nodes-returns-then-levels-le1 : goal.count_nodes-returns-then-levels-le1
+count_nodes-returns-then-levels-le1 t c =
+    let a = c.args in
+    let count = a.nodes.now.ok.0 in
+    let all = leaves_count a.levels 0 a.nodes.now.items c.if-levels-le1.true c.requires.sound.ordered (short_below a.levels 0 a.nodes.now.items c.requires.short) in
+    omega (arith, c.len.ensures)
+
+pub count_nodes-count_node-requires : goal.count_nodes-count_node-requires
+count_nodes-count_node-requires t c =
+    let a = c.args in
+    let i : ℕ = c.loop-place.place in
+    let d = c.index.result.now in
+    let is = c.index.ensures in
+    let items = a.nodes.now.items in
+    let within : i < length items = omega (arith, c.loop-place-test.true, c.len-place-end.ensures, a.nodes.now.ok.0) in
+    let left = at_drop_more (row_routes 0) items i d within in
+    let count = ap (λ (rs : List Route). length rs) left ∙ length-append (node_routes 0 (get_or items i d)) (row_routes 0 (drop (i + 1) items)) in
+    let here = node_length 0 (get_or items i d) in
+    let same = ap (λ (x : Branch). length x.routes) is in (
+      omega (arith, c.decreases, at_most size-Node items i d within, ap size-Node is),
+      (
+        omega (arith, c.requires.few, c.loop-place.invariant),
+        (
+          subst IsOrderedNode (sym is) (all_at IsOrderedNode items i d within c.requires.sound.ordered),
+          subst (λ (x : Branch). AreShort (a.levels - 1) x.routes) (sym is) (all_at (λ (x : Branch). AreShort (a.levels - 1) x.routes) items i d within (short_below a.levels 0 items c.requires.short)),
+        ),
+      ),
+    )
+
+pub count_rows-count_nodes-count-requires : goal.count_rows-count_nodes-count-requires
+count_rows-count_nodes-count-requires t c =
+    let a = c.args in
+    let i : ℕ = c.loop-row.row-index in
+    let d = c.row-item.result in
+    let within = c.loop-row-test.true in
+    let rest = rows_of (drop (i + 1) a.rows.now) in
+    let left : rows_of (drop i a.rows.now) ≡ d.items ∷ rest = ap rows_of (drop_more a.rows.now i d within) ∙ ap (λ (v : VecDeque Node Global). v.items ∷ rest) (sym c.row-item.is) in
+    let routes = ap (rows_routes 0) left in
+    let count = ap (λ (rs : List Route). length rs) routes ∙ length-append (row_routes 0 d.items) (rows_routes 1 rest) in
+    let short = subst (AreShort a.levels) routes c.loop-row.invariant.short in
+    let deep = at_most (weighed-Node-rows-at-1.weight Node size-Node) a.rows.now i d within in
+    let row_size = ap (weighed-Node-rows-at-1.weight Node size-Node) c.row-item.is in (
+      omega (arith, c.decreases),
+      (omega (arith, c.requires.few, c.loop-row.invariant.counted), ((subst AreSound left c.loop-row.invariant.sound).0, all_left (λ (r : Route). length r ≤ a.levels) (row_routes 0 d.items) (rows_routes 1 rest) short)),
+    )
+
+pub count_rows-loop-row-preserved : goal.count_rows-loop-row-preserved
+count_rows-loop-row-preserved t c =
+    let a = c.args in
+    let i : ℕ = c.loop-row.row-index in
+    let d = c.row-item.result in
+    let within = c.loop-row-test.true in
+    let rest = rows_of (drop (i + 1) a.rows.now) in
+    let left : rows_of (drop i a.rows.now) ≡ d.items ∷ rest = ap rows_of (drop_more a.rows.now i d within) ∙ ap (λ (v : VecDeque Node Global). v.items ∷ rest) (sym c.row-item.is) in
+    let routes = ap (rows_routes 0) left in
+    let count = ap (λ (rs : List Route). length rs) routes ∙ length-append (row_routes 0 d.items) (rows_routes 1 rest) in
+    let short = subst (AreShort a.levels) routes c.loop-row.invariant.short in
+    record {
+      counted = omega (arith, c.loop-row.invariant.counted, c.count_nodes-count.ensures, rows_count 1 0 rest);
+      sound = (subst AreSound left c.loop-row.invariant.sound).1;
+      short = short_rows a.levels 1 0 rest (all_right (λ (r : Route). length r ≤ a.levels) (row_routes 0 d.items) (rows_routes 1 rest) short);
+    }

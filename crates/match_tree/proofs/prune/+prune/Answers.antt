@@ -1,0 +1,216 @@
+use Rattle.std.specs.declared.collections.VecDeque.{VecDeque}
+use Rattle.std.proofs.Common.{◌≡◌, ◌∙◌, ◌≤◌, ◌<◌, ◌+◌, ◌-◌, ◌^◌, ◌∷◌, [], ◌++◌, ℕ, List, ap, sym, subst, arith, length, take, get_or, set, map, refl}
+use Rattle.std.specs.Prelude.{not}
+use Rattle.std.specs.List.{filter, AllByRecursion}
+use Rattle.std.specs.declared.alloc.Global.{Global}
+use Rattle.std.proofs.lemmas.List.{nil_from_length, get_or_default, take_more, take_more_set, drop-set-lt, length-map, length-set, map-append, map-set}
+use Rattle.std.proofs.lemmas.List.Elements.{filter-append}
+use denote.Param.Weighed.{at_most, most}
+use Rattle.match_tree.specs.declared.node.Node.{Node}
+use Rattle.match_tree.specs.declared.node.Node.TheDeep.{size-Node}
+use Rattle.match_tree.specs.declared.node.Node.TheShapes.{weighed-Node-rows-at-1}
+use Rattle.match_tree.specs.declared.node.Node.TheView.{size}
+use Rattle.match_tree.specs.Smaller.{most_of_rows}
+use Rattle.match_tree.specs.Routes.{Route, Branch, row_routes, rows_routes, lacks, is_one_of}
+use Rattle.match_tree.specs.Rows.{rows_of}
+use Rattle.match_tree.specs.Order.{AreOrdered, IsOrderedNode, IsSoundRow, AreSound}
+use Rattle.match_tree.specs.Pruned.{AreShort, pruned, without_numbers}
+use Rattle.match_tree.proofs.OrderLemmas.{rows_sound}
+use Rattle.match_tree.proofs.WalkLemmas.{all_at, left_item, left_more}
+use Rattle.match_tree.proofs.RowsLemmas.{before_routes, now_routes, counts_rows_on, get_or-map, most_map}
+use Rattle.match_tree.proofs.PruneLemmas.{row_count, short_below, pruned_row, pruned_leaves, all_filtered, all_rows, short_row, most_filter}
+use Rattle.match_tree.proofs.CountLemmas.{empty_length, counts_parts, counts_steps, counts_row}
+use Rattle.match_tree.proofs.prune.+prune.Goals as goal
+
+pub prune_node-prune_rows-requires : goal.prune_node-prune_rows-requires
+prune_node-prune_rows-requires t c =
+    let a = c.args in
+    let rows = c.node.inside.rows.items in
+    let same = sym c.deref_mut.ensures.value in
+    let routes_are : rows_routes 0 (rows_of rows) ≡ a.node.now.routes = ap (λ (x : Branch). x.routes) c.node.view_is in
+    let smaller : most (weighed-Node-rows-at-1.weight Node size-Node) rows ≤ length (rows_routes 0 (rows_of rows)) = most_of_rows size-Node (λ x. omega arith) (λ row. row.items) 0 rows in
+    let sized : size a.node.now ≡ length a.node.now.routes = refl in
+    let deep = ap (most (weighed-Node-rows-at-1.weight Node size-Node)) same in
+    let count = ap (λ (rs : List Route). length rs) routes_are in
+    let at : (P : List (VecDeque Node Global) → Type 0) → P rows → P c.deref_mut.result.now = λ P p. subst P same p in (
+      omega (arith, c.decreases),
+      (
+        at (λ xs. length (rows_routes 0 (rows_of xs)) < 2 ^ 64) (omega (arith, c.requires.few)),
+        (
+          at (λ xs. AreSound (rows_of xs)) (rows_sound 0 (rows_of rows) (subst AreOrdered (sym routes_are) c.requires.ordered.1)),
+          at (λ xs. AreShort a.levels (rows_routes 0 (rows_of xs))) (subst (AreShort a.levels) (sym routes_are) c.requires.short),
+        ),
+      ),
+    )
+
+pub prune_nodes-loop-place-init : goal.prune_nodes-loop-place-init
+prune_nodes-loop-place-init t c = record { done = refl; left = refl; long = refl; counted = refl }
+
+pub prune_nodes-index_mut-requires : goal.prune_nodes-index_mut-requires
+prune_nodes-index_mut-requires t c = omega (arith, c.loop-place-test.true, c.len-place-end.ensures, c.loop-place.invariant.long, c.args.nodes.now.ok.0, c.loop-place.nodes.ok.0)
+
+pub prune_nodes-prune_node-gone-requires : goal.prune_nodes-prune_node-gone-requires
+prune_nodes-prune_node-gone-requires t c =
+    let a = c.args in
+    let i : ℕ = c.loop-place.place in
+    let d = c.index_mut.result.now in
+    let first = a.nodes.now.items in
+    let items = c.loop-place.nodes.items in
+    let is : d ≡ get_or first i d = c.index_mut.ensures.value ∙ left_item items first i d c.loop-place.invariant.left in
+    let within : i < length first = omega (arith, c.loop-place-test.true, c.len-place-end.ensures, a.nodes.now.ok.0) in
+    let count = counts_parts first i d within is in (
+      omega (arith, c.decreases, at_most size-Node first i d within, ap size-Node is),
+      (
+        omega (arith, c.requires.few),
+        (subst IsOrderedNode (sym is) (all_at IsOrderedNode first i d within c.requires.ordered), subst (λ (x : Branch). AreShort a.levels x.routes) (sym is) (all_at (λ (x : Branch). AreShort a.levels x.routes) first i d within c.requires.short)),
+      ),
+    )
+
+pub prune_nodes-overflow_add-gone : goal.prune_nodes-overflow_add-gone
+prune_nodes-overflow_add-gone t c =
+    let a = c.args in
+    let i : ℕ = c.loop-place.place in
+    let d = c.index_mut.result.now in
+    let first = a.nodes.now.items in
+    let items = c.loop-place.nodes.items in
+    let is : d ≡ get_or first i d = c.index_mut.ensures.value ∙ left_item items first i d c.loop-place.invariant.left in
+    let within : i < length first = omega (arith, c.loop-place-test.true, c.len-place-end.ensures, a.nodes.now.ok.0) in
+    let count = counts_parts first i d within is in
+    omega (arith, c.requires.few, c.loop-place.invariant.counted, c.prune_node-gone.ensures.gone)
+
+pub prune_nodes-loop-place-preserved : goal.prune_nodes-loop-place-preserved
+prune_nodes-loop-place-preserved t c =
+    let a = c.args in
+    let i : ℕ = c.loop-place.place in
+    let d = c.index_mut.result.now in
+    let first = a.nodes.now.items in
+    let items = c.loop-place.nodes.items in
+    let now = c.prune_node-gone.new.node in
+    let is : d ≡ get_or first i d = c.index_mut.ensures.value ∙ left_item items first i d c.loop-place.invariant.left in
+    let within : i < length first = omega (arith, c.loop-place-test.true, c.len-place-end.ensures, a.nodes.now.ok.0) in
+    let within' : i < length items = omega (arith, c.loop-place.invariant.long) in
+    let cut : Branch → Branch = pruned a.numbers.now in
+    let count = counts_steps first items i d now d within within' is in
+    record {
+      done = take_more_set items i now within' ∙ (λ j. c.loop-place.invariant.done j ++ (c.prune_node-gone.ensures.left ∙ ap cut is) j ∷ [])
+          ∙ sym (map-append cut (take i first) (get_or first i d ∷ [])) ∙ ap (map cut) (sym (take_more first i d within));
+      left = drop-set-lt (i + 1) items i now (omega arith) ∙ left_more items first i c.loop-place.invariant.left;
+      long = length-set items i now ∙ c.loop-place.invariant.long;
+      counted = omega (arith, c.loop-place.invariant.counted, c.prune_node-gone.ensures.gone);
+    }
+
+pub prune_row-prune_nodes-requires : goal.prune_row-prune_nodes-requires
+prune_row-prune_nodes-requires t c =
+    let a = c.args in
+    let row = a.row.now.items in
+    let is = c.remove_numbers-gone.ensures.left in
+    let keep = all_filtered IsOrderedNode _ row c.requires.sound.ordered in
+    let short = all_filtered (λ (x : Branch). AreShort (a.levels - 1) x.routes) _ row (short_below a.levels 0 row c.requires.short) in
+    let size_is = ap (most size-Node) is in
+    let smaller = most_filter size-Node (λ node. not (is_one_of a.numbers.now node.number)) row in (
+      omega (arith, c.decreases),
+      (omega (arith, c.requires.few, c.remove_numbers-gone.ensures.gone), (subst (λ (xs : List Branch). AllByRecursion IsOrderedNode xs) (sym is) keep, subst (λ (xs : List Branch). AllByRecursion (λ node. AreShort (a.levels - 1) node.routes) xs) (sym is) short)),
+    )
+
+pub prune_row-returns-then-is_empty : goal.prune_row-returns-then-is_empty
+prune_row-returns-then-is_empty t c =
+    let row = c.args.row.now.items in
+    let none : row ≡ [] = nil_from_length row (empty_length c.args.row.now.len (length row) c.args.row.now.ok.0 (sym c.is_empty.ensures ∙ c.if-is_empty.true)) in
+    record {
+      left = λ p. ap (row_routes p) none ∙ sym (ap (λ (xs : List Branch). filter (lacks c.args.numbers.now) (row_routes p xs)) none);
+      gone = omega arith;
+    }
+
+pub prune_row-overflow_add-result : goal.prune_row-overflow_add-result
+prune_row-overflow_add-result t c = omega (arith, c.requires.few, c.remove_numbers-gone.ensures.gone, c.prune_nodes.ensures.gone)
+
+pub prune_row-returns : goal.prune_row-returns
+prune_row-returns t c =
+    let a = c.args in
+    let row = a.row.now.items in
+    record {
+      left = λ p. ap (row_routes p) (c.prune_nodes.ensures.left ∙ ap (map (pruned a.numbers.now)) c.remove_numbers-gone.ensures.left) ∙ pruned_row a.numbers.now p row;
+      gone = omega (arith, c.remove_numbers-gone.ensures.gone, c.prune_nodes.ensures.gone);
+    }
+
+pub prune_row-returns-then-levels-le1 : goal.prune_row-returns-then-levels-le1
+prune_row-returns-then-levels-le1 t c =
+    let a = c.args in
+    let row = a.row.now.items in
+    let left = without_numbers a.numbers.now row in
+    let keep = all_filtered IsOrderedNode _ row c.requires.sound.ordered in
+    let short = all_filtered (λ (x : Branch). AreShort (a.levels - 1) x.routes) _ row (short_below a.levels 0 row c.requires.short) in
+    record {
+      left = λ p. ap (row_routes p) (c.remove_numbers-gone.ensures.left ∙ sym (pruned_leaves a.numbers.now a.levels left c.if-levels-le1.true keep short)) ∙ pruned_row a.numbers.now p row;
+      gone = c.remove_numbers-gone.ensures.gone;
+    }
+
+pub prune_rows-prune_row-gone-requires : goal.prune_rows-prune_row-gone-requires
+prune_rows-prune_row-gone-requires t c =
+    let a = c.args in
+    let i : ℕ = c.loop-row.row-index in
+    let d = c.row-item.result in
+    let items = c.loop-row.rows in
+    let first = a.rows.now in
+    let within : i < length first = omega (arith, c.loop-row-test.true, c.loop-row.auto.rows) in
+    let same = left_item items first i d c.loop-row.invariant.left in
+    let is : (get_or items i d).items ≡ get_or (rows_of first) i d.items = ap (λ (v : VecDeque Node Global). v.items) same ∙ get_or-map first i d (λ (v : VecDeque Node Global). v.items) in
+    let counted : length (rows_of first) ≡ length first = length-map first (λ (v : VecDeque Node Global). v.items) in
+    let in_rows : i < length (rows_of first) = omega arith in
+    let sizes : VecDeque Node Global → List Branch = λ v. v.items in
+    let here = at_most (most size-Node) (rows_of first) i d.items in_rows in
+    let row_size = ap (most size-Node) is in
+    let all = most_map (most size-Node) sizes first in
+    let short = all_rows (λ (r : Route). length r ≤ a.levels) 0 (rows_of first) i d.items in_rows c.requires.short in
+    let count = counts_row (rows_of first) i (get_or (rows_of first) i d.items) in_rows (get_or_default (rows_of first) i d.items (get_or (rows_of first) i d.items) in_rows) in
+    let length_is = ap (λ (xs : List Branch). length (row_routes 0 xs)) is in (
+      omega (arith, c.decreases),
+      (
+        omega (arith, c.requires.few),
+        (subst (λ (xs : List Branch). IsSoundRow xs) (sym is) (all_at IsSoundRow (rows_of first) i d.items in_rows c.requires.sound), subst (λ (xs : List Branch). AreShort a.levels (row_routes 0 xs)) (sym is) (short_row a.levels (0 + i) 0 (get_or (rows_of first) i d.items) short)),
+      ),
+    )
+
+pub prune_rows-overflow_add-gone : goal.prune_rows-overflow_add-gone
+prune_rows-overflow_add-gone t c =
+    let a = c.args in
+    let i : ℕ = c.loop-row.row-index in
+    let d = c.row-item.result in
+    let items = c.loop-row.rows in
+    let first = a.rows.now in
+    let same = left_item items first i d c.loop-row.invariant.left in
+    let is : (get_or items i d).items ≡ get_or (rows_of first) i d.items = ap (λ (v : VecDeque Node Global). v.items) same ∙ get_or-map first i d (λ (v : VecDeque Node Global). v.items) in
+    let in_rows : i < length (rows_of first) = omega (arith, length-map first (λ (v : VecDeque Node Global). v.items), c.loop-row-test.true, c.loop-row.auto.rows) in
+    let count = counts_row (rows_of first) i (get_or (rows_of first) i d.items) in_rows (get_or_default (rows_of first) i d.items (get_or (rows_of first) i d.items) in_rows) in
+    let length_is = ap (λ (xs : List Branch). length (row_routes 0 xs)) is in
+    omega (arith, c.requires.few, c.loop-row.invariant.counted, c.prune_row-gone.ensures.gone)
+
+pub prune_rows-loop-row-preserved : goal.prune_rows-loop-row-preserved
+prune_rows-loop-row-preserved t c =
+    let a = c.args in
+    let i : ℕ = c.loop-row.row-index in
+    let d = c.row-item.result in
+    let items = c.loop-row.rows in
+    let first = a.rows.now in
+    let now = c.prune_row-gone.new.row in
+    let within : i < length first = omega (arith, c.loop-row-test.true, c.loop-row.auto.rows) in
+    let same = left_item items first i d c.loop-row.invariant.left in
+    let row = (get_or items i d).items in
+    let is : row ≡ get_or (rows_of first) i d.items = ap (λ (v : VecDeque Node Global). v.items) same ∙ get_or-map first i d (λ (v : VecDeque Node Global). v.items) in
+    let in_rows : i < length (rows_of first) = omega (arith, length-map first (λ (v : VecDeque Node Global). v.items)) in
+    let in_items : i < length (rows_of items) = omega (arith, length-map items (λ (v : VecDeque Node Global). v.items), c.loop-row-test.true, c.loop-row.auto.rows) in
+    let B = rows_of first in
+    let R = rows_of items in
+    let put : rows_of (set items i now) ≡ set R i now.items = map-set (λ (v : VecDeque Node Global). v.items) items i now in
+    let keep = filter (lacks a.numbers.now) in
+    let before : length (rows_routes 0 (take (i + 1) B)) ≡ length (rows_routes 0 (take i B)) + length (row_routes 0 row) = (counts_rows_on B R i row now.items d.items in_rows in_items is).0 ∙ ap (λ (n : ℕ). length (rows_routes 0 (take i B)) + n) (row_count i 0 row) in
+    let after : length (rows_routes 0 (take (i + 1) (rows_of (set items i now)))) ≡ length (rows_routes 0 (take i R)) + length (row_routes 0 now.items) =
+    ap (λ (xs : List (List Branch)). length (rows_routes 0 (take (i + 1) xs))) put ∙ (counts_rows_on B R i row now.items d.items in_rows in_items is).1 ∙ ap (λ (n : ℕ). length (rows_routes 0 (take i R)) + n) (row_count i 0 now.items)
+    in
+    record {
+      done = ap (λ (xs : List (List Branch)). rows_routes 0 (take (i + 1) xs)) put ∙ now_routes B R i row now.items d.items in_rows in_items is
+          ∙ (λ j. c.loop-row.invariant.done j ++ c.prune_row-gone.ensures.left i j)
+          ∙ sym (filter-append (lacks a.numbers.now) (rows_routes 0 (take i B)) (row_routes i row)) ∙ ap keep (sym (before_routes B R i row now.items d.items in_rows in_items is));
+      left = drop-set-lt (i + 1) items i now (omega arith) ∙ left_more items first i c.loop-row.invariant.left;
+      counted = omega (arith, c.loop-row.invariant.counted, c.prune_row-gone.ensures.gone);
+    }

@@ -1,0 +1,13 @@
+use Rattle.std.proofs.Common.{◌≡◌, ◌+◌, length, take}
+use Rattle.match_tree.specs.Routes.{row_routes}
+use Rattle.match_tree.specs.Order.{IsSoundRow}
+use Rattle.match_tree.specs.Pruned.{AreShort, without_numbers}
+use Rattle.match_tree.proofs.prune.remove_numbers.Given as goal
+
+abbrev pub invariant-loop-number : goal.invariant-loop-number
+invariant-loop-number l = record {
+  is : l.row.items ≡ without_numbers (take l.number-index l.number-items) l.initial.row.items;
+  sound : IsSoundRow l.row.items;
+  short : AreShort l.levels (row_routes 0 l.row.items);
+  counted : l.gone + length (row_routes 0 l.row.items) ≡ length (row_routes 0 l.initial.row.items);
+}

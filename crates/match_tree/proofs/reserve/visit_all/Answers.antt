@@ -1,0 +1,85 @@
+use Rattle.std.proofs.Common.{◌≡◌, ◌∙◌, ◌-◌, ◌∷◌, [], ℕ, List, None, replicate, length, ap, sym, subst, arith}
+use Rattle.std.specs.List.{filter, AllByRecursion}
+use Rattle.guard_eval.specs.Meaning.{Assignment}
+use Rattle.match_tree.specs.Routes.{Route, rows_routes, lacks}
+use Rattle.match_tree.specs.Rows.{rows_of}
+use Rattle.match_tree.specs.Offers.{may_take, takers}
+use Rattle.match_tree.specs.Below.{AreOpen}
+use Rattle.match_tree.specs.Offering.{offered, MayTry}
+use Rattle.match_tree.specs.Pruned.{AreShort}
+use Rattle.match_tree.specs.Tries.{tries_behind}
+use Rattle.match_tree.proofs.LeadLemmas.{lead_lasts}
+use Rattle.match_tree.proofs.RootLemmas.{try_empty, takers_empty, tried_empty, open_short, of_kind}
+use Rattle.match_tree.proofs.ReserveLemmas.{reserve_counts}
+use Rattle.match_tree.proofs.reserve.visit_all.Goals as goal
+
+pub visit_rows-requires-clause-free : goal.visit_rows-requires-clause-free
+visit_rows-requires-clause-free g c =
+    let a = c.args in
+    let o = offered a.offer.now in
+    let kinds = a.offer.now.definition.now.patterns in
+    let slots : c.new-slots.result ≡ replicate (length kinds) None = c.new-slots.ensures ∙ ap (λ (n : ℕ). replicate n None) c.len-patterns.ensures.count in
+    subst (λ (s : Assignment). AllByRecursion (MayTry s) c.of_kind-wanted.result) (sym slots) (subst (λ (ps : List ℕ). AllByRecursion (MayTry (replicate (length kinds) None)) ps) (sym c.of_kind-wanted.ensures) (try_empty (of_kind o) kinds))
+
+pub visit_rows-requires-clause-wanted : goal.visit_rows-requires-clause-wanted
+visit_rows-requires-clause-wanted g c =
+    let a = c.args in
+    let o = offered a.offer.now in
+    let kinds = a.offer.now.definition.now.patterns in
+    let slots : c.new-slots.result ≡ replicate (length kinds) None = c.new-slots.ensures ∙ ap (λ (n : ℕ). replicate n None) c.len-patterns.ensures.count in
+    subst (λ (s : Assignment). filter (may_take o s) c.of_kind-wanted.result ≡ takers o s) (sym slots) (ap (filter (may_take o (replicate (length kinds) None))) c.of_kind-wanted.ensures ∙ takers_empty o)
+
+pub remove_new-requires-clause-short : goal.remove_new-requires-clause-short
+remove_new-requires-clause-short g c =
+    let a = c.args in
+    let o = offered a.offer.now in
+    let kinds = a.offer.now.definition.now.patterns in
+    let slots : c.new-slots.result ≡ replicate (length kinds) None = c.new-slots.ensures ∙ ap (λ (n : ℕ). replicate n None) c.len-patterns.ensures.count in
+    let open_routes = subst (λ (s : Assignment). AreOpen s (rows_routes 0 (rows_of c.visit_rows.new.rows.items))) slots c.visit_rows.ensures.free_left in
+    let short = open_short (length kinds) (rows_routes 0 (rows_of c.visit_rows.new.rows.items)) open_routes in
+    subst (λ (n : ℕ). AreShort (n - 1) (rows_routes 0 (rows_of c.visit_rows.new.rows.items))) (sym c.len-patterns.ensures.count) short
+
+pub returns-in-Ok-None-clause-stepped : goal.returns-in-Ok-None-clause-stepped
+returns-in-Ok-None-clause-stepped g c =
+    let a = c.args in
+    let o = offered a.offer.now in
+    let kinds = a.offer.now.definition.now.patterns in
+    let slots : c.new-slots.result ≡ replicate (length kinds) None = c.new-slots.ensures ∙ ap (λ (n : ℕ). replicate n None) c.len-patterns.ensures.count in
+    let wanted = ap (λ (ps : List ℕ). length ps) (c.of_kind-wanted.ensures ∙ tried_empty o) in
+    let tried_there = ap (λ (s : Assignment). tries_behind o s (rows_routes 0 (rows_of a.rows.now.items))) slots in
+    omega (arith, c.visit_rows.ensures.stepped)
+
+pub returns-in_default-clause-lasting : goal.returns-in_default-clause-lasting
+returns-in_default-clause-lasting g c =
+    let a = c.args in
+    let o = offered a.offer.now in
+    let kinds = a.offer.now.definition.now.patterns in
+    let slots : c.new-slots.result ≡ replicate (length kinds) None = c.new-slots.ensures ∙ ap (λ (n : ℕ). replicate n None) c.len-patterns.ensures.count in
+    let old : List Route = rows_routes 0 (rows_of a.rows.now.items) in
+    let back : rows_routes 0 (rows_of c.remove_new.new.rows.items) ≡ old = c.remove_new.ensures.left ∙ c.visit_rows.ensures.lasting in
+    ap (filter (lacks (o.number ∷ []))) back ∙ lead_lasts o (replicate (length kinds) None) old c.requires.lead
+
+pub returns-in_default-clause-stepped : goal.returns-in_default-clause-stepped
+returns-in_default-clause-stepped g c =
+    let a = c.args in
+    let o = offered a.offer.now in
+    let kinds = a.offer.now.definition.now.patterns in
+    let slots : c.new-slots.result ≡ replicate (length kinds) None = c.new-slots.ensures ∙ ap (λ (n : ℕ). replicate n None) c.len-patterns.ensures.count in
+    let wanted = ap (λ (ps : List ℕ). length ps) (c.of_kind-wanted.ensures ∙ tried_empty o) in
+    let tried_there = ap (λ (s : Assignment). tries_behind o s (rows_routes 0 (rows_of a.rows.now.items))) slots in
+    omega (arith, c.visit_rows.ensures.stepped)
+
+pub more_than-added-requires : goal.more_than-added-requires
+more_than-added-requires g c =
+    let e = c.visit_rows.ensures in
+    let more = reserve_counts c.args.offer.now.number (rows_routes 0 (rows_of c.args.rows.now.items)) (rows_routes 0 (rows_of c.visit_rows.new.rows.items)) e.lasting in
+    omega (arith, e.counted)
+
+pub remove_new-requires-clause-counted : goal.remove_new-requires-clause-counted
+remove_new-requires-clause-counted g c = omega (arith, c.visit_rows.ensures.counted, c.requires.whole, c.more_than-added.ensures.fits)
+
+pub remove_new-requires-clause-added : goal.remove_new-requires-clause-added
+remove_new-requires-clause-added g c =
+    let e = c.visit_rows.ensures in
+    let more = reserve_counts c.args.offer.now.number (rows_routes 0 (rows_of c.args.rows.now.items)) (rows_routes 0 (rows_of c.visit_rows.new.rows.items)) e.lasting in
+    omega (arith, e.counted, c.more_than-added.ensures.more)

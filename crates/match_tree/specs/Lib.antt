@@ -1,0 +1,16 @@
+-- The claims: what a tree holds, what an offer finds and adds, and how often it tries.
+pub mod Tree
+pub mod Offers
+pub mod Offering
+pub mod Tries
+-- What private functions compute: the nodes of a tree as routes, and what a visit or a prune makes of them.
+pub mod Routes
+pub mod Rows
+pub mod Smaller
+pub mod Below
+pub mod Order
+pub mod Growth
+pub mod Pruned
+pub mod Kept
+-- What the joins and messages of tests are like.
+pub mod Samples

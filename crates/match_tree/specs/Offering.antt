@@ -1,0 +1,37 @@
+-- When a number may be offered to paths.
+use Rattle.std.specs.Prelude.{◌≡◌, ℕ, List, true, Some, None, slice_get}
+use Rattle.std.specs.List.{AllByRecursion}
+use Rattle.guard_eval.specs.Meaning.{Assignment}
+use Rattle.pattern_core.specs.Matches.{is_agreeable}
+use Rattle.pattern_core.specs.Suits.{DefinitionSuits, IsRecorded, SlotsSuit}
+use Rattle.match_tree.specs.Routes.{Route, filled}
+use Rattle.match_tree.specs.Offers.{Offered, may_take}
+use Rattle.match_tree.specs.Below.{AreBelow, Climbs}
+use Rattle.match_tree.specs.declared.offer.Offer.{Offer}
+
+abbrev pub offered : Offer → Offered
+offered offer = record { letters = offer.letters.now; definition = offer.definition.now; rule = offer.rule; number = offer.number; oldest = offer.oldest }
+
+-- the definition and the path suit the messages, the path is agreeable, and the number is recorded and after all of its numbers
+pub record CanOffer (o : Offered) (slots : Assignment) : Type 0 where
+  pub definition : DefinitionSuits o.letters o.definition
+  pub suits : SlotsSuit o.letters o.definition.patterns slots
+  pub agreeable : is_agreeable o.letters o.definition.conjuncts slots ≡ true
+  pub recorded : IsRecorded o.letters o.number
+  pub below : AreBelow o.number slots
+
+-- the pattern is there and has no number
+abbrev pub MayTry : Assignment → ℕ → Type 0
+MayTry slots pattern = slice_get slots pattern ≡ Some None
+
+-- the pattern may take the number beside the others
+abbrev pub MayTake : Offered → Assignment → ℕ → Type 0
+MayTake o slots pattern = may_take o slots pattern ≡ true
+
+-- the route climbs from the path, and the number may be offered at its end
+pub record LeadsOn (o : Offered) (slots : Assignment) (route : Route) : Type 0 where
+  pub climbs : Climbs slots route
+  pub can : CanOffer o (filled slots route)
+
+abbrev pub LeadOn : Offered → Assignment → List Route → Type 0
+LeadOn o slots routes = AllByRecursion (LeadsOn o slots) routes

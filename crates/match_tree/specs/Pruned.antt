@@ -1,0 +1,24 @@
+-- What is left of nodes where some numbers are taken out.
+use Rattle.std.specs.Prelude.{ℕ, ◌≤◌, List, length, not, ◌==◌, nat_le}
+use Rattle.std.specs.List.{filter, AllByRecursion}
+use Rattle.match_tree.specs.Routes.{Route, Branch, lacks, is_one_of}
+
+-- no route has more steps
+abbrev pub AreShort : ℕ → List Route → Type 0
+AreShort most routes = AllByRecursion (λ route. length route ≤ most) routes
+
+-- the node without the routes that take one of the numbers
+abbrev pub pruned : List ℕ → Branch → Branch
+pruned numbers node = record { number = node.number; routes = filter (lacks numbers) node.routes }
+
+-- the nodes that do not take the number
+abbrev pub without_number : ℕ → List Branch → List Branch
+without_number number row = filter (λ node. not (number == node.number)) row
+
+-- the nodes that take none of the numbers
+abbrev pub without_numbers : List ℕ → List Branch → List Branch
+without_numbers numbers row = filter (λ node. not (is_one_of numbers node.number)) row
+
+-- the nodes that do not take a number before the oldest
+abbrev pub seen_nodes : ℕ → List Branch → List Branch
+seen_nodes oldest row = filter (λ node. nat_le oldest node.number) row

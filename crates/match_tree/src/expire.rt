@@ -1,0 +1,57 @@
+//! Leaving out the nodes that a definition no longer sees.
+ghost use Rattle.std.specs.Prelude.{◌≡◌, ◌+◌, ◌^◌, ◌<◌, length, map, true, false};
+ghost use Rattle.std.specs.List.{remove};
+ghost use Rattle.match_tree.specs.Routes.{row_routes, rows_routes};
+ghost use Rattle.match_tree.specs.Rows.{rows_of};
+ghost use Rattle.match_tree.specs.Order.{AreSound, IsSoundRow, Rise};
+ghost use Rattle.match_tree.specs.Pruned.{AreShort, seen_nodes};
+
+use crate::node::Node;
+use crate::prune::remove_at;
+use std::collections::VecDeque;
+
+// Whether a row has a node with a number before the oldest: then its first node has one, since the numbers rise.
+fn begins_unseen(row: &VecDeque<Node>, oldest: u32) -> bool
+    requires { Rise (map (λ node. node.number) row.now.items) }
+    ensures none { result ≡ false → seen_nodes oldest row.now.items ≡ row.now.items }
+    ensures first { result ≡ true → (0 < length row.now.items) × (seen_nodes oldest (remove row.now.items 0) ≡ seen_nodes oldest row.now.items) }
+{
+    match row.front() {
+        None => false,
+        Some(node) => node.number() < oldest,
+    }
+}
+
+// Takes the nodes with numbers before the oldest out of a row. The answer is how many routes went with them.
+fn drop_front(row: &mut VecDeque<Node>, oldest: u32, levels: usize) -> u64
+    requires sound { IsSoundRow row.old.items }
+    requires few { length (row_routes 0 row.old.items) < 2 ^ 64 }
+    requires short { AreShort levels (row_routes 0 row.old.items) }
+    ensures left { row.new.items ≡ seen_nodes oldest row.old.items }
+    ensures gone { result + length (row_routes 0 row.new.items) ≡ length (row_routes 0 row.old.items) }
+{
+    let mut gone = 0;
+    for _dropped in 0..row.len() {
+        if !begins_unseen(row, oldest) {
+            return gone;
+        }
+        gone += remove_at(row, 0, levels);
+    }
+    gone
+}
+
+/// Takes the nodes with numbers before the oldest out of the rows. The answer is how many routes went with them. No route
+/// has more steps than there are levels.
+pub fn drop_unseen(rows: &mut [VecDeque<Node>], oldest: u32, levels: usize) -> u64
+    requires few { length (rows_routes 0 (rows_of rows.old)) < 2 ^ 64 }
+    requires sound { AreSound (rows_of rows.old) }
+    requires short { AreShort levels (rows_routes 0 (rows_of rows.old)) }
+    ensures left { rows_of rows.new ≡ map (seen_nodes oldest) (rows_of rows.old) }
+    ensures gone { result + length (rows_routes 0 (rows_of rows.new)) ≡ length (rows_routes 0 (rows_of rows.old)) }
+{
+    let mut gone = 0;
+    for row in rows.iter_mut() {
+        gone += drop_front(row, oldest, levels);
+    }
+    gone
+}

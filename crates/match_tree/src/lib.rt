@@ -1,0 +1,26 @@
+//! The partial matches of one definition, kept between arrivals in a tree whose paths share their beginnings.
+//!
+//! `MatchTree::new` has the empty path alone. For each arrival an actor calls `reserve_for`, the one call besides `new` that
+//! takes memory, then `expire`, and then, where `best_with` has found no match, `extend`; where a match fires, `forget` and
+//! `prune` with its numbers. `clear` leaves the empty path alone, and `partials` counts the paths.
+//!
+//! Contracts see a `Tree`: its paths as assignments, of which none stands twice, and what a reserve has set aside. `reserve_for`
+//! counts its tries: at most those of `tries`. Behind that stand nodes, each with a row of later nodes for each pattern. Rows are
+//! ring buffers in the order of their numbers, so that the oldest node goes at a constant cost, and only the nodes that go are
+//! counted.
+//!
+//! Tests show the calls of one arrival one behind the other: rows, and small scripts against a plain listing.
+#![tactic(auto)]
+
+mod expire;
+mod node;
+mod offer;
+mod pending;
+mod prune;
+mod reserve;
+#[cfg(test)]
+mod tests;
+mod tree;
+mod visit;
+
+pub use tree::MatchTree;

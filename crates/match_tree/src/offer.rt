@@ -1,0 +1,135 @@
+//! A new number that is offered to the paths of a definition.
+ghost use Rattle.std.specs.Prelude.{◌≡◌, ◌+◌, ◌<◌, ◌≤◌, length, map, true, not, ◌==◌, Some, None, slice_get};
+ghost use Rattle.std.specs.List.{filter, AllByRecursion};
+ghost use Rattle.pattern_core.specs.Matches.{is_agreeable, holds_number, is_full};
+ghost use Rattle.pattern_core.specs.Suits.{DefinitionSuits, IsRecorded, SlotsSuit};
+ghost use Rattle.pattern_core.specs.Choice.{least, taken_of, candidate_of};
+ghost use Rattle.match_tree.specs.Routes.{is_one_of};
+ghost use Rattle.match_tree.specs.Offers.{may_take, matches_of, leaves_one_free};
+ghost use Rattle.match_tree.specs.Offering.{offered, CanOffer, MayTry, MayTake};
+
+use join_base::{Message, NoMemory, Numbers, Slots, Steps};
+use pattern_core::{Candidate, Definition, better, complete, is_full, try_extend};
+use std::sync::ledger::Ledger;
+
+/// A number of the recorded messages, the definition and its number, and the oldest number that the definition sees.
+#[derive(Drop)]
+pub struct Offer<'a> {
+    pub letters: &'a [Message],
+    pub definition: &'a Definition,
+    pub rule: u32,
+    pub number: u32,
+    pub oldest: u32,
+}
+
+/// Which of the patterns may take the number beside the others. Each counts a step.
+pub fn takers<L: Ledger>(
+    offer: &Offer<'_>,
+    slots: &Slots,
+    wanted: &Numbers,
+    steps: &mut Steps<L>,
+) -> Numbers
+    requires can { CanOffer (offered offer.now) slots.now }
+    requires free { AllByRecursion (MayTry slots.now) wanted.now }
+    ensures answer { result ≡ filter (may_take (offered offer.now) slots.now) wanted.now }
+    ensures counted { steps.new ≡ steps.old + length wanted.now }
+{
+    let mut found = Numbers::new();
+    for pattern in wanted.as_slice() {
+        if try_extend(
+            offer.definition,
+            slots,
+            *pattern,
+            offer.number,
+            offer.letters,
+            steps,
+        ) {
+            found.push(*pattern);
+        }
+    }
+    found
+}
+
+// The arrival numbers of an assignment, in pattern order.
+fn taken(slots: &Slots, patterns: u32) -> Numbers
+    requires count { length slots.now ≡ patterns }
+    requires few { patterns ≤ 8 }
+    ensures { result ≡ taken_of slots.now }
+{
+    let mut numbers = Numbers::new();
+    for pattern in 0..patterns {
+        if let Some(number) = slots.get(pattern) {
+            numbers.push(number);
+        }
+    }
+    numbers
+}
+
+// The match that an assignment without a free pattern makes.
+fn candidate(offer: &Offer<'_>, slots: &Slots) -> Candidate
+    requires definition { DefinitionSuits offer.now.letters.now offer.now.definition.now }
+    requires suits { SlotsSuit offer.now.letters.now offer.now.definition.now.patterns slots.now }
+    ensures { result ≡ candidate_of offer.now.rule slots.now }
+{
+    Candidate {
+        rule: offer.rule,
+        taken: taken(slots, offer.definition.patterns.len() as u32),
+    }
+}
+
+// The least match that the number completes at one of the patterns, which may take it.
+pub fn best_match(offer: &Offer<'_>, slots: &Slots, patterns: &Numbers) -> Option<Candidate>
+    requires can { CanOffer (offered offer.now) slots.now }
+    requires may { AllByRecursion (MayTake (offered offer.now) slots.now) patterns.now }
+    ensures { result ≡ least (matches_of (offered offer.now) slots.now patterns.now) }
+{
+    let mut best = None;
+    for pattern in patterns.as_slice() {
+        let longer = slots.with(*pattern, offer.number);
+        if complete(offer.definition, &longer, offer.letters) {
+            best = better(best, Some(candidate(offer, &longer)));
+        }
+    }
+    best
+}
+
+/// The patterns that leave another free where they have the number too.
+pub fn growing(offer: &Offer<'_>, slots: &Slots, patterns: &Numbers) -> Numbers
+    requires can { CanOffer (offered offer.now) slots.now }
+    requires may { AllByRecursion (MayTake (offered offer.now) slots.now) patterns.now }
+    ensures { result ≡ filter (leaves_one_free (offered offer.now) slots.now) patterns.now }
+{
+    let count = offer.definition.patterns.len() as u32;
+    let mut found = Numbers::new();
+    for pattern in patterns.as_slice() {
+        if !is_full(count, &slots.with(*pattern, offer.number)) {
+            found.push(*pattern);
+        }
+    }
+    found
+}
+
+/// Whether the pattern is one of these.
+pub fn contains(patterns: &Numbers, wanted: u32) -> bool
+    ensures { result ≡ is_one_of patterns.now wanted }
+{
+    for pattern in patterns.as_slice() {
+        if wanted == *pattern {
+            return true;
+        }
+    }
+    false
+}
+
+/// The patterns but for one.
+pub fn without(patterns: &Numbers, left_out: u32) -> Numbers
+    ensures { result ≡ filter (λ p. not (p == left_out)) patterns.now }
+{
+    let mut others = Numbers::new();
+    for pattern in patterns.as_slice() {
+        if *pattern != left_out {
+            others.push(*pattern);
+        }
+    }
+    others
+}

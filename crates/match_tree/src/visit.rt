@@ -1,0 +1,221 @@
+//! The visit of a new number: it is tried behind each path that may take it, and new nodes are added where it goes on.
+ghost use Rattle.std.specs.Prelude.{◌≡◌, ◌+◌, ◌<◌, ◌≤◌, ◌++◌, [], ◌∷◌, ℕ, length, map, replicate, not, ◌==◌, None, OnOk, IfOk, OnErr};
+ghost use Rattle.std.specs.List.{filter, AllByRecursion};
+ghost use Rattle.pattern_core.specs.Choice.{least};
+ghost use Rattle.match_tree.specs.Routes.{rows_routes, row_routes, is_one_of};
+ghost use Rattle.match_tree.specs.Rows.{rows_of};
+ghost use Rattle.match_tree.specs.Offers.{takers, may_take, growing, leaves_one_free, seen, new_matches};
+ghost use Rattle.match_tree.specs.Below.{AreOpen};
+ghost use Rattle.match_tree.specs.Offering.{offered, CanOffer, MayTry, LeadOn};
+ghost use Rattle.match_tree.specs.Order.{IsOrderedNode, IsSoundRow, AreSound};
+ghost use Rattle.match_tree.specs.Growth.{Lasts, Grows};
+ghost use Rattle.match_tree.specs.Tries.{tries_behind};
+
+use crate::node::Node;
+use crate::offer::{Offer, best_match, contains, growing, takers, without};
+use join_base::{NoMemory, Numbers, Slots, Steps};
+use pattern_core::{Candidate, better};
+use std::alloc::Global;
+use std::collections::VecDeque;
+use std::sync::ledger::Ledger;
+
+// Rows for so many patterns.
+fn grow_rows(alloc: Global, rows: &mut Vec<VecDeque<Node>>, count: usize) -> Result<(), NoMemory>
+    requires few { length rows.old.items ≤ 8 }
+    requires most { count ≤ 8 }
+    ensures same { (k : ℕ) × (rows_of rows.new.items ≡ rows_of rows.old.items ++ replicate k []) }
+    ensures few { length rows.new.items ≤ 8 }
+    ensures room { OnOk result (count ≤ length rows.new.items) }
+{
+    while rows.len() < count {
+        rows.push(VecDeque::new(alloc))?;
+    }
+    Ok(())
+}
+
+// A node for the number at the end of a row.
+fn push_leaf(
+    alloc: Global,
+    row: &mut VecDeque<Node>,
+    number: u32,
+    count: &mut u64,
+) -> Result<(), NoMemory>
+    ensures ok { OnOk result (row.new.items ≡ row.old.items ++ record { number = number; routes = [] } ∷ []) }
+    ensures err { OnErr result (row.new.items ≡ row.old.items) }
+    ensures counted { OnOk result (count.new ≡ count.old + 1) }
+    ensures uncounted { OnErr result (count.new ≡ count.old) }
+{
+    let Some(more) = count.checked_add(1) else {
+        return Err(NoMemory);
+    };
+    row.push_back(Node {
+        number,
+        rows: Vec::new(alloc),
+    })?;
+    *count = more;
+    Ok(())
+}
+
+/// Offers the number to a path and to all that go on from it. The answer is the least match that it completes there, in
+/// which case not all new nodes were added.
+#[cycle(visit)]
+pub fn visit_rows<L: Ledger>(
+    alloc: Global,
+    offer: &Offer<'_>,
+    slots: &Slots,
+    wanted: &Numbers,
+    rows: &mut Vec<VecDeque<Node>>,
+    count: &mut u64,
+    steps: &mut Steps<L>,
+) -> Result<Option<Candidate>, NoMemory>
+    requires can { CanOffer (offered offer.now) slots.now }
+    requires free { AllByRecursion (MayTry slots.now) wanted.now }
+    requires wanted { filter (may_take (offered offer.now) slots.now) wanted.now ≡ takers (offered offer.now) slots.now }
+    requires few { length rows.old.items ≤ 8 }
+    requires sound { AreSound (rows_of rows.old.items) }
+    requires lead { LeadOn (offered offer.now) slots.now (rows_routes 0 (rows_of rows.old.items)) }
+    requires free_left { AreOpen slots.now (rows_routes 0 (rows_of rows.old.items)) }
+
+    ensures few { length rows.new.items ≤ 8 }
+    ensures sound { AreSound (rows_of rows.new.items) }
+    ensures free_left { AreOpen slots.now (rows_routes 0 (rows_of rows.new.items)) }
+    ensures lasting { Lasts offer.now.number (rows_routes 0 (rows_of rows.old.items)) (rows_routes 0 (rows_of rows.new.items)) }
+    ensures best { IfOk result (λ b. b ≡ least (new_matches (offered offer.now) slots.now ([] ∷ seen (offered offer.now) (rows_routes 0 (rows_of rows.old.items))))) }
+    ensures grows { IfOk result (λ b. b ≡ None → Grows (offered offer.now) slots.now (growing (offered offer.now) slots.now) (rows_routes 0 (rows_of rows.old.items)) (rows_routes 0 (rows_of rows.new.items))) }
+    ensures counted { count.new + length (rows_routes 0 (rows_of rows.old.items)) ≡ count.old + length (rows_routes 0 (rows_of rows.new.items)) }
+    ensures stepped { steps.new ≤ steps.old + (length wanted.now + tries_behind (offered offer.now) slots.now (rows_routes 0 (rows_of rows.old.items))) }
+{
+    let able = takers(offer, slots, wanted, steps);
+    if able.len() == 0 {
+        return Ok(None);
+    }
+    let begun = growing(offer, slots, &able);
+    if begun.len() > 0 {
+        grow_rows(alloc, rows, offer.definition.patterns.len())?;
+    }
+    let mut best = best_match(offer, slots, &able);
+    for (pattern, row) in rows.iter_mut().enumerate() {
+        let found = visit_row(
+            alloc,
+            offer,
+            slots,
+            pattern as u32,
+            &able,
+            &begun,
+            row,
+            count,
+            steps,
+        )?;
+        best = better(best, found);
+    }
+    Ok(best)
+}
+
+// Offers the number to the paths that take a number at the pattern, and adds a node for it where it begins there.
+#[cycle(visit)]
+fn visit_row<L: Ledger>(
+    alloc: Global,
+    offer: &Offer<'_>,
+    slots: &Slots,
+    pattern: u32,
+    able: &Numbers,
+    begun: &Numbers,
+    row: &mut VecDeque<Node>,
+    count: &mut u64,
+    steps: &mut Steps<L>,
+) -> Result<Option<Candidate>, NoMemory>
+    requires can { CanOffer (offered offer.now) slots.now }
+    requires able { able.now ≡ takers (offered offer.now) slots.now }
+    requires begun { begun.now ≡ growing (offered offer.now) slots.now }
+    requires sound { IsSoundRow row.old.items }
+    requires lead { LeadOn (offered offer.now) slots.now (row_routes pattern row.old.items) }
+    requires free_left { AreOpen slots.now (row_routes pattern row.old.items) }
+
+    ensures sound { IsSoundRow row.new.items }
+    ensures free_left { AreOpen slots.now (row_routes pattern row.new.items) }
+    ensures lasting { Lasts offer.now.number (row_routes pattern row.old.items) (row_routes pattern row.new.items) }
+    ensures best { IfOk result (λ b. b ≡ least (new_matches (offered offer.now) slots.now (seen (offered offer.now) (row_routes pattern row.old.items)))) }
+    ensures grows { IfOk result (λ b. b ≡ None → Grows (offered offer.now) slots.now (filter (is_one_of begun.now) (pattern ∷ [])) (row_routes pattern row.old.items) (row_routes pattern row.new.items)) }
+    ensures counted { count.new + length (row_routes pattern row.old.items) ≡ count.old + length (row_routes pattern row.new.items) }
+    ensures stepped { steps.new ≤ steps.old + tries_behind (offered offer.now) slots.now (row_routes pattern row.old.items) }
+{
+    let others = without(able, pattern);
+    let found = visit_nodes(alloc, offer, slots, pattern, &others, row, count, steps)?;
+    if found.is_none() && contains(begun, pattern) {
+        push_leaf(alloc, row, offer.number, count)?;
+    }
+    Ok(found)
+}
+
+// Offers the number to the paths of these nodes, in the order of their numbers, until a match is found.
+#[cycle(visit)]
+fn visit_nodes<L: Ledger>(
+    alloc: Global,
+    offer: &Offer<'_>,
+    slots: &Slots,
+    pattern: u32,
+    wanted: &Numbers,
+    nodes: &mut VecDeque<Node>,
+    count: &mut u64,
+    steps: &mut Steps<L>,
+) -> Result<Option<Candidate>, NoMemory>
+    requires can { CanOffer (offered offer.now) slots.now }
+    requires wanted { wanted.now ≡ filter (λ p. not (p == pattern)) (takers (offered offer.now) slots.now) }
+    requires sound { IsSoundRow nodes.old.items }
+    requires lead { LeadOn (offered offer.now) slots.now (row_routes pattern nodes.old.items) }
+    requires free_left { AreOpen slots.now (row_routes pattern nodes.old.items) }
+
+    ensures sound { IsSoundRow nodes.new.items }
+    ensures free_left { AreOpen slots.now (row_routes pattern nodes.new.items) }
+    ensures numbers { map (λ node. node.number) nodes.new.items ≡ map (λ node. node.number) nodes.old.items }
+    ensures lasting { Lasts offer.now.number (row_routes pattern nodes.old.items) (row_routes pattern nodes.new.items) }
+    ensures best { IfOk result (λ b. b ≡ least (new_matches (offered offer.now) slots.now (seen (offered offer.now) (row_routes pattern nodes.old.items)))) }
+    ensures grows { IfOk result (λ b. b ≡ None → Grows (offered offer.now) slots.now [] (row_routes pattern nodes.old.items) (row_routes pattern nodes.new.items)) }
+    ensures counted { count.new + length (row_routes pattern nodes.old.items) ≡ count.old + length (row_routes pattern nodes.new.items) }
+    ensures stepped { steps.new ≤ steps.old + tries_behind (offered offer.now) slots.now (row_routes pattern nodes.old.items) }
+{
+    if wanted.len() == 0 {
+        return Ok(None);
+    }
+    for place in 0..nodes.len() {
+        let node = &mut nodes[place];
+        if node.number() >= offer.oldest {
+            let longer = slots.with(pattern, node.number());
+            let found = visit_node(alloc, offer, &longer, wanted, node, count, steps)?;
+            if found.is_some() {
+                return Ok(found);
+            }
+        }
+    }
+    Ok(None)
+}
+
+// Offers the number to the path that ends at the node, and to all that go on from it.
+#[cycle(visit)]
+fn visit_node<L: Ledger>(
+    alloc: Global,
+    offer: &Offer<'_>,
+    slots: &Slots,
+    wanted: &Numbers,
+    node: &mut Node,
+    count: &mut u64,
+    steps: &mut Steps<L>,
+) -> Result<Option<Candidate>, NoMemory>
+    requires can { CanOffer (offered offer.now) slots.now }
+    requires free { AllByRecursion (MayTry slots.now) wanted.now }
+    requires wanted { filter (may_take (offered offer.now) slots.now) wanted.now ≡ takers (offered offer.now) slots.now }
+    requires ordered { IsOrderedNode node.old }
+    requires lead { LeadOn (offered offer.now) slots.now node.old.routes }
+    requires free_left { AreOpen slots.now node.old.routes }
+
+    ensures number { node.new.number ≡ node.old.number }
+    ensures ordered { IsOrderedNode node.new }
+    ensures free_left { AreOpen slots.now node.new.routes }
+    ensures lasting { Lasts offer.now.number node.old.routes node.new.routes }
+    ensures best { IfOk result (λ b. b ≡ least (new_matches (offered offer.now) slots.now ([] ∷ seen (offered offer.now) node.old.routes))) }
+    ensures grows { IfOk result (λ b. b ≡ None → Grows (offered offer.now) slots.now (growing (offered offer.now) slots.now) node.old.routes node.new.routes) }
+    ensures counted { count.new + length node.old.routes ≡ count.old + length node.new.routes }
+    ensures stepped { steps.new ≤ steps.old + (length wanted.now + tries_behind (offered offer.now) slots.now node.old.routes) }
+{
+    visit_rows(alloc, offer, slots, wanted, &mut node.rows, count, steps)
+}

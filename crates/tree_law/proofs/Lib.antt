@@ -1,0 +1,9 @@
+pub mod AssignLemmas
+pub mod CountLemmas
+pub mod EvalLemmas
+pub mod ForestLemmas
+pub mod GrowthLemmas
+pub mod KeepLemmas
+pub mod LoopLemmas
+pub mod OfferLemmas
+pub mod TreesLemmas
