@@ -1,0 +1,4 @@
+pub mod LateFitsLemmas
+pub mod RestLemmas
+pub mod SoundLemmas
+pub mod LawLemmas

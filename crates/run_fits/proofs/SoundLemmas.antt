@@ -1,0 +1,275 @@
+-- What holds of an actor's state between two arrivals, where its rules and its messages fit.
+use Rattle.std.proofs.Common.{◌≡◌, ◌∙◌, ℕ, zero, suc, ◌+◌, ◌-◌, ◌^◌, ◌<◌, ◌≤◌, max, List, [], ◌∷◌, ◌++◌, length, length-append, Bool, true, false, Option, None, Some, refl, ap, sym, subst, arith}
+use Rattle.std.specs.Prelude.{All, IfSome, if◌then◌else◌, nat_le, nat_lt, not, replicate, slice_index, slice_set, ◌||◌}
+use Rattle.std.specs.List.{AllByRecursion}
+use Rattle.std.specs.List.Sorted.{IsStrictlyIncreasing}
+use Rattle.std.proofs.lemmas.Bool.Decides.{nat_tests}
+use Rattle.std.proofs.lemmas.List.{length-map, length-set, map-append}
+use Rattle.std.proofs.lemmas.List.Elements.{All-push, All-filter}
+use Rattle.std.proofs.lemmas.List.Kept.{IsStrictlyIncreasing-filter}
+use Rattle.join_base.specs.Late.{Late, late_more, raised}
+use Rattle.join_base.specs.Stamps.{greatest_stamp}
+use Rattle.join_base.specs.Taken.{contains_number, without}
+use Rattle.join_base.specs.declared.message.Message.{Message}
+use Rattle.join_base.specs.declared.message.Source.{Source}
+use Rattle.join_base.specs.declared.message.Source.TheVariants.{Feed, Actor}
+use Rattle.pattern_core.specs.declared.candidate.Candidate.{Candidate}
+use Rattle.pattern_core.specs.declared.definition.Definition.{Definition}
+use Rattle.pattern_core.specs.Choice.{choice}
+use Rattle.pattern_core.specs.Matches.{partial_count}
+use Rattle.pattern_core.specs.Suits.{IsRecorded}
+use Rattle.pattern_core.proofs.LawLemmas.{choice_is_chosen}
+use Rattle.pattern_core.proofs.SuitsLemmas.{recorded_of}
+use Rattle.tree_law.specs.Partials.{AreLive}
+use Rattle.script_types.specs.declared.plan.Plan.{Plan}
+use Rattle.script_types.specs.declared.plan.Rule.{Rule}
+use Rattle.script_types.specs.Typed.{kind_types}
+use Rattle.fair_semantics.specs.declared.run.Ending.{Ending}
+use Rattle.fair_semantics.specs.declared.run.Ending.TheVariants as ending
+use Rattle.fair_semantics.specs.declared.run.Entry.{Entry}
+use Rattle.fair_semantics.specs.declared.run.Firing.{Firing}
+use Rattle.fair_semantics.specs.declared.run.Limits.{Limits}
+use Rattle.fair_semantics.specs.declared.run.Outcome.TheVariants as outcome
+use Rattle.fair_semantics.specs.Body.{stops}
+use Rattle.fair_semantics.specs.Fair.{Sent, after_all}
+use Rattle.fair_semantics.specs.Fits.{FiringFits, MessageFits, SourceFits}
+use Rattle.fair_semantics.specs.Step.{Arrival, Setting, State, Stepped, body_at, by_choice, definitions_of, entry_with, fair_step, firing_of, fits, is_refused, is_running, late_step, latest_stamp, letters_of, letters_with, live_with, number_of, opening, recorded, running_step, spent_step, step_by}
+use Rattle.fair_semantics.proofs.FiringLemmas.{FiringRule, firing_fits}
+use Rattle.fair_semantics.proofs.KeptLemmas.{increasing_push}
+use Rattle.fair_semantics.proofs.ListLemmas.{each_append, each_map, each_replicate}
+use Rattle.fair_semantics.proofs.StepLemmas.{number_of_newest}
+use Rattle.run_fits.specs.FitsLaw.{SentFits}
+use Rattle.run_fits.proofs.RestLemmas.{CanRest, IsResting, cleared_count, cleared_rests, fired_fewer, fired_rests, none_chosen, takes_newest}
+
+or_parts : (a b : Bool) → (a || b) ≡ false → (a ≡ false) × (b ≡ false)
+or_parts true b e = absurd cc
+or_parts false b e = (refl, e)
+
+below : (n m : ℕ) → nat_le n m ≡ false → m < n
+below n m e = grind (arith, nat_tests)
+
+not_above : (n m : ℕ) → nat_lt n m ≡ false → m ≤ n
+not_above n m e = grind (arith, nat_tests)
+
+not_not : (b : Bool) → not b ≡ false → b ≡ true
+not_not true e = refl
+not_not false e = absurd cc
+
+-- ---- late counts
+
+-- a count for each source, of 64 bits
+pub record LateSound (feeds actors : ℕ) (late : Late) : Type 0 where
+  pub of_feeds : length late.feeds ≡ feeds
+  pub of_actors : length late.actors ≡ actors
+  pub small_feeds : AllByRecursion (λ n. n < 2 ^ 64) late.feeds
+  pub small_actors : AllByRecursion (λ n. n < 2 ^ 64) late.actors
+
+raised_small : (n : ℕ) → n < 2 ^ 64 → raised n < 2 ^ 64
+raised_small n l = by (nat_lt n (2 ^ 64 - 1)) refl
+  where
+    less : (m k : ℕ) → nat_lt m k ≡ true → m < k
+    less m k e = grind (arith, nat_tests)
+
+    by : (b : Bool) → nat_lt n (2 ^ 64 - 1) ≡ b → (if b then n + 1 else n) < 2 ^ 64
+    by true e = let h = less n (2 ^ 64 - 1) e in omega arith
+    by false e = l
+
+index_small : (counts : List ℕ) (p : ℕ) → AllByRecursion (λ n. n < 2 ^ 64) counts → slice_index counts p < 2 ^ 64
+index_small [] p h = omega arith
+index_small (c ∷ counts) zero h = h.0
+index_small (c ∷ counts) (suc p) h = index_small counts p h.1
+
+set_small : (counts : List ℕ) (p n : ℕ) → n < 2 ^ 64 → AllByRecursion (λ n. n < 2 ^ 64) counts → AllByRecursion (λ n. n < 2 ^ 64) (slice_set counts p n)
+set_small [] p n l h = tt
+set_small (c ∷ counts) zero n l h = (l, h.1)
+set_small (c ∷ counts) (suc p) n l h = (h.0, set_small counts p n l h.1)
+
+more_late : (feeds actors : ℕ) (late : Late) (source : Source) → LateSound feeds actors late → LateSound feeds actors (late_more late source)
+more_late feeds actors late (Feed k) h = record {
+  of_feeds = length-set late.feeds (k - 1) (raised (slice_index late.feeds (k - 1))) ∙ h.of_feeds;
+  of_actors = h.of_actors;
+  small_feeds = set_small late.feeds (k - 1) (raised (slice_index late.feeds (k - 1))) (raised_small (slice_index late.feeds (k - 1)) (index_small late.feeds (k - 1) h.small_feeds)) h.small_feeds;
+  small_actors = h.small_actors;
+}
+more_late feeds actors late (Actor a) h = record {
+  of_feeds = h.of_feeds;
+  of_actors = length-set late.actors a (raised (slice_index late.actors a)) ∙ h.of_actors;
+  small_feeds = h.small_feeds;
+  small_actors = set_small late.actors a (raised (slice_index late.actors a)) (raised_small (slice_index late.actors a) (index_small late.actors a h.small_actors)) h.small_actors;
+}
+
+-- ---- the state
+
+-- an entry with its stamp, which fits in version 2
+pub record EntrySound (plan : Plan) (version feeds : ℕ) (entry : Entry) : Type 0 where
+  pub number : entry.number < 2 ^ 32
+  pub source : SourceFits plan feeds entry.source
+  pub message : MessageFits plan entry.message
+  pub stamped : (1 ≤ entry.stamp) × (entry.stamp ≤ greatest_stamp)
+  pub firing : IfSome entry.firing (FiringFits plan version)
+
+module _ (plan : Plan) (version feeds : ℕ) (rules : List Rule) (limits : Limits) where
+  abbrev setting : Setting
+  setting = record { sorts = kind_types plan.kinds; rules = rules; limits = limits }
+
+  abbrev definitions : List Definition
+  definitions = definitions_of rules
+
+  -- what is recorded and not consumed, where the actor runs: no match waits, and the partial matches are within the limit
+  pub record IsQuiet (letters : List Message) (live : List ℕ) : Type 0 where
+    pub rests : AllByRecursion (IsResting letters live) definitions
+    pub few : partial_count letters live definitions ≤ 1000000
+
+  pub record IsSound (state : State) : Type 0 where
+    pub entries : AllByRecursion (EntrySound plan version feeds) state.entries
+    pub few : length state.entries ≤ 1000000
+    pub recorded : All (IsRecorded (letters_of state.entries)) state.live
+    pub rising : IsStrictlyIncreasing state.live
+    pub runs : is_running state.ending ≡ true → IsQuiet (letters_of state.entries) state.live
+    pub ended : is_running state.ending ≡ false → state.live ≡ []
+    pub late : LateSound feeds (length plan.actors) state.late
+
+  letters_fit : (entries : List Entry) → AllByRecursion (EntrySound plan version feeds) entries → AllByRecursion (MessageFits plan) (letters_of entries)
+  letters_fit entries h = each_map (EntrySound plan version feeds) (MessageFits plan) (λ (e : Entry). e.message) (λ e h. h.message) entries h
+
+  no_number : (letters : List Message) → All (IsRecorded letters) []
+  no_number letters k d l = absurd (omega arith)
+
+  none_rise : IsStrictlyIncreasing []
+  none_rise k l = absurd (omega arith)
+
+  module _ (few_rules : length rules ≤ 16) (each : AllByRecursion (FiringRule plan version) rules) (can : AllByRecursion CanRest definitions) (few_arrivals : limits.arrivals ≤ 1000000) (few_partials : limits.partials ≤ 1000000) where
+    cleared_quiet : (letters : List Message) → IsQuiet letters []
+    cleared_quiet letters = record { rests = cleared_rests letters definitions can; few = omega (arith, cleared_count letters definitions can, length-map rules (λ (r : Rule). r.definition), few_rules) }
+
+    pub opening_sound : IsSound (opening feeds (length plan.actors))
+    opening_sound = record {
+      entries = tt;
+      few = omega arith;
+      recorded = no_number [];
+      rising = none_rise;
+      runs = λ e. cleared_quiet [];
+      ended = λ e. refl;
+      late = record { of_feeds = length-replicate feeds; of_actors = length-replicate (length plan.actors); small_feeds = each_replicate (λ n. n < 2 ^ 64) feeds 0 (omega arith); small_actors = each_replicate (λ n. n < 2 ^ 64) (length plan.actors) 0 (omega arith) };
+    }
+      where
+        length-replicate : (n : ℕ) → length (replicate n zero) ≡ n
+        length-replicate zero = refl
+        length-replicate (suc n) = ap suc (length-replicate n)
+
+    module _ (state : State) (sent : Sent) (h : IsSound state) (given : SentFits plan feeds sent) where
+      abbrev arrival : Arrival
+      arrival = record { state = state; source = sent.0; message = sent.1.message; stamp = sent.1.stamp }
+
+      abbrev letters : List Message
+      letters = letters_of state.entries
+
+      late_sound : IsSound (late_step state sent.0).0
+      late_sound = record { entries = h.entries; few = h.few; recorded = h.recorded; rising = h.rising; runs = h.runs; ended = h.ended; late = more_late feeds (length plan.actors) state.late sent.0 h.late }
+
+      spent_sound : IsSound (spent_step state sent.0).0
+      spent_sound = record { entries = h.entries; few = h.few; recorded = no_number letters; rising = none_rise; runs = λ e. absurd cc; ended = λ e. refl; late = more_late feeds (length plan.actors) state.late sent.0 h.late }
+
+      module _ (running : is_running state.ending ≡ true) (room : length state.entries < limits.arrivals) (fit : fits (kind_types plan.kinds) sent.1.message ≡ true) (stamped : max (latest_stamp state.entries) sent.1.stamp < greatest_stamp) where
+        quiet : IsQuiet letters state.live
+        quiet = h.runs running
+
+        message_fits : MessageFits plan sent.1.message
+        message_fits = record { kind = fit; values = given.values }
+
+        newest : number_of arrival ≡ length letters + 1
+        newest = ap (λ (n : ℕ). n + 1) (sym (length-map state.entries (λ (e : Entry). e.message)))
+
+        all_letters_fit : AllByRecursion (MessageFits plan) (letters_with arrival)
+        all_letters_fit = each_append (MessageFits plan) letters (sent.1.message ∷ []) (letters_fit state.entries h.entries) (message_fits, tt)
+
+        count : length (letters_with arrival) ≡ length state.entries + 1
+        count = number_of_newest state.entries sent.1.message
+
+        recorded_with : All (IsRecorded (letters_with arrival)) (live_with arrival)
+        recorded_with =
+            All-push (IsRecorded (letters_with arrival)) state.live (number_of arrival) (λ i d l. let old = h.recorded i d l in (old.0, omega (arith, old.1, count, newest))) (omega arith, omega (arith, count))
+
+        rising_with : IsStrictlyIncreasing (live_with arrival)
+        rising_with = increasing_push state.live (number_of arrival) h.rising (λ i l. let old = h.recorded i 0 l in omega (arith, old.1, newest))
+
+        -- the state with an entry more
+        recorded_sound : (firing : Option Firing) (live : List ℕ) (end : Ending) → IfSome firing (FiringFits plan version) → All (IsRecorded (letters_with arrival)) live → IsStrictlyIncreasing live
+            → (is_running end ≡ true → IsQuiet (letters_with arrival) live) → (is_running end ≡ false → live ≡ []) → IsSound (recorded arrival firing live end)
+        recorded_sound firing live end fires are_recorded rises runs ended =
+            let same : letters_with arrival ≡ letters_of (state.entries ++ entry_with arrival firing ∷ []) = sym (map-append (λ (e : Entry). e.message) state.entries (entry_with arrival firing ∷ [])) in
+            let entry : EntrySound plan version feeds (entry_with arrival firing) = record { number = omega (arith, room, few_arrivals); source = given.source; message = message_fits; stamped = (omega arith, omega (arith, stamped)); firing = fires } in record {
+              entries = each_append (EntrySound plan version feeds) state.entries (entry_with arrival firing ∷ []) h.entries (entry, tt);
+              few = omega (arith, length-append state.entries (entry_with arrival firing ∷ []), room, few_arrivals);
+              recorded = subst (λ (ms : List Message). All (IsRecorded ms) live) same are_recorded;
+              rising = rises;
+              runs = λ e. subst (λ (ms : List Message). IsQuiet ms live) same (runs e);
+              ended = ended;
+              late = h.late;
+            }
+
+        kept_sound : choice (letters_with arrival) (live_with arrival) definitions ≡ None → IsSound (by_choice setting arrival None).0
+        kept_sound none = by (nat_lt limits.partials (partial_count (letters_with arrival) (live_with arrival) definitions)) refl
+          where
+            by : (b : Bool) → nat_lt limits.partials (partial_count (letters_with arrival) (live_with arrival) definitions) ≡ b
+                → let stepped : Stepped = if b then (recorded arrival None [] ending.Jammed, outcome.Jammed) else (recorded arrival None (live_with arrival) ending.Running, outcome.Kept) in IsSound stepped.0
+            by true e = recorded_sound None [] ending.Jammed tt (no_number (letters_with arrival)) none_rise (λ p. absurd cc) (λ p. refl)
+            by false e =
+                let low = not_above limits.partials (partial_count (letters_with arrival) (live_with arrival) definitions) e in
+                recorded_sound None (live_with arrival) ending.Running tt recorded_with rising_with
+                (λ p. record { rests = none_chosen (letters_with arrival) (live_with arrival) definitions none can; few = omega (arith, low, few_partials) }) (λ p. absurd cc)
+
+        fired_quiet : (c : Candidate) → choice (letters_with arrival) (live_with arrival) definitions ≡ Some c → IsQuiet (letters_with arrival) (without (live_with arrival) c.taken)
+        fired_quiet c some =
+            let are_live : AreLive letters state.live = λ n m. recorded_of letters state.live n h.recorded m in
+            let moved = subst (λ (n : ℕ). choice (letters_with arrival) (state.live ++ n ∷ []) definitions ≡ Some c) newest some in
+            let takes = takes_newest letters sent.1.message state.live are_live definitions c quiet.rests moved in
+            let rises = IsStrictlyIncreasing-filter (λ (n : ℕ). not (contains_number c.taken n)) (live_with arrival) rising_with in
+            let at : ℕ → List ℕ = λ n. without (state.live ++ n ∷ []) c.taken in
+            let rests = fired_rests letters sent.1.message state.live are_live c.taken takes definitions quiet.rests in
+            let fewer = fired_fewer letters sent.1.message state.live are_live c.taken takes (subst (λ (n : ℕ). IsStrictlyIncreasing (at n)) newest rises) definitions quiet.rests in
+            let Quiet : ℕ → Type 0 = λ n. IsQuiet (letters_with arrival) (at n) in
+            subst Quiet (sym newest) (record { rests = rests; few = omega (arith, fewer, quiet.few) })
+
+        fired_sound : (c : Candidate) → choice (letters_with arrival) (live_with arrival) definitions ≡ Some c → IsSound (by_choice setting arrival (Some c)).0
+        fired_sound c some = by (stops (body_at rules c.rule))
+          where
+            firing : Option Firing
+            firing = firing_of rules (letters_with arrival) (Some c)
+
+            fires : IfSome firing (FiringFits plan version)
+            fires = subst (λ (o : Option Candidate). IfSome (firing_of rules (letters_with arrival) o) (FiringFits plan version)) some
+                (firing_fits plan (letters_with arrival) all_letters_fit version rules few_rules each (live_with arrival) recorded_with (omega (arith, count, room, few_arrivals))
+                (choice (letters_with arrival) (live_with arrival) definitions) (choice_is_chosen (letters_with arrival) (live_with arrival) definitions))
+
+            by : (b : Bool) → IsSound (if b then recorded arrival firing [] ending.Stopped else recorded arrival firing (without (live_with arrival) c.taken) ending.Running)
+            by true = recorded_sound firing [] ending.Stopped fires (no_number (letters_with arrival)) none_rise (λ p. absurd cc) (λ p. refl)
+            by false =
+                recorded_sound firing (without (live_with arrival) c.taken) ending.Running fires
+                (All-filter (λ (n : ℕ). not (contains_number c.taken n)) (IsRecorded (letters_with arrival)) (live_with arrival) recorded_with)
+                (IsStrictlyIncreasing-filter (λ (n : ℕ). not (contains_number c.taken n)) (live_with arrival) rising_with) (λ p. fired_quiet c some) (λ p. absurd cc)
+
+        chosen_sound : (o : Option Candidate) → choice (letters_with arrival) (live_with arrival) definitions ≡ o → IsSound (by_choice setting arrival o).0
+        chosen_sound None e = kept_sound e
+        chosen_sound (Some c) e = fired_sound c e
+
+      -- a fair step keeps it
+      step_sound : IsSound (fair_step setting state sent.0 sent.1.message sent.1.stamp).0
+      step_sound = by (is_running state.ending) refl
+        where
+          running : (b : Bool) → is_running state.ending ≡ true → is_refused setting state sent.1.message sent.1.stamp ≡ b → IsSound (running_step b setting state sent.0 sent.1.message sent.1.stamp).0
+          running true e r = spent_sound
+          running false e r =
+              let full = or_parts (nat_le limits.arrivals (length state.entries)) (not (fits (kind_types plan.kinds) sent.1.message) || nat_le greatest_stamp (max (latest_stamp state.entries) sent.1.stamp)) r in
+              let rest = or_parts (not (fits (kind_types plan.kinds) sent.1.message)) (nat_le greatest_stamp (max (latest_stamp state.entries) sent.1.stamp)) full.1 in
+              chosen_sound e (below limits.arrivals (length state.entries) full.0) (not_not (fits (kind_types plan.kinds) sent.1.message) rest.0) (below greatest_stamp (max (latest_stamp state.entries) sent.1.stamp) rest.1)
+              (choice (letters_with arrival) (live_with arrival) definitions) refl
+
+          by : (b : Bool) → is_running state.ending ≡ b → IsSound (step_by b setting state sent.0 sent.1.message sent.1.stamp).0
+          by false e = late_sound
+          by true e = running (is_refused setting state sent.1.message sent.1.stamp) e refl
+
+    -- and so does a chain of them
+    pub all_sound : (sent : List Sent) (state : State) → IsSound state → AllByRecursion (SentFits plan feeds) sent → IsSound (after_all setting state sent)
+    all_sound [] state h given = h
+    all_sound (s ∷ sent) state h given = all_sound sent (fair_step setting state s.0 s.1.message s.1.stamp).0 (step_sound state s h given.0) given.1

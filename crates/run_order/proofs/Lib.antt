@@ -1,0 +1,13 @@
+pub mod ListLemmas
+pub mod EventLemmas
+pub mod ServeLemmas
+pub mod RecordLemmas
+pub mod SourceLemmas
+pub mod RestLemmas
+pub mod GivenLemmas
+pub mod OrderLemmas
+pub mod ArrivalLemmas
+pub mod WaitLemmas
+pub mod PhaseLemmas
+pub mod LawLemmas
+pub mod Examples
