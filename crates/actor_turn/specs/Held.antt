@@ -1,34 +1,82 @@
--- What an actor holds: what it was told, and its state.
-use Rattle.std.specs.Prelude.{◌≡◌, ℕ, ◌≤◌, ◌<◌, ◌^◌, List, [], length, true, All}
-use Rattle.std.specs.List.{AllByRecursion}
-use Rattle.std.specs.List.Sorted.{IsStrictlyIncreasing}
+-- What an actor holds between two arrivals.
+use Rattle.std.specs.Prelude.{ℕ, ◌+◌, List, [], ◌∷◌, ◌++◌, Bool, true, false, not, ◌&&◌, Option, None, Some, drop, length, replicate, slice_set, slice_index_or}
+use Rattle.std.specs.List.{flat_map}
 use Rattle.join_base.specs.declared.message.Message.{Message}
-use Rattle.join_base.specs.declared.message.Source.{Source}
-use Rattle.join_base.specs.declared.message.Sort.{Sort}
-use Rattle.pattern_core.specs.Suits.{IsRecorded}
-use Rattle.actor_turn.specs.declared.run.Entry.{Entry}
-use Rattle.actor_turn.specs.Runnable.{AreRunnable}
-use Rattle.actor_turn.specs.Step.{Setting, State, fits, letters_of}
+use Rattle.join_base.specs.declared.message.Stamped.{Stamped}
+use Rattle.pattern_core.specs.declared.definition.Definition.{Definition}
+use Rattle.pattern_core.specs.Matches.{partial_matches}
+use Rattle.match_tree.specs.Tries.{tries}
+use Rattle.tree_law.specs.Partials.{offer_more}
+use Rattle.script_types.specs.declared.plan.Plan.{Plan}
+use Rattle.script_types.specs.declared.plan.Rule.{Rule}
+use Rattle.fair_semantics.specs.declared.run.Entry.{Entry}
+use Rattle.fair_semantics.specs.declared.run.Limits.{Limits}
+use Rattle.fair_semantics.specs.Fair.{setting_of}
+use Rattle.fair_semantics.specs.Fits.{IsFrom1To}
+use Rattle.fair_semantics.specs.Linked.{entry_posts}
+use Rattle.fair_semantics.specs.Step.{Setting, State, letters_of, definitions_of, opening, is_running, is_refused}
 
+-- what it was told and its state; for each actor of the plan the posts that wait for it, in order, and whether the post that was taken last may be brought back
 pub record Held : Type 0 where
   pub setting : Setting
   pub state : State
+  pub outbox : List (List Stamped)
+  pub lent : List Bool
 
--- the rules can run; there is a late count for each actor
-abbrev pub CanRun : Held → Type 0
-CanRun held = AreRunnable (length held.state.late.actors) held.setting.sorts held.setting.rules
+-- limits that an actor can be given
+pub record AreLimits (limits : Limits) : Type 0 where
+  pub arrivals : IsFrom1To 1000000 limits.arrivals
+  pub partials : IsFrom1To 1000000 limits.partials
 
--- the letters are those of the entries and fit, and the live numbers are those of letters, ascending
-pub record IsKept (sorts : List (List Sort)) (letters : List Message) (entries : List Entry) (live : List ℕ) : Type 0 where
-  pub same : letters ≡ letters_of entries
-  pub fitting : All (λ m. fits sorts m ≡ true) letters
-  pub recorded : All (IsRecorded letters) live
-  pub few : length live ≤ length letters
-  pub counted : length letters < 2 ^ 32
-  pub ascending : IsStrictlyIncreasing live
+-- an actor before its first arrival
+abbrev pub new_actor : Plan → ℕ → Limits → ℕ → Held
+new_actor plan index limits feeds = record {
+  setting = setting_of plan index limits;
+  state = opening feeds (length plan.actors);
+  outbox = replicate (length plan.actors) [];
+  lent = replicate (length plan.actors) false;
+}
 
--- no message was late, and the list for the run is empty
-pub record NoneLate (feeds actors : List ℕ) (listed : List (Source × ℕ)) : Type 0 where
-  pub feeds_zero : AllByRecursion (λ n. n ≡ 0) feeds
-  pub actors_zero : AllByRecursion (λ n. n ≡ 0) actors
-  pub none_listed : listed ≡ []
+-- ---- posts
+
+-- the outbox with the posts of these entries behind those that wait; the first list is for the actor of this number
+abbrev pub posts_behind : ℕ → List Entry → List (List Stamped) → List (List Stamped)
+posts_behind target entries [] = []
+posts_behind target entries (posts ∷ others) = (posts ++ flat_map (entry_posts target) entries) ∷ posts_behind (target + 1) entries others
+
+-- the entries that a state has and an earlier one did not have
+abbrev pub new_entries : State → State → List Entry
+new_entries before after = drop (length before.entries) after.entries
+
+-- the posts that wait for an actor
+abbrev pub posts_for : List (List Stamped) → ℕ → List Stamped
+posts_for outbox target = slice_index_or outbox target []
+
+abbrev pub first_of : List Stamped → Option Stamped
+first_of [] = None
+first_of (post ∷ posts) = Some post
+
+-- without the first of the posts that wait for an actor; it may be brought back
+abbrev pub without_first : Held → ℕ → List Stamped → Held
+without_first held target [] = held
+without_first held target (post ∷ posts) = record held { outbox = slice_set held.outbox target posts; lent = slice_set held.lent target true }
+
+-- the post is brought back, and stands first
+abbrev pub with_first : Held → ℕ → Stamped → Held
+with_first held target post = record held { outbox = slice_set held.outbox target (post ∷ posts_for held.outbox target); lent = slice_set held.lent target false }
+
+-- ---- steps
+
+-- how often a message may be tried at the partial matches of the definitions, of which the first has this number
+abbrev pub tries_from : List Message → Message → List ℕ → ℕ → List Definition → ℕ
+tries_from letters message live rule [] = 0
+tries_from letters message live rule (definition ∷ definitions) =
+    tries (offer_more letters message definition rule) (partial_matches letters live definition) + tries_from letters message live (rule + 1) definitions
+
+-- and over all definitions of an actor
+abbrev pub tries_for : List Rule → State → Message → ℕ
+tries_for rules state message = tries_from (letters_of state.entries) message state.live 1 (definitions_of rules)
+
+-- whether the actor runs and takes the message
+abbrev pub is_taken : Setting → State → Message → ℕ → Bool
+is_taken setting state message stamp = is_running state.ending && not (is_refused setting state message stamp)

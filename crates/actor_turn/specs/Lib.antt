@@ -1,10 +1,9 @@
-pub mod Body
-pub mod Step
-pub mod Fair
-pub mod Fits
-pub mod Linked
-pub mod Schedule
-pub mod StampLaw
-pub mod Ready
-pub mod Runnable
+-- what the claims are made of
 pub mod Held
+-- what private functions compute
+pub mod Inside
+pub mod Outbox
+pub mod Parts
+pub mod Ready
+pub mod Sent
+pub mod Steady

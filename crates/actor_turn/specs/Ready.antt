@@ -1,43 +1,20 @@
 -- What a body asks of the messages of its match: each variable has a recorded message and a value of its type.
-use Rattle.std.specs.Prelude.{ℕ, ◌<◌, ◌≤◌, List, [], ◌∷◌, Option, None, Some, length}
+use Rattle.std.specs.Prelude.{ℕ, ◌<◌, ◌≤◌, List, length}
 use Rattle.std.specs.List.{AllByRecursion}
 use Rattle.join_base.specs.declared.message.Message.{Message}
-use Rattle.join_base.specs.declared.message.Sort.TheVariants as sort
-use Rattle.guard_eval.specs.Meaning.{Assignment, Need, operand_needs, term_needs, words_needs}
-use Rattle.guard_eval.specs.Ready.{AreReady}
-use Rattle.guard_eval.specs.declared.term.Operand.{Operand}
-use Rattle.script_types.specs.declared.plan.Item.{Item}
-use Rattle.script_types.specs.declared.plan.Item.TheVariants as item
 use Rattle.script_types.specs.declared.plan.Statement.{Statement}
 use Rattle.script_types.specs.declared.plan.Statement.TheVariants as statement
-use Rattle.script_types.specs.declared.plan.Rule.{Rule}
-use Rattle.pattern_core.specs.declared.candidate.Candidate.{Candidate}
 use Rattle.pattern_core.specs.Choice.{slots_of}
-use Rattle.actor_turn.specs.Step.{body_at}
+use Rattle.fair_semantics.specs.Ready.{ItemReady, OperandReady}
 
--- the variables of an item
-abbrev pub item_needs : Item → List Need
-item_needs (item.Words text) = words_needs text
-item_needs (item.Plain place) = (place, sort.Int) ∷ []
-item_needs (item.Sum term) = term_needs term
+-- a print of at most 16 such items, a post of at most 8 such operands to one of so many actors, or a reply to one of the numbers that are taken
+abbrev pub StatementReady : ℕ → List Message → List ℕ → Statement → Type 0
+StatementReady actors letters taken (statement.Print items) = AllByRecursion (ItemReady letters (slots_of taken)) items × (length items ≤ 16)
+StatementReady actors letters taken (statement.Post target kind operands) = (target < actors) × AllByRecursion (OperandReady letters (slots_of taken)) operands × (length operands ≤ 8)
+StatementReady actors letters taken statement.Stop = Unit {0}
+StatementReady actors letters taken (statement.Reply pattern operand) = (pattern < length taken) × OperandReady letters (slots_of taken) operand
 
-abbrev pub ItemReady : List Message → Assignment → Item → Type 0
-ItemReady letters slots i = AreReady letters slots (item_needs i)
-
-abbrev pub OperandReady : List Message → Assignment → Operand → Type 0
-OperandReady letters slots o = AreReady letters slots (operand_needs o)
-
--- a print of at most 16 such items, or a reply to one of the numbers that are taken
-abbrev pub StatementReady : List Message → List ℕ → Statement → Type 0
-StatementReady letters taken (statement.Print items) = AllByRecursion (ItemReady letters (slots_of taken)) items × (length items ≤ 16)
-StatementReady letters taken (statement.Post target kind operands) = ⊥
-StatementReady letters taken statement.Stop = ⊥
-StatementReady letters taken (statement.Reply pattern operand) = (pattern < length taken) × OperandReady letters (slots_of taken) operand
-
-abbrev pub BodyReady : List Message → List ℕ → List Statement → Type 0
-BodyReady letters taken body = AllByRecursion (StatementReady letters taken) body
-
--- the body of the chosen rule can run at the choice, if there is one
-abbrev pub ChoiceReady : List Rule → List Message → Option Candidate → Type 0
-ChoiceReady rules letters None = Unit {0}
-ChoiceReady rules letters (Some chosen) = BodyReady letters chosen.taken (body_at rules chosen.rule)
+-- at most 16 such statements
+pub record BodyReady (actors : ℕ) (letters : List Message) (taken : List ℕ) (body : List Statement) : Type 0 where
+  pub few : length body ≤ 16
+  pub each : AllByRecursion (StatementReady actors letters taken) body

@@ -1,24 +1,30 @@
 //! One actor.
-ghost use Rattle.std.specs.Prelude.{◌≡◌, ◌+◌, ◌<◌, ◌≤◌, max, true, length, IfOk, OnOk};
-ghost use Rattle.join_base.specs.Stamps.{greatest_stamp};
-ghost use Rattle.actor_turn.specs.Step.{fair_step, fits, latest_stamp, opening};
-ghost use Rattle.actor_turn.specs.Fair.{partials_of, run_of, setting_of};
-ghost use Rattle.actor_turn.specs.Fits.{RuleFits};
-ghost use Rattle.actor_turn.specs.Held.{CanRun};
+ghost use Rattle.std.specs.Prelude.{◌≡◌, ◌+◌, ◌<◌, ◌≤◌, length, false, true, not, IfOk, IfSome, OnErr, OnOk, slice_index_or};
 ghost use Rattle.std.specs.List.{AllByRecursion};
 ghost use Rattle.std.specs.List.Sorted.{IsStrictlyIncreasing};
+ghost use Rattle.join_base.specs.Late.{HasCount};
+ghost use Rattle.join_base.specs.declared.message.Source.{Source};
+ghost use Rattle.script_types.specs.Typed.{IsTyped};
+ghost use Rattle.fair_semantics.specs.Step.{fair_step, is_refused};
+ghost use Rattle.fair_semantics.specs.Fair.{partials_of, run_of, setting_of};
+ghost use Rattle.fair_semantics.specs.Fits.{RuleFits};
+ghost use Rattle.actor_turn.specs.Held.{AreLimits, first_of, is_taken, new_actor, new_entries, posts_behind, posts_for, tries_for, with_first, without_first};
 
-use crate::choose::count_all;
-use crate::conclude::conclude;
-use crate::opening::{copy_rules, kind_sorts, zeros};
-use crate::run::{ActorRun, Ending, Entry, Limits, Outcome};
-use crate::stamps::next_stamp;
+use crate::fit::fits;
+use crate::opening::{copy_rules, kind_sorts, outboxes_of, trees_of};
+use crate::outbox::Outbox;
+use crate::run::into_entries;
+use crate::step::{fire, keep, record, spend};
 use crate::texts::rule_texts;
-use join_base::{Items, Letters, Message, NoMemory, Sort, Source, Steps};
+use fair_semantics::{ActorRun, Ending, Entry, Firing, Limits, Outcome};
+use join_base::{Items, Message, NoMemory, Sort, Source, Stamped, Steps};
+use mailbox_core::Mailbox;
+use match_tree::MatchTree;
 use script_types::{Plan, Rule};
 use std::alloc::Global;
 use std::marker::Model;
 use std::sync::ledger::Ledger;
+use tree_law::{best_of, count_paths, forget_all};
 
 /// An actor between two arrivals. It keeps its own copy of what it needs of the plan.
 #[derive(Drop)]
@@ -26,18 +32,21 @@ pub struct Actor {
     sorts: Items<Items<Sort>>,
     rules: Items<Rule>,
     limits: Limits,
-    letters: Letters,
-    entries: Items<Entry>,
-    live: Vec<u32>,
+    mail: Mailbox,
+    // The partial matches of each rule.
+    trees: Vec<MatchTree>,
+    // What each arrival fired, if it did.
+    firings: Vec<Option<Firing>>,
     ending: Ending,
-    late_feeds: Vec<u64>,
-    late_actors: Vec<u64>,
-    // What a run shows of the late counts. So far no message is late, and it stays empty.
-    late: Items<(Source, u64)>,
+    // The posts that wait for each actor of the plan.
+    outboxes: Vec<Outbox>,
+    // Empty, with room for an entry of each arrival, so that the run takes no memory.
+    entries: Vec<Entry>,
 }
 
 impl Model for Actor {
-    ghost use Rattle.actor_turn.specs.Held.{Held, IsKept, NoneLate};
+    ghost use Rattle.actor_turn.specs.Held.{Held};
+    ghost use Rattle.actor_turn.specs.Inside.{IsKept, held_of};
     ghost use Rattle.std.specs.Coded.{codes};
     ghost use Rattle.guard_eval.specs.Condition.{coded_condition};
 
@@ -45,21 +54,13 @@ impl Model for Actor {
 
     ghost coded = { Prim.hlevel (codes, coded_condition) };
 
-    ghost view = { λ a. record {
-      setting = record { sorts = a.sorts; rules = a.rules; limits = a.limits };
-      state = record {
-        entries = a.entries;
-        live = a.live.items;
-        ending = a.ending;
-        late = record { feeds = a.late_feeds.items; actors = a.late_actors.items };
-      };
-    } };
+    ghost view = { held_of };
 
-    ghost invariant = { λ a. IsKept a.sorts a.letters a.entries a.live.items × NoneLate a.late_feeds.items a.late_actors.items a.late };
+    ghost invariant = { IsKept };
 }
 
 impl Actor {
-    /// The actor of the plan with this index, counted from 0, before its first arrival.
+    /// The actor of the plan with this index, counted from 0, before its first arrival. It has so many feeds.
     /// Its caller is told too that the fixed texts of its rules are texts and their numbers are of 64 bits, as their types say.
     /// `NoMemory` where there is no memory for what it keeps of the plan.
     pub fn new(
@@ -69,33 +70,49 @@ impl Actor {
         limits: Limits,
         feeds: u32,
     ) -> Result<Actor, NoMemory>
+        requires typed { IsTyped plan.now }
         requires exists { index < length plan.now.actors }
+        requires limits { AreLimits limits }
 
-        ensures opening { IfOk result (λ a. a ≡ record { setting = setting_of plan.now index limits; state = opening feeds (length plan.now.actors) }) }
+        ensures opening { IfOk result (λ a. a ≡ new_actor plan.now index limits feeds) }
         ensures texts { OnOk result (AllByRecursion RuleFits (setting_of plan.now index limits).rules) }
     {
         let actor = plan.actors.at(index as usize);
         rule_texts(&actor.rules);
         let sorts = kind_sorts(alloc, &plan.kinds)?;
         let rules = copy_rules(alloc, &actor.rules)?;
-        let late_feeds = zeros(alloc, feeds as usize)?;
-        let late_actors = zeros(alloc, plan.actors.len())?;
+        let trees = trees_of(alloc, &rules)?;
+        let mail = Mailbox::new(alloc, feeds, plan.actors.len() as u32)?;
+        let outboxes = outboxes_of(alloc, plan.actors.len())?;
         Ok(Actor {
             sorts,
             rules,
             limits,
-            letters: Items::new(alloc),
-            entries: Items::new(alloc),
-            live: Vec::new(alloc),
+            mail,
+            trees,
+            firings: Vec::new(alloc),
             ending: Ending::Running,
-            late_feeds,
-            late_actors,
-            late: Items::new(alloc),
+            outboxes,
+            entries: Vec::new(alloc),
         })
     }
 
-    /// One fair step with a message of a source and the stamp that it carries: `Fired` where the choice fires, and else
-    /// `Kept`. After `NoMemory` nothing is said of the actor.
+    // Whether a running actor takes the message: it is not full, the message fits, and a stamp is left.
+    fn takes(&self, message: &Message, stamp: u64) -> bool
+        ensures { result ≡ not (is_refused self.now.setting self.now.state message.now stamp) }
+    {
+        if self.mail.letters().len() >= self.limits.arrivals as usize {
+            return false;
+        }
+        if !fits(&self.sorts, message) {
+            return false;
+        }
+        self.mail.latest().max(stamp) < Stamped::GREATEST
+    }
+
+    /// One fair step with any message, of a source that exists, and the stamp that it carries. The posts of a body wait in the
+    /// outboxes of their targets from then on.
+    /// `NoMemory` comes only where the actor runs and takes the message, and then the actor is as it was.
     pub fn arrive<L: Ledger>(
         &mut self,
         alloc: Global,
@@ -104,55 +121,98 @@ impl Actor {
         stamp: u64,
         steps: &mut Steps<L>,
     ) -> Result<Outcome, NoMemory>
-        requires runnable { CanRun self.old }
-        requires running { self.old.state.ending ≡ Ending.Running }
-        requires room { length self.old.state.entries < 1000 }
-        requires arrivals { 1000 ≤ self.old.setting.limits.arrivals }
-        requires partials { 32016 ≤ self.old.setting.limits.partials }
-        requires fits { fits self.old.setting.sorts message.now ≡ true }
-        requires stamped { max (latest_stamp self.old.state.entries) stamp < greatest_stamp }
+        requires exists { HasCount self.old.state.late source }
 
         ensures step { IfOk result (λ o. fair_step self.old.setting self.old.state source message.now stamp ≡ (self.new.state, o)) }
-        ensures setting { OnOk result (self.new.setting ≡ self.old.setting) }
-        ensures running { OnOk result (self.new.state.ending ≡ Ending.Running) }
-        ensures one_more { OnOk result (length self.new.state.entries ≡ length self.old.state.entries + 1) }
-        ensures stamp { OnOk result (latest_stamp self.new.state.entries ≡ max (latest_stamp self.old.state.entries) stamp + 1) }
-        ensures late { OnOk result (self.new.state.late ≡ self.old.state.late) }
+        ensures setting { self.new.setting ≡ self.old.setting }
+        ensures outbox { OnOk result (self.new.outbox ≡ posts_behind 0 (new_entries self.old.state self.new.state) self.old.outbox) }
+        ensures lent { self.new.lent ≡ self.old.lent }
+        ensures unchanged { OnErr result (self.new ≡ self.old) }
+        ensures taken { OnErr result (is_taken self.old.setting self.old.state message.now stamp ≡ true) }
+        ensures steps { steps.new ≤ steps.old + tries_for self.old.setting.rules self.old.state message.now }
+        ensures sources { OnOk result ((other : Source) → HasCount self.old.state.late other → HasCount self.new.state.late other) }
     {
-        let own = message.copy(alloc)?;
-        let letter = message.copy(alloc)?;
-        self.letters.push(letter)?;
-        let entry = Entry {
-            number: self.letters.len() as u32,
+        if self.ending != Ending::Running {
+            self.mail.add_late(source);
+            return Ok(Outcome::Late);
+        }
+        if !self.takes(message, stamp) {
+            spend(&mut self.mail, &mut self.trees, &mut self.ending, source);
+            return Ok(Outcome::Spent);
+        }
+        self.take_in(alloc, source, message, stamp, steps)
+    }
+
+    // The fair step with a message that the actor takes.
+    fn take_in<L: Ledger>(
+        &mut self,
+        alloc: Global,
+        source: Source,
+        message: &Message,
+        stamp: u64,
+        steps: &mut Steps<L>,
+    ) -> Result<Outcome, NoMemory>
+        requires running { self.old.state.ending ≡ Ending.Running }
+        requires takes { is_refused self.old.setting self.old.state message.now stamp ≡ false }
+
+        ensures step { IfOk result (λ o. fair_step self.old.setting self.old.state source message.now stamp ≡ (self.new.state, o)) }
+        ensures setting { self.new.setting ≡ self.old.setting }
+        ensures outbox { OnOk result (self.new.outbox ≡ posts_behind 0 (new_entries self.old.state self.new.state) self.old.outbox) }
+        ensures lent { self.new.lent ≡ self.old.lent }
+        ensures unchanged { OnErr result (self.new ≡ self.old) }
+        ensures steps { steps.new ≤ steps.old + tries_for self.old.setting.rules self.old.state message.now }
+    {
+        self.firings.reserve(1)?;
+        self.entries.reserve(self.mail.letters().len() + 1)?;
+        let number = record(
+            alloc,
+            &mut self.mail,
+            &mut self.trees,
             source,
-            message: own,
-            stamp: next_stamp(&self.entries, stamp),
-            firing: None,
+            message,
+            stamp,
+            steps,
+        )?;
+        let Some(chosen) = best_of(&self.trees) else {
+            self.firings.push(None).unwrap();
+            let most = self.limits.partials;
+            return Ok(keep(
+                &mut self.mail,
+                &mut self.trees,
+                &mut self.ending,
+                number,
+                most,
+            ));
         };
-        match conclude(
+        match fire(
             alloc,
             &self.rules,
-            &self.letters,
-            &mut self.entries,
-            &mut self.live,
-            entry,
-            steps,
+            &mut self.mail,
+            &mut self.trees,
+            &mut self.ending,
+            &mut self.outboxes,
+            number,
+            chosen,
         ) {
-            Ok(outcome) => Ok(outcome),
-            Err(error) => {
-                let _ = self.letters.pop();
-                Err(error)
+            Ok(firing) => {
+                self.firings.push(Some(firing)).unwrap();
+                Ok(Outcome::Fired)
+            }
+            Err(refused) => {
+                forget_all(&mut self.trees);
+                self.mail.retract_last();
+                Err(refused)
             }
         }
     }
 
     /// The number of partial matches over all definitions.
     pub fn partials(&self) -> u64
-        requires runnable { CanRun self.now }
-
         ensures count { result ≡ partials_of self.now.setting.rules self.now.state }
     {
-        count_all(&self.rules, self.live.as_slice(), &self.letters)
+        // The mailbox tells that its numbers rise.
+        let _ = self.mail.letters();
+        count_paths(&self.trees)
     }
 
     pub fn ending(&self) -> Ending
@@ -165,29 +225,50 @@ impl Actor {
     pub fn arrivals(&self) -> u32
         ensures count { result ≡ length self.now.state.entries }
     {
-        self.entries.len() as u32
+        self.mail.letters().len() as u32
+    }
+
+    /// Takes the first of the posts that wait for an actor of the plan, which may be brought back. `None` exactly where none
+    /// waits, and then nothing changes.
+    pub fn take_post(&mut self, target: u32) -> Option<Stamped>
+        requires exists { target < length self.old.outbox }
+
+        ensures first { result ≡ first_of (posts_for self.old.outbox target) }
+        ensures taken { self.new ≡ without_first self.old target (posts_for self.old.outbox target) }
+        ensures lent { IfSome result (λ post. slice_index_or self.new.lent target false ≡ true) }
+    {
+        self.outboxes[target as usize].take()
+    }
+
+    /// Brings the post back that was taken last for an actor of the plan: it stands first again. It takes no memory.
+    pub fn return_post(&mut self, target: u32, post: Stamped)
+        requires exists { target < length self.old.outbox }
+        requires lent { slice_index_or self.old.lent target false ≡ true }
+
+        ensures returned { self.new ≡ with_first self.old target post }
+    {
+        self.outboxes[target as usize].give_back(post);
     }
 
     /// The run that the actor shows. It takes no memory.
     pub fn into_run(self) -> ActorRun
-        requires runnable { CanRun self }
-
         ensures run { result ≡ run_of self.setting.rules self.state }
         ensures ascending { IsStrictlyIncreasing result.left }
     {
         let partials = self.partials();
         let Actor {
-            entries,
-            live,
+            mail,
+            firings,
             ending,
-            late,
+            entries,
             ..
         } = self;
+        let parts = mail.into_parts();
         ActorRun {
-            entries,
-            late,
+            entries: into_entries(parts.letters, parts.marks, firings, entries),
+            late: parts.late,
             ending,
-            left: Items::from_vec(live),
+            left: parts.left,
             partials,
         }
     }

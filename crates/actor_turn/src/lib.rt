@@ -1,19 +1,21 @@
-//! One actor: its fair steps, and the run that it shows.
+//! One actor: its fair steps over a mailbox and trees of partial matches, and the run that it shows.
+//!
+//! `Actor::new` makes it, `arrive` is one fair step, `take_post` and `return_post` are for those who carry its posts, and
+//! `into_run` gives its run. A contract sees what it was told, its state, and the posts that wait for each actor. Between two
+//! arrivals its trees hold the partial matches, each once, and no complete match waits.
 #![tactic(auto)]
 
 mod actor;
 mod body;
-mod choose;
-mod conclude;
-mod law;
+mod fit;
 mod opening;
+mod outbox;
 mod run;
-mod stamps;
+mod sent;
+mod step;
 mod texts;
 
 pub use actor::Actor;
-pub use law::stamps_law;
-pub use run::{ActorRun, Effect, Ending, Entry, Firing, Limits, Outcome, Run};
 
 #[cfg(test)]
 mod tests;

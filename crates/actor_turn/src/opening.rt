@@ -1,9 +1,14 @@
 //! What a new actor is told.
-ghost use Rattle.std.specs.Prelude.{◌≡◌, IfOk, map, replicate, List, ℕ};
+ghost use Rattle.std.specs.Prelude.{◌≡◌, ◌≤◌, [], false, IfOk, length, map, replicate, List, ℕ};
 ghost use Rattle.join_base.specs.declared.message.Sort.{Sort as FieldSort};
+ghost use Rattle.std.specs.List.{AllByRecursion};
 ghost use Rattle.script_types.specs.Typed.{kind_types};
+ghost use Rattle.fair_semantics.specs.Step.{definitions_of};
+ghost use Rattle.actor_turn.specs.Steady.{HasPatterns, new_trees};
 
+use crate::outbox::Outbox;
 use join_base::{Items, Name, NoMemory, Sort};
+use match_tree::MatchTree;
 use script_types::{Kind, Rule};
 use std::alloc::Global;
 
@@ -42,10 +47,28 @@ pub fn copy_rules(alloc: Global, rules: &Items<Rule>) -> Result<Items<Rule>, NoM
     Ok(copies)
 }
 
-/// As many counts of 0.
-pub fn zeros(alloc: Global, count: usize) -> Result<Vec<u64>, NoMemory>
-    ensures { IfOk result (λ v. v.items ≡ replicate count 0) }
+/// A tree for each rule, which holds the empty path alone.
+pub fn trees_of(alloc: Global, rules: &Items<Rule>) -> Result<Vec<MatchTree>, NoMemory>
+    requires few { length rules.now ≤ 16 }
+    requires patterns { AllByRecursion HasPatterns (definitions_of rules.now) }
+    ensures { IfOk result (λ t. t.items ≡ new_trees 1 (definitions_of rules.now)) }
 {
-    let counts = vec![in alloc; 0; count]?;
-    Ok(counts)
+    let mut trees = Vec::new(alloc);
+    for (place, rule) in rules.as_slice().iter().enumerate() {
+        let tree = MatchTree::new(alloc, &rule.definition, (place + 1) as u32)?;
+        trees.push(tree)?;
+    }
+    Ok(trees)
+}
+
+/// So many outboxes without a post.
+pub fn outboxes_of(alloc: Global, count: usize) -> Result<Vec<Outbox>, NoMemory>
+    ensures posts { IfOk result (λ o. map (λ outbox. outbox.posts) o.items ≡ replicate count []) }
+    ensures lent { IfOk result (λ o. map (λ outbox. outbox.lent) o.items ≡ replicate count false) }
+{
+    let mut outboxes = Vec::new(alloc);
+    for _ in 0..count {
+        outboxes.push(Outbox::new(alloc))?;
+    }
+    Ok(outboxes)
 }

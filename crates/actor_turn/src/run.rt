@@ -1,95 +1,44 @@
-//! What a run shows.
-use join_base::{Items, Line, Message, Numbers, Source, Value};
+//! The entries of a run.
+ghost use Rattle.std.specs.Prelude.{◌≡◌, ◌≤◌, [], length, vec_capacity};
+ghost use Rattle.mailbox_core.specs.Mail.{received_of};
+ghost use Rattle.actor_turn.specs.Parts.{entries_of};
 
-/// The limits of each actor of a run, both from 1 to 1,000,000.
-#[derive(Clone, Copy, PartialEq, Eq, Debug)]
-pub struct Limits {
-    /// How many arrivals an actor records at most.
-    pub arrivals: u32,
-    /// How many partial matches an actor keeps at most, counted over all its definitions.
-    pub partials: u64,
-}
+use fair_semantics::{Entry, Firing};
+use join_base::{Items, Message};
+use mailbox_core::Mark;
 
-/// How one arrival came out.
-#[derive(Clone, Copy, PartialEq, Eq, Debug)]
-pub enum Outcome {
-    /// The choice fired.
-    Fired,
-    /// No match was complete, and the message was kept.
-    Kept,
-    /// The actor had ended, and the message was counted as late.
-    Late,
-    /// The message was kept, and the actor ended: it would have kept too many partial matches.
-    Jammed,
-    /// The actor was full, or the message did not fit: the actor ended, and the message was counted as late.
-    Spent,
-}
+/// The entries of letters, their marks and what they fired, put into the room that was made for them. It takes no memory.
+pub fn into_entries(
+    letters: Items<Message>,
+    marks: Items<Mark>,
+    firings: Vec<Option<Firing>>,
+    room: Vec<Entry>,
+) -> Items<Entry>
+    requires marked { length marks ≡ length letters }
+    requires fired { length firings.items ≡ length letters }
+    requires few { length letters ≤ 1000000 }
+    requires empty { room.items ≡ [] }
+    requires room { length letters ≤ vec_capacity room }
 
-/// Whether an actor still runs, or how it ended.
-#[derive(Clone, Copy, PartialEq, Eq, Debug)]
-pub enum Ending {
-    Running,
-    Stopped,
-    Jammed,
-    Spent,
-}
-
-/// What a body did.
-#[derive(Drop)]
-pub enum Effect {
-    Print(Line),
-    /// A message for an actor, which is counted from 0.
-    Post { target: u32, message: Message },
-    /// A value for whoever sent the arrival with this number.
-    Reply { number: u32, value: Value },
-}
-
-/// The match that fired at an arrival.
-#[derive(Drop)]
-pub struct Firing {
-    /// The number of the definition, from 1.
-    pub rule: u32,
-    /// The arrival numbers that it took, in pattern order.
-    pub taken: Numbers,
-    /// What the body did, in order.
-    pub effects: Items<Effect>,
-}
-
-/// A recorded arrival.
-#[derive(Drop)]
-pub struct Entry {
-    /// The arrival number, from 1.
-    pub number: u32,
-    pub source: Source,
-    pub message: Message,
-    /// 1 more than the greater of the arrival's before it, or 0, and the one that the message carried.
-    /// In a run of version 1 it is 0.
-    pub stamp: u64,
-    pub firing: Option<Firing>,
-}
-
-/// The run of one actor.
-#[derive(Drop)]
-pub struct ActorRun {
-    /// The arrivals in order.
-    pub entries: Items<Entry>,
-    /// The late counts above 0: those of the feeds, and then those of the actors.
-    pub late: Items<(Source, u64)>,
-    pub ending: Ending,
-    /// The arrival numbers that were not consumed, ascending.
-    pub left: Items<u32>,
-    /// The number of partial matches over all definitions.
-    pub partials: u64,
-}
-
-/// The run of a plan.
-#[derive(Drop)]
-pub struct Run {
-    /// 1 without stamps, 2 with them.
-    pub version: u32,
-    pub limits: Limits,
-    /// How many feeds there were, from 1 to 16.
-    pub feeds: u32,
-    /// The runs of the actors, in order of declaration.
-    pub actors: Items<ActorRun>,
+    ensures { result ≡ entries_of 1 (received_of letters marks) firings.items }
+{
+    let mut letters = letters.into_vec();
+    let mut marks = marks.into_vec();
+    let mut firings = firings;
+    let mut entries = room;
+    while let Some(message) = letters.pop() {
+        let mark = marks.pop().unwrap();
+        let firing = firings.pop().unwrap();
+        let number = letters.len() as u32 + 1;
+        let entry = Entry {
+            number,
+            source: mark.source,
+            message,
+            stamp: mark.stamp,
+            firing,
+        };
+        entries.push(entry).unwrap();
+    }
+    entries.reverse();
+    Items::from_vec(entries)
 }

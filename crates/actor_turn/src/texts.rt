@@ -1,6 +1,6 @@
 //! What the types of a plan say of its texts and numbers. These calls only tell it to their callers.
 ghost use Rattle.std.specs.List.{AllByRecursion};
-ghost use Rattle.actor_turn.specs.Fits.{ItemFits, LeafFits, OperandFits, RuleFits, StatementFits, TermFits, WordsFit};
+ghost use Rattle.fair_semantics.specs.Fits.{ItemFits, LeafFits, OperandFits, RuleFits, StatementFits, TermFits, WordsFit};
 
 use guard_eval::{Leaf, Operand, Term, WordsLeaf};
 use join_base::Items;

@@ -1,5 +1,5 @@
-use Rattle.actor_turn.specs.Fits.{StatementFits}
-use Rattle.actor_turn.proofs.ListLemmas.{each_more, each_all}
+use Rattle.fair_semantics.specs.Fits.{StatementFits}
+use Rattle.fair_semantics.proofs.ListLemmas.{each_more, each_all}
 use Rattle.actor_turn.proofs.texts.body_texts.Goals as goal
 
 pub loop-statement-preserved : goal.loop-statement-preserved

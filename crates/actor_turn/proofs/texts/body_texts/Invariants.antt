@@ -1,6 +1,6 @@
 use Rattle.std.proofs.Common.{take}
 use Rattle.std.specs.List.{AllByRecursion}
-use Rattle.actor_turn.specs.Fits.{StatementFits}
+use Rattle.fair_semantics.specs.Fits.{StatementFits}
 use Rattle.actor_turn.proofs.texts.body_texts.Given as goal
 
 abbrev pub invariant-loop-statement : goal.invariant-loop-statement

@@ -1,5 +1,5 @@
-use Rattle.actor_turn.specs.Fits.{ItemFits}
-use Rattle.actor_turn.proofs.ListLemmas.{each_more, each_all}
+use Rattle.fair_semantics.specs.Fits.{ItemFits}
+use Rattle.fair_semantics.proofs.ListLemmas.{each_more, each_all}
 use Rattle.actor_turn.proofs.texts.item_texts.Goals as goal
 
 pub loop-item-preserved : goal.loop-item-preserved

@@ -1,5 +1,5 @@
-use Rattle.actor_turn.specs.Fits.{OperandFits}
-use Rattle.actor_turn.proofs.ListLemmas.{each_more, each_all}
+use Rattle.fair_semantics.specs.Fits.{OperandFits}
+use Rattle.fair_semantics.proofs.ListLemmas.{each_more, each_all}
 use Rattle.actor_turn.proofs.texts.operand_texts.Goals as goal
 
 pub loop-operand-preserved : goal.loop-operand-preserved

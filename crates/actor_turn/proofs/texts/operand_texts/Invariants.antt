@@ -1,6 +1,6 @@
 use Rattle.std.proofs.Common.{take}
 use Rattle.std.specs.List.{AllByRecursion}
-use Rattle.actor_turn.specs.Fits.{OperandFits}
+use Rattle.fair_semantics.specs.Fits.{OperandFits}
 use Rattle.actor_turn.proofs.texts.operand_texts.Given as goal
 
 abbrev pub invariant-loop-operand : goal.invariant-loop-operand

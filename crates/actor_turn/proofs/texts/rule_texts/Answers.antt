@@ -1,5 +1,5 @@
-use Rattle.actor_turn.specs.Fits.{RuleFits}
-use Rattle.actor_turn.proofs.ListLemmas.{each_more, each_all}
+use Rattle.fair_semantics.specs.Fits.{RuleFits}
+use Rattle.fair_semantics.proofs.ListLemmas.{each_more, each_all}
 use Rattle.actor_turn.proofs.texts.rule_texts.Goals as goal
 
 pub loop-rule-preserved : goal.loop-rule-preserved

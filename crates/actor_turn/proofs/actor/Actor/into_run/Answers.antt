@@ -1,16 +1,20 @@
-use Rattle.std.specs.List.Sorted.{IsStrictlyIncreasing}
-use Rattle.std.proofs.Common.{subst, ◌∙◌, ap, sym}
-use Rattle.actor_turn.specs.Fair.{partials_of, run_of}
+use Rattle.std.proofs.Common.{◌≡◌, ◌∙◌, List, ap, sym}
+use Rattle.mailbox_core.specs.Mail.{Received, received_of}
+use Rattle.fair_semantics.specs.declared.run.ActorRun.{ActorRun}
+use Rattle.fair_semantics.specs.Fair.{partials_of, run_of}
 use Rattle.actor_turn.specs.Held.{Held}
-use Rattle.actor_turn.proofs.KeptLemmas.{none_shown}
+use Rattle.actor_turn.specs.Inside.{held_of}
+use Rattle.actor_turn.specs.Parts.{entries_of}
+use Rattle.actor_turn.proofs.PartsLemmas.{received_again}
 use Rattle.actor_turn.proofs.actor.Actor.into_run.Goals as goal
 
 pub returns-clause-run : goal.returns-clause-run
 returns-clause-run c =
     let a = c.self.inside in
+    let e = c.into_parts-parts.ensures in
+    let arrivals = (λ i. received_of (e.letters i) (e.marks i)) ∙ received_again a.mail.mail.arrivals in
+    let entries = c.into_entries.ensures ∙ ap (λ (rs : List Received). entries_of 1 rs a.firings.items) arrivals in
     let partials = c.partials-partials.ensures.count ∙ ap (λ (h : Held). partials_of h.setting.rules h.state) (sym c.self.view_is) in
-    let late = none_shown a.late_feeds.items a.late_actors.items a.late c.self.invariant.1 in
-    (λ i. record { entries = a.entries; late = late i; ending = a.ending; left = c.from_vec.ensures.same i; partials = partials i }) ∙ ap (λ (h : Held). run_of h.setting.rules h.state) c.self.view_is
-
-pub returns-clause-ascending : goal.returns-clause-ascending
-returns-clause-ascending c = subst IsStrictlyIncreasing (sym c.from_vec.ensures.same) c.self.invariant.0.ascending
+    let run : ◌≡◌ {A = ActorRun} (record { entries = c.into_entries.result; late = c.into_parts-parts.result.late; ending = a.ending; left = c.into_parts-parts.result.left; partials = c.partials-partials.result }) (run_of (held_of a).setting.rules (held_of a).state)
+    = λ i. record { entries = entries i; late = e.late i; ending = a.ending; left = e.left i; partials = partials i } in
+    run ∙ ap (λ (h : Held). run_of h.setting.rules h.state) c.self.view_is

@@ -1,0 +1,31 @@
+use Rattle.std.proofs.Common.{◌∙◌, ◌<◌, ◌≤◌, length, ap, sym, arith}
+use Rattle.std.specs.Prelude.{max, not, nat_lt}
+use Rattle.std.proofs.lemmas.List.{length-map}
+use Rattle.join_base.specs.Stamps.{greatest_stamp}
+use Rattle.mailbox_core.specs.Mail.{Received}
+use Rattle.fair_semantics.specs.Step.{is_refused}
+use Rattle.actor_turn.specs.Held.{Held}
+use Rattle.actor_turn.specs.Inside.{held_of, setting_in}
+use Rattle.actor_turn.proofs.PartsLemmas.{entries_count, entries_latest}
+use Rattle.actor_turn.proofs.RestLemmas.{full_refused, rest_taken}
+use Rattle.actor_turn.proofs.actor.Actor.takes.Goals as goal
+
+pub returns-then-letters-self : goal.returns-then-letters-self
+returns-then-letters-self c =
+    let a = c.self.inside in
+    let letters = ap length c.letters.ensures.letters ∙ length-map a.mail.mail.arrivals (λ (r : Received). r.message) in
+    let entries = entries_count 1 a.mail.mail.arrivals a.firings.items c.self.invariant.rest.fired in
+    let full : a.limits.arrivals ≤ length (held_of a).state.entries = omega (arith, c.if-letters-self.true) in
+    full_refused (setting_in a) (held_of a).state c.args.message.now c.args.stamp full
+    ∙ ap (λ (h : Held). not (is_refused h.setting h.state c.args.message.now c.args.stamp)) c.self.view_is
+
+pub returns : goal.returns
+returns c =
+    let a = c.self.inside in
+    let letters = ap length c.letters.ensures.letters ∙ length-map a.mail.mail.arrivals (λ (r : Received). r.message) in
+    let entries = entries_count 1 a.mail.mail.arrivals a.firings.items c.self.invariant.rest.fired in
+    let room : length (held_of a).state.entries < a.limits.arrivals = omega (arith, c.if-letters-self.false) in
+    let stamp = c.max.ensures ∙ ap (λ n. max n c.args.stamp) (c.latest.ensures.latest ∙ sym (entries_latest 1 0 a.mail.mail.arrivals a.firings.items c.self.invariant.rest.fired)) in
+    ap (λ n. nat_lt n greatest_stamp) stamp
+    ∙ rest_taken (setting_in a) (held_of a).state c.args.message.now c.args.stamp room (sym c.if-not-fits.ensures)
+    ∙ ap (λ (h : Held). not (is_refused h.setting h.state c.args.message.now c.args.stamp)) c.self.view_is

@@ -1,0 +1,190 @@
+//! The parts of a fair step, over the mailbox and the trees of an actor.
+ghost use Rattle.std.specs.Prelude.{◌≡◌, ◌+◌, ◌-◌, ◌^◌, ◌<◌, ◌≤◌, [], ◌∷◌, ◌++◌, All, None, Some, IfOk, OnErr, OnOk, length, map, if◌then◌else◌};
+ghost use Rattle.std.specs.List.{AllByRecursion};
+ghost use Rattle.std.specs.List.Sorted.{IsStrictlyIncreasing};
+ghost use Rattle.join_base.specs.Late.{HasCount, late_more};
+ghost use Rattle.join_base.specs.Stamps.{greatest_stamp};
+ghost use Rattle.join_base.specs.Taken.{without};
+ghost use Rattle.mailbox_core.specs.Mail.{IsRecorded, latest, letters_of, with_arrival, with_late, with_live};
+ghost use Rattle.tree_law.specs.Trees.{AreSettled, CanOfferTo, HasReserve, IsReservedAt, best_of, cleared_tree, settled_tree, tries_at};
+ghost use Rattle.fair_semantics.specs.Step.{body_at, firing_of};
+ghost use Rattle.fair_semantics.specs.Body.{effects_of, stops};
+ghost use Rattle.actor_turn.specs.Ready.{BodyReady};
+ghost use Rattle.actor_turn.specs.Parts.{Keeps, fired_at};
+ghost use Rattle.actor_turn.specs.Sent.{delivered, sent_by};
+
+use crate::body::{run_body, stops};
+use crate::outbox::Outbox;
+use crate::sent::{copy_posts, deliver, reserve_each};
+use fair_semantics::{Ending, Firing, Outcome};
+use join_base::{Items, Message, NoMemory, Numbers, Source, Steps};
+use mailbox_core::Mailbox;
+use match_tree::MatchTree;
+use pattern_core::Candidate;
+use script_types::Rule;
+use std::alloc::Global;
+use std::sync::ledger::Ledger;
+use tree_law::{clear_all, count_paths, expire_all, forget_all, keep_all, prune_all, reserve_all};
+
+/// The actor ends without taking a message of the source, which is late.
+pub fn spend(mail: &mut Mailbox, trees: &mut [MatchTree], ending: &mut Ending, source: Source)
+    requires exists { HasCount mail.old.mail.late source }
+
+    ensures mail { mail.new.mail ≡ with_live (with_late mail.old.mail (late_more mail.old.mail.late source)) [] }
+    ensures trees { trees.new ≡ map cleared_tree trees.old }
+    ensures ending { ending.new ≡ Ending.Spent }
+{
+    mail.add_late(source);
+    mail.clear();
+    clear_all(trees);
+    *ending = Ending::Spent;
+}
+
+/// Records a message with the stamp that it carried, offers its number to the trees, and gives the number. Where there is no
+/// memory, all is as it was. The message is copied once.
+pub fn record<L: Ledger>(
+    alloc: Global,
+    mail: &mut Mailbox,
+    trees: &mut [MatchTree],
+    source: Source,
+    message: &Message,
+    came: u64,
+    steps: &mut Steps<L>,
+) -> Result<u32, NoMemory>
+    requires few { length mail.old.mail.arrivals < 1000000 }
+    requires came { came < greatest_stamp }
+    requires latest { latest mail.old.mail.arrivals < greatest_stamp }
+    requires settled { AreSettled trees.old }
+    requires can { AllByRecursion (CanOfferTo (letters_of mail.old.mail.arrivals ++ message.now ∷ []) (length mail.old.mail.arrivals + 1)) trees.old }
+
+    ensures number { IfOk result (λ n. n ≡ length mail.old.mail.arrivals + 1) }
+    ensures recorded { OnOk result (mail.new.mail ≡ with_arrival mail.old.mail source message.now came) }
+    ensures ascending { OnOk result (IsStrictlyIncreasing mail.new.mail.live) }
+    ensures same { OnOk result (map settled_tree trees.new ≡ trees.old) }
+    ensures reserved { OnOk result (AllByRecursion (IsReservedAt (letters_of mail.old.mail.arrivals ++ message.now ∷ []) (length mail.old.mail.arrivals + 1)) trees.new) }
+    ensures mail { OnErr result (mail.new.mail ≡ mail.old.mail) }
+    ensures trees { OnErr result (trees.new ≡ trees.old) }
+    ensures steps { steps.new ≤ steps.old + tries_at (letters_of mail.old.mail.arrivals ++ message.now ∷ []) (length mail.old.mail.arrivals + 1) trees.old }
+{
+    mail.reserve_one()?;
+    let own = message.copy(alloc)?;
+    let number = mail.append(source, own, came);
+    match reserve_all(trees, mail.letters(), number, steps) {
+        Ok(()) => Ok(number),
+        Err(refused) => {
+            mail.retract_last();
+            Err(refused)
+        }
+    }
+}
+
+/// The recorded message with the number is kept, since no match is complete. The actor jams where it would keep more partial
+/// matches than `most`.
+pub fn keep(
+    mail: &mut Mailbox,
+    trees: &mut [MatchTree],
+    ending: &mut Ending,
+    number: u32,
+    most: u64,
+) -> Outcome
+    requires few { number < 2 ^ 32 - 1 }
+    requires most { most ≤ 1000000 }
+    requires reserved { AllByRecursion (HasReserve number) trees.old }
+    requires none { best_of trees.old ≡ None }
+
+    ensures { Keeps number most trees.old trees.new mail.old.mail mail.new.mail ending.old ending.new result }
+{
+    keep_all(trees, number);
+    if count_paths(trees) > most {
+        clear_all(trees);
+        mail.clear();
+        *ending = Ending::Jammed;
+        return Outcome::Jammed;
+    }
+    Outcome::Kept
+}
+
+// The numbers that a firing takes leave, or all leave where the body stops the actor.
+fn let_go(
+    stops: bool,
+    mail: &mut Mailbox,
+    trees: &mut [MatchTree],
+    ending: &mut Ending,
+    number: u32,
+    taken: &Numbers,
+)
+    requires few { number < 2 ^ 32 - 1 }
+    requires recorded { All (IsRecorded mail.old.mail.arrivals) taken.now }
+    requires reserved { AllByRecursion (HasReserve number) trees.old }
+
+    ensures mail { mail.new.mail ≡ with_live mail.old.mail (if stops then [] else without mail.old.mail.live taken.now) }
+    ensures trees { trees.new ≡ (if stops then map cleared_tree trees.old else map (fired_at number taken.now) trees.old) }
+    ensures ending { ending.new ≡ (if stops then Ending.Stopped else ending.old) }
+{
+    if stops {
+        mail.clear();
+        clear_all(trees);
+        *ending = Ending::Stopped;
+        return;
+    }
+    mail.consume(taken);
+    expire_all(trees, number);
+    forget_all(trees);
+    prune_all(trees, taken);
+}
+
+/// The match that was chosen fires at the recorded message with the number: its numbers leave, the body runs, and its posts
+/// wait in the outboxes. Where there is no memory, all is as it was, but for room.
+pub fn fire(
+    alloc: Global,
+    rules: &Items<Rule>,
+    mail: &mut Mailbox,
+    trees: &mut [MatchTree],
+    ending: &mut Ending,
+    outboxes: &mut [Outbox],
+    number: u32,
+    chosen: Candidate,
+) -> Result<Firing, NoMemory>
+    requires few { number < 2 ^ 32 - 1 }
+    requires numbered { 1 ≤ chosen.rule }
+    requires exists { chosen.rule ≤ length rules.now }
+    requires ready { BodyReady (length outboxes.old) (letters_of mail.old.mail.arrivals) chosen.taken (body_at rules.now chosen.rule) }
+    requires recorded { All (IsRecorded mail.old.mail.arrivals) chosen.taken }
+    requires reserved { AllByRecursion (HasReserve number) trees.old }
+
+    ensures firing { IfOk result (λ f. Some f ≡ firing_of rules.now (letters_of mail.old.mail.arrivals) (Some chosen)) }
+    ensures mail { OnOk result (mail.new.mail ≡ with_live mail.old.mail (if stops (body_at rules.now chosen.rule) then [] else without mail.old.mail.live chosen.taken)) }
+    ensures trees { OnOk result (trees.new ≡ (if stops (body_at rules.now chosen.rule) then map cleared_tree trees.old else map (fired_at number chosen.taken) trees.old)) }
+    ensures ending { OnOk result (ending.new ≡ (if stops (body_at rules.now chosen.rule) then Ending.Stopped else ending.old)) }
+    ensures posts { OnOk result (map (λ o. o.posts) outboxes.new ≡ delivered (sent_by (latest mail.old.mail.arrivals) (effects_of (letters_of mail.old.mail.arrivals) chosen.taken (body_at rules.now chosen.rule))) (map (λ o. o.posts) outboxes.old)) }
+    ensures lent { map (λ o. o.lent) outboxes.new ≡ map (λ o. o.lent) outboxes.old }
+    ensures same_mail { OnErr result (mail.new.mail ≡ mail.old.mail) }
+    ensures same_trees { OnErr result (trees.new ≡ trees.old) }
+    ensures same_ending { OnErr result (ending.new ≡ ending.old) }
+    ensures same_posts { OnErr result (map (λ o. o.posts) outboxes.new ≡ map (λ o. o.posts) outboxes.old) }
+{
+    let rule = rules.at((chosen.rule - 1) as usize);
+    let effects = run_body(
+        alloc,
+        &rule.body,
+        outboxes.len(),
+        &chosen.taken,
+        mail.letters(),
+    )?;
+    let posts = copy_posts(alloc, &effects, mail.latest())?;
+    reserve_each(outboxes, posts.len())?;
+    deliver(outboxes, posts);
+    let_go(
+        stops(&rule.body),
+        mail,
+        trees,
+        ending,
+        number,
+        &chosen.taken,
+    );
+    Ok(Firing {
+        rule: chosen.rule,
+        taken: chosen.taken,
+        effects,
+    })
+}
