@@ -1,0 +1,10 @@
+pub mod PlaceLemmas
+pub mod FeedLemmas
+pub mod MoveLemmas
+pub mod SoundLemmas
+pub mod OpeningLemmas
+pub mod BringLemmas
+pub mod FedLemmas
+pub mod StartLemmas
+pub mod LinkLemmas
+pub mod FinishLemmas
