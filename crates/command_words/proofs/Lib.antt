@@ -1,0 +1,4 @@
+mod Examples
+pub mod ItemLemmas
+pub mod LawLemmas
+pub mod RangeLemmas

@@ -1,0 +1,10 @@
+pub mod Command
+pub mod Gives
+pub mod Item
+pub mod Law
+pub mod Number
+pub mod Once
+pub mod Ranges
+pub mod Steps
+pub mod Table
+pub mod Views
