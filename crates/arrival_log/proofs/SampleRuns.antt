@@ -4,7 +4,7 @@ use Rattle.std.specs.Prelude.{codes}
 use Rattle.std.specs.Str.{is_utf8, chars, IsUtf8}
 use Rattle.std.proofs.lemmas.Str.{IsUtf8-from_is_utf8}
 use lib.Utf8.{encode}
-use Rattle.actor_turn.specs.Fits.{RunFits}
+use Rattle.fair_semantics.specs.Fits.{RunFits}
 use Rattle.arrival_log.specs.Samples.{hit_plan, hit_run, post_plan, post_run}
 
 utf8_of_hit : IsUtf8 (codes "hit 12")

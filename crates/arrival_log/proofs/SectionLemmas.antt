@@ -3,7 +3,7 @@ use Rattle.std.proofs.Common.{◌≡◌, ◌∙◌, ℕ, suc, zero, ◌+◌, ◌
 use Rattle.std.proofs.lemmas.Option.{same_Some, slice_get-get_or}
 use Rattle.script_types.specs.declared.plan.Plan.{Plan}
 use Rattle.script_types.specs.declared.plan.ActorPlan.{ActorPlan}
-use Rattle.actor_turn.specs.declared.run.ActorRun.{ActorRun}
+use Rattle.fair_semantics.specs.declared.run.ActorRun.{ActorRun}
 use Rattle.arrival_log.specs.LogText.{actor_lines, sections}
 
 sections-suc : (plan : Plan) (version : ℕ) (actors : List ActorPlan) (runs : List ActorRun) (i : ℕ) (a : ActorPlan) (r : ActorRun) → i < length actors → i < length runs → sections plan version (take (suc i) actors) (take (suc i) runs) ≡ sections plan version (take i actors) (take i runs) ++ actor_lines plan version (get_or actors i a) (get_or runs i r)

@@ -7,11 +7,11 @@ use Rattle.join_base.specs.declared.message.Message.{Message}
 use Rattle.script_types.specs.declared.plan.Plan.{Plan}
 use Rattle.script_types.specs.declared.plan.Kind.{Kind}
 use Rattle.script_types.specs.declared.plan.ActorPlan.{ActorPlan}
-use Rattle.actor_turn.specs.declared.run.Effect.TheVariants.{Print, Post, Reply}
-use Rattle.actor_turn.specs.declared.run.Ending.TheVariants.{Running, Stopped}
-use Rattle.actor_turn.specs.declared.run.ActorRun.{ActorRun}
-use Rattle.actor_turn.specs.declared.run.Firing.{Firing}
-use Rattle.actor_turn.specs.declared.run.Run.{Run}
+use Rattle.fair_semantics.specs.declared.run.Effect.TheVariants.{Print, Post, Reply}
+use Rattle.fair_semantics.specs.declared.run.Ending.TheVariants.{Running, Stopped}
+use Rattle.fair_semantics.specs.declared.run.ActorRun.{ActorRun}
+use Rattle.fair_semantics.specs.declared.run.Firing.{Firing}
+use Rattle.fair_semantics.specs.declared.run.Run.{Run}
 use Rattle.join_base.specs.declared.message.Sort.{Sort}
 use Rattle.join_base.specs.declared.message.Value.{Value}
 

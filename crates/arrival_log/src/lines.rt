@@ -4,12 +4,12 @@ ghost use Rattle.std.specs.List.{flat_map};
 ghost use Rattle.arrival_log.specs.LogText.{actor_lines, arrival_line, effect_line, end_line, entry_lines, fire_line, firing_lines, head_line, late_line};
 
 use crate::parts::{
-    write_actor_name, write_count, write_ending, write_labelled, write_left, write_message,
-    write_numbers, write_source, write_stamp, write_value,
+    write_count, write_ending, write_labelled, write_left, write_message, write_numbers,
+    write_source, write_stamp, write_value,
 };
-use actor_turn::{ActorRun, Effect, Entry, Firing, Run};
+use fair_semantics::{ActorRun, Effect, Entry, Firing, Run};
 use join_base::{Bytes, NoMemory, Source, write_quoted};
-use script_types::{ActorPlan, Plan};
+use script_types::{ActorPlan, Plan, write_actor_name};
 
 // The first line.
 pub(crate) fn write_head(text: &mut Bytes, run: &Run) -> Result<(), NoMemory>

@@ -2,11 +2,12 @@
 ghost use Rattle.std.specs.Prelude.{◌≡◌, ◌++◌, map, OnOk};
 ghost use Rattle.std.specs.Fmt.{decimal};
 ghost use Rattle.arrival_log.specs.Commas.{comma_before, stamp_behind};
-ghost use Rattle.arrival_log.specs.LogText.{comma_joined, left_text, ending_text, message_text, name_of_actor, name_of_kind, source_text, value_text};
+ghost use Rattle.arrival_log.specs.LogText.{comma_joined, left_text, ending_text, message_text, source_text, value_text};
+ghost use Rattle.script_types.specs.Names.{name_of_actor, name_of_kind};
 
-use actor_turn::Ending;
+use fair_semantics::Ending;
 use join_base::{Bytes, Message, NoMemory, Source, Value, write_number, write_quoted};
-use script_types::Plan;
+use script_types::{Plan, write_actor_name, write_kind_name};
 
 pub(crate) fn write_count(text: &mut Bytes, count: u64) -> Result<(), NoMemory>
     ensures { OnOk result (text.new ≡ text.old ++ decimal count) }
@@ -30,24 +31,6 @@ pub(crate) fn write_stamp(text: &mut Bytes, version: u32, stamp: u64) -> Result<
         Ok(())
     } else {
         write_labelled(text, b" at ", stamp)
-    }
-}
-
-pub(crate) fn write_actor_name(text: &mut Bytes, plan: &Plan, actor: u32) -> Result<(), NoMemory>
-    ensures { OnOk result (text.new ≡ text.old ++ name_of_actor plan.now actor) }
-{
-    match plan.actors.as_slice().get(actor as usize) {
-        Some(actor) => text.push_all(actor.name.bytes()),
-        None => Ok(()),
-    }
-}
-
-fn write_kind_name(text: &mut Bytes, plan: &Plan, kind: u32) -> Result<(), NoMemory>
-    ensures { OnOk result (text.new ≡ text.old ++ name_of_kind plan.now kind) }
-{
-    match plan.kinds.as_slice().get(kind as usize) {
-        Some(kind) => text.push_all(kind.name.bytes()),
-        None => Ok(()),
     }
 }
 

@@ -1,10 +1,10 @@
 //! A run as the text of its log.
 ghost use Rattle.std.specs.Prelude.{◌≡◌, ◌++◌, length, OnOk, OnErr};
-ghost use Rattle.actor_turn.specs.Fits.{RunFits};
+ghost use Rattle.fair_semantics.specs.Fits.{RunFits};
 ghost use Rattle.arrival_log.specs.LogText.{log_text, sections};
 
 use crate::lines::{write_actor, write_head};
-use actor_turn::{ActorRun, Run};
+use fair_semantics::{ActorRun, Run};
 use join_base::{Bytes, NoMemory};
 use script_types::Plan;
 use std::alloc::Global;

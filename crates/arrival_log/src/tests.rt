@@ -3,7 +3,7 @@ ghost use Rattle.join_base.specs.Text.{is_name};
 ghost use Rattle.arrival_log.specs.Samples.{hit, hit_plan, hit_run, joiner, keeper, one_field, one_value, post, post_plan, post_run, poster, ruleless};
 
 use crate::print_log;
-use actor_turn::{ActorRun, Effect, Ending, Entry, Firing, Limits, Run};
+use fair_semantics::{ActorRun, Effect, Ending, Entry, Firing, Limits, Run};
 use join_base::{
     Bytes, Fields, Items, Line, Message, Name, NoMemory, Numbers, Sort, Source, Text, Value,
 };

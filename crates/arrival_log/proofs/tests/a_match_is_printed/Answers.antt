@@ -1,7 +1,7 @@
 use Rattle.std.proofs.Common.{sym, subst}
 use Rattle.script_types.specs.declared.plan.Plan.{Plan}
-use Rattle.actor_turn.specs.declared.run.Run.{Run}
-use Rattle.actor_turn.specs.Fits.{RunFits}
+use Rattle.fair_semantics.specs.declared.run.Run.{Run}
+use Rattle.fair_semantics.specs.Fits.{RunFits}
 use Rattle.arrival_log.specs.Samples.{hit_plan}
 use Rattle.arrival_log.proofs.SampleRuns.{hit_fits}
 use Rattle.arrival_log.proofs.tests.a_match_is_printed.Goals as goal

@@ -1,7 +1,7 @@
 use Rattle.std.proofs.Common.{sym, subst}
 use Rattle.script_types.specs.declared.plan.Plan.{Plan}
-use Rattle.actor_turn.specs.declared.run.Run.{Run}
-use Rattle.actor_turn.specs.Fits.{RunFits}
+use Rattle.fair_semantics.specs.declared.run.Run.{Run}
+use Rattle.fair_semantics.specs.Fits.{RunFits}
 use Rattle.arrival_log.specs.Samples.{post_plan}
 use Rattle.arrival_log.proofs.SampleRuns.{post_fits}
 use Rattle.arrival_log.proofs.tests.a_post_and_late_messages_are_printed.Goals as goal

@@ -1,0 +1,16 @@
+pub mod CutLemmas
+pub mod ExactLemmas
+pub mod FieldLemmas
+pub mod FormLemmas
+pub mod HeadLemmas
+pub mod IntLemmas
+pub mod LackLemmas
+pub mod LineLemmas
+pub mod ListLemmas
+pub mod MessageLemmas
+pub mod NameLemmas
+pub mod NumberLemmas
+pub mod OptionLemmas
+pub mod PlanLemmas
+pub mod QuotingLemmas
+pub mod ValueLemmas

@@ -1,0 +1,9 @@
+pub mod AgainLemmas
+pub mod PlaceLemmas
+pub mod ReadLemmas
+pub mod RunLines
+pub mod SampleLemmas
+pub mod ShownLemmas
+pub mod SoundLemmas
+pub mod StepLemmas
+pub mod WalkLemmas

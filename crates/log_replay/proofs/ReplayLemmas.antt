@@ -1,0 +1,117 @@
+-- The walk over the read arrivals of each actor.
+use Rattle.std.proofs.Common.{◌≡◌, ◌∙◌, inl, inr, ℕ, suc, ◌+◌, ◌-◌, ◌<◌, ◌≤◌, List, [], ◌∷◌, ◌++◌, length, length-append, map, drop, get_or, Option, append_assoc, slice_get, refl, sym, ap, subst, arith}
+use Rattle.std.specs.List.{AllByRecursion}
+use Rattle.std.proofs.Math.ListN.{drop_of_length-le}
+use Rattle.std.proofs.lemmas.Bool.{cases_lt}
+use Rattle.std.proofs.lemmas.List.{drop_more, length-map}
+use Rattle.std.proofs.lemmas.Option.{slice_get_past}
+use Rattle.join_base.specs.Late.{HasCount}
+use Rattle.join_base.specs.declared.message.Source.{Source}
+use Rattle.join_base.specs.declared.message.Source.TheVariants.{Feed, Actor}
+use Rattle.script_types.specs.declared.plan.Plan.{Plan}
+use Rattle.script_types.specs.declared.plan.ActorPlan.{ActorPlan}
+use Rattle.script_types.specs.Typed.{IsTyped}
+use Rattle.fair_semantics.specs.declared.run.ActorRun.{ActorRun}
+use Rattle.fair_semantics.specs.declared.run.Entry.{Entry}
+use Rattle.fair_semantics.specs.declared.run.Limits.{Limits}
+use Rattle.fair_semantics.specs.declared.run.Outcome.{Outcome}
+use Rattle.fair_semantics.specs.declared.run.Run.{Run}
+use Rattle.fair_semantics.specs.Fair.{after_all, rules_of, run_of, setting_of}
+use Rattle.fair_semantics.specs.Fits.{EntryFits, RuleFits, RunFits, SourceFits}
+use Rattle.fair_semantics.specs.Linked.{numbers_from}
+use Rattle.fair_semantics.specs.StampLaw.{arrivals_of}
+use Rattle.fair_semantics.specs.Step.{Stepped, fair_step, opening}
+use Rattle.fair_semantics.proofs.ListLemmas.{each_from}
+use Rattle.actor_turn.specs.Held.{Held, new_actor}
+use Rattle.run_fits.specs.FitsLaw.{RulesFit}
+use Rattle.log_replay.specs.Expected.{bare, entries_in, expected_run, read_entries, stepped}
+use Rattle.log_replay.specs.Law.{AllRulesFit}
+use Rattle.log_replay.specs.declared.settling.Settlement.{Settlement}
+use Rattle.log_replay.specs.Kept.{entries_size, sections_size}
+use Rattle.log_replay.specs.Settling.{finished_runs, made_run, made_runs, settlements_of}
+use Rattle.log_replay.proofs.MadeLemmas.{read_fit}
+use Rattle.log_replay.proofs.SettledLemmas.{length-replicate, replay_is, sources_counted}
+use Rattle.log_replay.proofs.ConverseLemmas.{count_numbers}
+
+-- what is left of the walk of an actor
+pub record Goes (plan : Plan) (run : Run) (index : ℕ) (actor : Held) (all : List Entry) (place : ℕ) : Type 0 where
+  pub left : after_all actor.setting actor.state (map bare (drop place all)) ≡ stepped plan run index
+  pub setting : actor.setting ≡ setting_of plan index run.limits
+  pub counted : AllByRecursion (λ entry. HasCount actor.state.late entry.source) all
+
+source_counted : (plan : Plan) (feeds : ℕ) (source : Source) → SourceFits plan feeds source → HasCount (opening feeds (length plan.actors)).late source
+source_counted plan feeds (Feed k) h = (h.0, omega (arith, h.1, length-replicate feeds))
+source_counted plan feeds (Actor a) h = omega (arith, h, length-replicate (length plan.actors))
+
+pub goes_first : (plan : Plan) (run : Run) (index : ℕ) (actor : Held) (read : List ActorRun) (all : List Entry) → IsTyped plan → RunFits plan run → actor ≡ new_actor plan index run.limits run.feeds → read ≡ run.actors → all ≡ entries_in (slice_get read index)
+    → Goes plan run index actor all 0
+goes_first plan run index actor read all typed fit is by_read by_all =
+    let all_is : all ≡ read_entries run index = by_all ∙ ap (λ (rs : List ActorRun). entries_in (slice_get rs index)) by_read in
+    let fits = (read_fit plan run fit typed index).0 in
+    let counted = each_from (EntryFits plan run.version run.feeds) (λ (e : Entry). HasCount (opening run.feeds (length plan.actors)).late e.source) (λ e h. source_counted plan run.feeds e.source h.source) (read_entries run index) fits in
+    subst (λ (a : Held). Goes plan run index a all 0) (sym is) (subst (λ (es : List Entry). Goes plan run index (new_actor plan index run.limits run.feeds) es 0) (sym all_is) (record { left = refl; setting = refl; counted = counted }))
+
+pub goes_on : (plan : Plan) (run : Run) (index : ℕ) (actor next : Held) (all : List Entry) (place : ℕ) (e : Entry) (o : Outcome) → Goes plan run index actor all place → place < length all → e ≡ get_or all place e
+    → fair_step actor.setting actor.state e.source e.message 0 ≡ (next.state, o) → next.setting ≡ actor.setting → ((other : Source) → HasCount actor.state.late other → HasCount next.state.late other) → Goes plan run index next all (place + 1)
+goes_on plan run index actor next all place e o h within is step same keeps =
+    let rest : List Entry = drop (place + 1) all in
+    let here : drop place all ≡ e ∷ rest = drop_more all place e within ∙ ap (λ (x : Entry). x ∷ rest) (sym is) in
+    let state : next.state ≡ (fair_step actor.setting actor.state e.source e.message 0).0 = sym (ap (λ (s : Stepped). s.0) step) in record {
+      left = (λ i. after_all (same i) (state i) (map bare rest)) ∙ ap (λ (es : List Entry). after_all actor.setting actor.state (map bare es)) (sym here) ∙ h.left;
+      setting = same ∙ h.setting;
+      counted = each_from (λ (x : Entry). HasCount actor.state.late x.source) (λ (x : Entry). HasCount next.state.late x.source) (λ x. keeps x.source) all h.counted;
+    }
+
+pub goes_shown : (plan : Plan) (run : Run) (index : ℕ) (actor : Held) (all : List Entry) (place : ℕ) → Goes plan run index actor all place → length all ≤ place → run_of actor.setting.rules actor.state ≡ made_run plan run index
+goes_shown plan run index actor all place h past =
+    let none : drop place all ≡ [] = drop_of_length-le all past in
+    let state : actor.state ≡ stepped plan run index = sym (ap (λ (es : List Entry). after_all actor.setting actor.state (map bare es)) none) ∙ h.left in
+    λ i. run_of (h.setting i).rules (state i)
+
+-- ---- one actor more
+
+pub runs_next : (plan : Plan) (run : Run) (from n : ℕ) (own : ActorRun) (done next whole : List ActorRun) → from < n → own ≡ made_run plan run from → next ≡ done ++ own ∷ [] → done ++ made_runs plan run from (n - from) ≡ whole
+    → next ++ made_runs plan run (from + 1) (n - (from + 1)) ≡ whole
+runs_next plan run from n own done next whole below is more left =
+    let rest : List ActorRun = made_runs plan run (from + 1) (n - (from + 1)) in
+    let count : suc (n - (from + 1)) ≡ n - from = omega arith in
+    ap (λ (rs : List ActorRun). rs ++ rest) more
+    ∙ append_assoc done (own ∷ []) rest
+    ∙ ap (λ (r : ActorRun). done ++ r ∷ rest) is
+    ∙ ap (λ (k : ℕ). done ++ made_runs plan run from k) count
+    ∙ left
+
+pub texts_next : (plan : Plan) (limits : Limits) (index : ℕ) → ((actor : ℕ) → actor < index → RulesFit plan limits actor) → RulesFit plan limits index → (actor : ℕ) → actor < index + 1 → RulesFit plan limits actor
+texts_next plan limits index before here actor l =
+    elim (cases_lt actor index) [ inl b ↦ before actor b | inr g ↦ let e : index ≡ actor = omega arith in subst (RulesFit plan limits) e here ]
+
+pub texts_all : (plan : Plan) (limits : Limits) (index : ℕ) → length plan.actors ≤ index → ((actor : ℕ) → actor < index → RulesFit plan limits actor) → AllRulesFit plan limits
+texts_all plan limits index all each actor =
+    elim (cases_lt actor index) [ inl b ↦ each actor b | inr g ↦ subst (λ (o : Option ActorPlan). AllByRecursion RuleFits (rules_of o)) (sym (slice_get_past plan.actors actor (omega arith))) tt ]
+
+-- ---- all actors
+
+pub runs_count : (plan : Plan) (run : Run) (n : ℕ) → length (made_runs plan run 0 n) ≡ n
+runs_count plan run n = length-map (numbers_from 0 n) (made_run plan run) ∙ count_numbers 0 n
+
+pub settlements_count : (made : List ActorRun) (run : Run) (to : ℕ) (owns reads : List ActorRun) → length owns ≡ length reads → length (settlements_of made run to owns reads) ≡ length owns
+settlements_count made run to [] reads same = refl
+settlements_count made run to (own ∷ owns) [] same = absurd (omega arith)
+settlements_count made run to (own ∷ owns) (read ∷ reads) same = ap suc (settlements_count made run (to + 1) owns reads (omega (arith, same)))
+
+-- put together, it is the expected run
+pub replayed : (plan : Plan) (run : Run) (made slice : List ActorRun) (settlements : List Settlement) (actors : List ActorRun) → IsTyped plan → RunFits plan run → AllRulesFit plan run.limits → made ≡ made_runs plan run 0 (length plan.actors) → slice ≡ made
+    → settlements ≡ settlements_of slice run 0 slice run.actors → actors ≡ finished_runs plan 0 made settlements → (record { version = run.version; limits = run.limits; feeds = run.feeds; actors = actors }) ≡ expected_run plan run
+replayed plan run made slice settlements actors typed fit texts are same by_settlements by_actors =
+    let all = by_actors ∙ ap (finished_runs plan 0 made) (by_settlements ∙ ap (λ (rs : List ActorRun). settlements_of rs run 0 rs run.actors) same) ∙ replay_is plan run made typed fit texts are (sources_counted plan run fit) in
+    λ i. record { version = run.version; limits = run.limits; feeds = run.feeds; actors = all i }
+
+-- ---- arrivals
+
+entries_few : (entries : List Entry) → length entries ≤ entries_size entries
+entries_few [] = omega arith
+entries_few (e ∷ entries) = let later = entries_few entries in omega (arith, later)
+
+pub arrivals_few : (runs : List ActorRun) → length (arrivals_of runs) ≤ sections_size runs
+arrivals_few [] = omega arith
+arrivals_few (own ∷ runs) = let later = arrivals_few runs in omega (arith, later, entries_few own.entries, length-append own.entries (arrivals_of runs))

@@ -1,0 +1,57 @@
+//! A log against its plan.
+ghost use Rattle.std.specs.Prelude.{◌≡◌, ◌<◌, ◌^◌};
+ghost use Rattle.script_types.specs.Typed.{IsTyped};
+ghost use Rattle.log_replay.specs.Check.{Checks, arrival_count};
+
+use crate::fault::first_fault;
+use crate::refusal::LogRefusal;
+use crate::replaying::replay;
+use fair_semantics::Run;
+use join_base::{NoMemory, Steps};
+use log_reader::{LogFault, read_log};
+use script_types::Plan;
+use std::alloc::Global;
+use std::sync::ledger::Ledger;
+
+// How many arrivals all actors have.
+fn arrival_count(run: &Run) -> u64
+    requires { arrival_count run.now < 2 ^ 64 }
+    ensures { result ≡ arrival_count run.now }
+{
+    let mut count: u64 = 0;
+    for own in run.actors.as_slice() {
+        count += own.entries.len() as u64;
+    }
+    count
+}
+
+/// Checks the bytes as the log of a run of the plan. The answer is the number of arrivals over all actors. `Bad` comes exactly where
+/// the bytes are the log of no run of the plan, and has the line at fault. `Differs` comes exactly where they are the log of a run and
+/// some line of it is in fault, and has the first one.
+///
+/// An accepted log is that of a run which is linked to feeds: each actor did the fair steps with its arrivals, and each post arrived or
+/// was late. The bytes are read in one pass, and the run is replayed once.
+pub fn check_log<L: Ledger>(
+    alloc: Global,
+    plan: &Plan,
+    bytes: &[u8],
+    steps: &mut Steps<L>,
+) -> Result<u64, LogRefusal>
+    requires typed { IsTyped plan.now }
+    ensures answer { Checks plan.now bytes.now result }
+{
+    let run = match read_log(alloc, plan, bytes) {
+        Ok(run) => run,
+        Err(LogFault::Bad { line }) => return Err(LogRefusal::Bad { line }),
+        Err(LogFault::NoMemory) => return Err(LogRefusal::NoMemory),
+    };
+    let expected = match replay(alloc, plan, &run, steps) {
+        Ok(expected) => expected,
+        Err(NoMemory) => return Err(LogRefusal::NoMemory),
+    };
+    match first_fault(alloc, plan, bytes, &run, &expected) {
+        Ok(None) => Ok(arrival_count(&run)),
+        Ok(Some(line)) => Err(LogRefusal::Differs { line }),
+        Err(NoMemory) => Err(LogRefusal::NoMemory),
+    }
+}

@@ -1,0 +1,170 @@
+//! What the lines of a run say of posts, beside its expected run. Lines are counted from 0.
+ghost use Rattle.std.specs.Prelude.{◌≡◌, ℕ, ◌+◌, ◌^◌, ◌<◌, ◌≤◌, length, slice_get, IfOk};
+ghost use Rattle.fair_semantics.specs.Linked.{same_source};
+ghost use Rattle.fair_semantics.specs.Step.{is_running};
+ghost use Rattle.join_base.specs.declared.message.Source.TheVariants.{Actor};
+ghost use Rattle.log_replay.specs.Expected.{entries_in};
+ghost use Rattle.log_replay.specs.Kept.{earlier, ends_running, entries_size, entry_size, link_fault, posts_fault, section_fault, section_size, sections_size};
+
+use crate::posts::{has_message, posts_made};
+use fair_semantics::{ActorRun, Ending, Entry, Run};
+use join_base::{NoMemory, Source, Stamped};
+use std::alloc::Global;
+
+// Whether the source is this actor.
+pub(crate) fn is_from(source: Source, from: u32) -> bool
+    ensures { result ≡ same_source source (Actor from) }
+{
+    match source {
+        Source::Feed(_) => false,
+        Source::Actor(actor) => actor == from,
+    }
+}
+
+// How many lines an entry takes.
+fn entry_size(entry: &Entry) -> u64
+    requires { entry_size entry.now < 2 ^ 64 }
+    ensures { result ≡ entry_size entry.now }
+{
+    match &entry.firing {
+        Some(firing) => 2 + firing.effects.len() as u64,
+        None => 1,
+    }
+}
+
+// How many lines a section takes.
+fn section_size(own: &ActorRun) -> u64
+    requires { section_size own.now < 2 ^ 64 }
+    ensures { result ≡ section_size own.now }
+{
+    let mut size: u64 = 2;
+    for entry in own.entries.as_slice() {
+        size += entry_size(entry);
+    }
+    size + own.late.len() as u64
+}
+
+// The first line that does not hold of the posts from an actor: of the entries, the first at this line, or the end line behind them
+// and the late ones, where the section is to run on.
+fn link_fault(
+    posts: &[Stamped],
+    from: u32,
+    runs_on: bool,
+    late: u64,
+    first: u64,
+    entries: &[Entry],
+) -> Option<u64>
+    requires { first + entries_size entries.now + late < 2 ^ 64 }
+    ensures { result ≡ link_fault posts.now from runs_on late first 0 entries.now }
+{
+    let mut line = first;
+    let mut taken: usize = 0;
+    for entry in entries {
+        if is_from(entry.source, from) {
+            if !has_message(posts, taken, &entry.message) {
+                return Some(line);
+            }
+            taken += 1;
+        }
+        line += entry_size(entry);
+    }
+    if runs_on && taken < posts.len() {
+        return Some(line + late);
+    }
+    None
+}
+
+// The entries of the actor at this place, or none.
+pub(crate) fn entries_at(runs: &[ActorRun], place: usize) -> &[Entry]
+    ensures { result.now ≡ entries_in (slice_get runs.now place) }
+{
+    match runs.get(place) {
+        Some(own) => own.entries.as_slice(),
+        None => &[],
+    }
+}
+
+pub(crate) fn is_running(ending: Ending) -> bool
+    ensures { result ≡ is_running ending }
+{
+    match ending {
+        Ending::Running => true,
+        Ending::Stopped => false,
+        Ending::Jammed => false,
+        Ending::Spent => false,
+    }
+}
+
+// Whether the actor at this place runs on.
+fn runs_on(runs: &[ActorRun], place: usize) -> bool
+    ensures { result ≡ ends_running (slice_get runs.now place) }
+{
+    match runs.get(place) {
+        Some(own) => is_running(own.ending),
+        None => false,
+    }
+}
+
+// The lesser of two of which each may be missing.
+pub(crate) fn earlier(first: Option<u64>, second: Option<u64>) -> Option<u64>
+    ensures { result ≡ earlier first second }
+{
+    match first {
+        None => second,
+        Some(one) => match second {
+            None => Some(one),
+            Some(other) => Some(one.min(other)),
+        },
+    }
+}
+
+// The first line of the section of an actor that does not hold of the posts of some actor. The section begins at this line.
+fn section_fault(
+    alloc: Global,
+    run: &Run,
+    expected: &Run,
+    to: u32,
+    line: u64,
+    own: &ActorRun,
+) -> Result<Option<u64>, NoMemory>
+    requires few { length run.now.actors ≤ 32 }
+    requires small { line + section_size own.now < 2 ^ 64 }
+    ensures { IfOk result (λ fault. fault ≡ section_fault run.now expected.now to line own.now) }
+{
+    let runs_on = runs_on(expected.actors.as_slice(), to as usize);
+    let late = own.late.len() as u64;
+    let mut first = None;
+    let mut from: u32 = 0;
+    while (from as usize) < run.actors.len() {
+        let made = entries_at(expected.actors.as_slice(), from as usize);
+        let lines = entries_at(run.actors.as_slice(), from as usize);
+        let posts = posts_made(alloc, to, made, lines)?;
+        let fault = link_fault(
+            posts.as_slice(),
+            from,
+            runs_on,
+            late,
+            line + 1,
+            own.entries.as_slice(),
+        );
+        first = earlier(first, fault);
+        from += 1;
+    }
+    Ok(first)
+}
+
+// The first line of the run that does not hold of the posts of its expected run.
+pub(crate) fn posts_fault(alloc: Global, run: &Run, expected: &Run) -> Result<Option<u64>, NoMemory>
+    requires few { length run.now.actors ≤ 32 }
+    requires small { 1 + sections_size run.now.actors < 2 ^ 64 }
+    ensures { IfOk result (λ fault. fault ≡ posts_fault run.now expected.now) }
+{
+    let mut line: u64 = 1;
+    for (to, own) in run.actors.as_slice().iter().enumerate() {
+        if let Some(fault) = section_fault(alloc, run, expected, to as u32, line, own)? {
+            return Ok(Some(fault));
+        }
+        line += section_size(own);
+    }
+    Ok(None)
+}
