@@ -1,0 +1,10 @@
+pub mod Examples
+pub mod AtomLemmas
+pub mod ListLemmas
+pub mod FiredLemmas
+pub mod BoundLemmas
+pub mod DeadLemmas
+pub mod NarrowLemmas
+pub mod SameLemmas
+pub mod ShadowLemmas
+pub mod LawLemmas

@@ -1,0 +1,7 @@
+-- what the findings of a plan are, and that a definition with one never fires
+pub mod Bounds
+pub mod Same
+pub mod Findings
+pub mod Law
+-- what private functions ask for
+pub mod Few
