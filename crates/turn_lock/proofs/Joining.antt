@@ -12,10 +12,11 @@ use Rattle.turn_lock.specs.declared.view.Role.{Role}
 use Rattle.turn_lock.specs.declared.view.Role.TheVariants.{First, Other, Spent}
 use Rattle.turn_lock.specs.View.{out_count, is_live, one_more, one_less, seats_out, seen_of, met_of, IsShaped, zeros, new_view, with_one_more, joined, joining, tags_kept, spent_view, longer, shorter, HasSeenAll, IsFirst}
 use Rattle.turn_lock.specs.Rule.{IsWithin, SlotState}
-use Rattle.turn_lock.specs.Steps.{SeatState, SettleTells}
+use Rattle.turn_lock.specs.Kinds.{SeatState, SettleTells}
 use Rattle.turn_lock.proofs.Lane.{Home, Away, Lane, Laned}
 use Rattle.turn_lock.proofs.Lanes.{in_range, seats_out-set, lane_alike}
 use Rattle.turn_lock.proofs.Keeps.{has_at, same_step, no_turn}
+use Rattle.turn_lock.proofs.Accounts.{length-unchanged, unchanged_at, length-each_together, accounts_even, accounts_more, accounts_joined}
 use Rattle.turn_lock.proofs.Prefixes.{nothing_begins, begins_longer, longer_begins, shorter_begins, longer_at, shorter_at, length-each_longer, length-each_shorter, blank_at, length-blank, get_or_past, shorter_short, both_begin}
 
 abbrev pub out_of : Role → ℕ
@@ -160,14 +161,14 @@ module _ {C G E : Type 0} (L : Type 0) (tag : C → G) (lawful : C → Type 0) (
             (λ (same : (k ≡ id) × (left ≡ u)). subst (λ (y : View G E L). IsShaped tags y) same.1 shape)
             (λ (other : (k ≢ id) × (get_elem? s.views k ≡ some u)). rule.shapes k u other.1 lives)
             (at_set s.views id k left u was))
-            (λ (same : right ≡ u). subst (λ (y : View G E L). IsShaped tags y) same (shape.0, shape.1, length-blank E v.tags ∙ ap length shape.0, length-zeros v.tags ∙ ap length shape.0, length-zeros v.tags ∙ ap length shape.0))
+            (λ (same : right ≡ u). subst (λ (y : View G E L). IsShaped tags y) same (shape.0, shape.1, length-blank E v.tags ∙ ap length shape.0, length-zeros v.tags ∙ ap length shape.0, length-zeros v.tags ∙ ap length shape.0, length-zeros v.tags ∙ ap length shape.0, length-unchanged v.tags ∙ ap length shape.0, shape.7))
             (at_snoc views right u k e);
         spent = λ k u e dead. ⊎_elim
             (λ (was : get_elem? views k ≡ some u). ⊎_elim
             (λ (same : (k ≡ id) × (left ≡ u)). absurd (true≢false (sym (ap is_live left_is) ∙ (ap (λ (y : View G E L). is_live y.role) same.1 ∙ dead))))
             (λ (other : (k ≢ id) × (get_elem? s.views k ≡ some u)). rule.spent k u other.1 dead)
             (at_set s.views id k left u was))
-            (λ (same : right ≡ u). ap (λ (y : View G E L). y.turn) (sym same))
+            (λ (same : right ≡ u). absurd (true≢false (ap (λ (y : View G E L). is_live y.role) same ∙ dead)))
             (at_snoc views right u k e);
         one_first = record {
           seat = id;
@@ -184,6 +185,9 @@ module _ {C G E : Type 0} (L : Type 0) (tag : C → G) (lawful : C → Type 0) (
               (λ (same : right ≡ u). absurd (not_first m (ap (λ (y : View G E L). y.role) same ∙ theirs)))
               (at_snoc views right u k e);
         };
+        accounts = λ j lt.
+            let kept = accounts_even s.views id j (get_or s.words j 0) (get_or s.words j 0) v left at (record { changes = refl; requests = refl; back = λ log e. e }) refl refl (rule.accounts j lt) in
+            accounts_more views right j (get_or s.words j 0) (unchanged_at v.tags j) (kept.known id left here) (λ log. no_turn Free j log refl) kept;
       }
 
   joins_plainly : (id : ℕ) (v : View G E L) (other : ℕ) (w : View G E L) (n : ℕ) → v.role ≡ First n → v.turn ≡ Free → w.role ≡ Other → w.turn ≡ Free → Joins Rule id v other w (joined v w) spent_view
@@ -215,14 +219,14 @@ module _ {C G E : Type 0} (L : Type 0) (tag : C → G) (lawful : C → Type 0) (
         shapes = λ k u e lives. ⊎_elim
             (λ (same : (k ≡ other) × (spent_view ≡ u)). absurd (true≢false (sym lives ∙ ap (λ (y : View G E L). is_live y.role) (sym same.1))))
             (λ (kept : (k ≢ other) × (get_elem? views k ≡ some u)). ⊎_elim
-            (λ (same : (k ≡ id) × (both ≡ u)). subst (λ (y : View G E L). IsShaped tags y) same.1 (shape.0, length-each_longer v.seen w.seen wide ∙ shape.1, length-each_shorter v.seen w.seen ∙ shape.1, shape.3, shape.4))
+            (λ (same : (k ≡ id) × (both ≡ u)). subst (λ (y : View G E L). IsShaped tags y) same.1 (shape.0, length-each_longer v.seen w.seen wide ∙ shape.1, length-each_shorter v.seen w.seen ∙ shape.1, shape.3, shape.4, shape.5, length-each_together v.changes w.changes (shape.6 ∙ sym shape'.6) ∙ shape.6, shape.7))
             (λ (old : (k ≢ id) × (get_elem? s.views k ≡ some u)). rule.shapes k u old.1 lives)
             (at_set s.views id k both u kept.1))
             (at_set views other k spent_view u e);
         spent = λ k u e dead. ⊎_elim
-            (λ (same : (k ≡ other) × (spent_view ≡ u)). ap (λ (y : View G E L). y.turn) (sym same.1))
+            (λ (same : (k ≡ other) × (spent_view ≡ u)). (ap (λ (y : View G E L). y.turn) (sym same.1), ap (λ (y : View G E L). y.changes) (sym same.1)))
             (λ (kept : (k ≢ other) × (get_elem? views k ≡ some u)). ⊎_elim
-            (λ (same : (k ≡ id) × (both ≡ u)). ap (λ (y : View G E L). y.turn) (sym same.1) ∙ free)
+            (λ (same : (k ≡ id) × (both ≡ u)). absurd (true≢false (sym (ap is_live both_is) ∙ (ap (λ (y : View G E L). is_live y.role) same.1 ∙ dead))))
             (λ (old : (k ≢ id) × (get_elem? s.views k ≡ some u)). rule.spent k u old.1 dead)
             (at_set s.views id k both u kept.1))
             (at_set views other k spent_view u e);
@@ -241,6 +245,7 @@ module _ {C G E : Type 0} (L : Type 0) (tag : C → G) (lawful : C → Type 0) (
               (at_set s.views id k both u kept.1))
               (at_set views other k spent_view u e);
         };
+        accounts = λ j lt. accounts_joined s.views id other j (get_or s.words j 0) v w both spent_view at there refl refl (λ log. no_turn v.turn j log free) refl refl (λ log. no_turn Free j log refl) (rule.accounts j lt);
       }
 
   -- while another seat is there the first one knows of a seat out

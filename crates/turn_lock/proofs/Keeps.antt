@@ -1,5 +1,5 @@
 -- Each step on a word keeps the turn rule.
-use Rattle.std.proofs.Common.{true≢false, ◌≡◌, ◌≢◌, ℕ, zero, suc, ◌+◌, ◌<◌, true, false, List, [], ◌∷◌, length, set, get_or, sym, refl, ap, ◌∙◌, subst, inl, inr, ⊎_elim, arith, Option, Some, None}
+use Rattle.std.proofs.Common.{true≢false, ◌≡◌, ◌≢◌, ℕ, zero, suc, ◌⊎◌, ◌+◌, ◌-◌, ◌/◌, ◌<◌, true, false, List, [], ◌∷◌, length, set, get_or, sym, refl, ap, ◌∙◌, subst, inl, inr, ⊎_elim, arith, Option, Some, None}
 use Rattle.std.specs.Prelude.{bit_and, bit_or, slice_index}
 use Rattle.std.proofs.lemmas.List.{length-set, set-get_or, get_or-set_same, get_or-set_other}
 use mathlib.Core.Logic.{dite}
@@ -12,14 +12,17 @@ use lib.ListN.{get_elem?}
 use Rattle.atomic_table.specs.Table.{State, step, Act, keeps, takes, gives, Allows, Valid, stepped, carried_after}
 use Rattle.atomic_table.proofs.Lists.{at_set, set_here, set_else, set_again}
 use Rattle.turn_lock.specs.declared.view.View.{View}
+use Rattle.turn_lock.specs.declared.view.Changes.{Changes}
 use Rattle.turn_lock.specs.declared.view.Turn.{Turn}
 use Rattle.turn_lock.specs.declared.view.Turn.TheVariants.{Free, Has}
 use Rattle.turn_lock.specs.declared.view.Role.TheVariants.{First}
-use Rattle.turn_lock.specs.View.{out_count, is_live, seen_of, met_of, IsShaped, flagged, refused, claimed, released, marked, unmarked}
-use Rattle.turn_lock.specs.Rule.{IsWithin, SlotState, OneFirst, HasBit, LacksBit}
-use Rattle.turn_lock.specs.Steps.{SeatState, FlagTells, MarkTells, UnmarkTells, ClearTells, ClaimTells, ReleaseTells}
+use Rattle.turn_lock.specs.View.{out_count, is_live, seen_of, met_of, changes_of, requests_of, flag_of, mark_of, no_changes, with_flag, with_clear, with_mark, with_unmark, IsShaped, flagged, refused, claimed, cleared, released, marked, unmarked}
+use Rattle.turn_lock.specs.Rule.{IsWithin, SlotState, OneFirst, HasBit, LacksBit, IsAccounted, flags_cleared}
+use Rattle.turn_lock.specs.Steps.{SetsMark, FindsMark}
+use Rattle.turn_lock.specs.Kinds.{SeatState, FlagTells, MarkTells, UnmarkTells, ClearTells, ClaimTells, ReleaseTells}
 use Rattle.turn_lock.proofs.Lane.{Home, Away, Lane, Laned}
-use Rattle.turn_lock.proofs.Lanes.{Alike, in_range, seats_out-set, lane_alike, lane_flag, lane_clear, lane_mark, lane_unmark, lane_queued, lane_flagged, or_running, and_running, runs, idles}
+use Rattle.turn_lock.proofs.Lanes.{Alike, in_range, seats_out-set, lane_alike, lane_flag, lane_clear, lane_mark, lane_unmark, lane_queued, lane_flagged, lane_bits, or_running, and_running, runs, idles}
+use Rattle.turn_lock.proofs.Accounts.{BitsAfter, Even, accounts_even, accounts_flag, accounts_mark, accounts_unmark, accounts_clear, accounts_claim, accounts_release}
 
 pub has_at : {A : Type 0} → (l : List A) (i : ℕ) → i < length l → (a : A) × (get_elem? l i ≡ some a)
 has_at [] i h = absurd (omega arith)
@@ -49,6 +52,10 @@ cell_or d [] = d
 cell_or d (x ∷ xs) = some_or d x.1
 
 module _ {G E L : Type 0} where
+  mark_told : (i n : ℕ) (v w : View G E L) → (changes_of w i).mark_set ≡ (changes_of v i).mark_set + (1 - mark_of n) → HasBit 4 n ⊎ LacksBit 4 n → (HasBit 4 n × FindsMark i v w) ⊎ (LacksBit 4 n × SetsMark i v w)
+  mark_told i n v w now (inl has) = let one : mark_of n ≡ 1 = ap (λ (k : ℕ). k / 4) has in inl (has, omega arith)
+  mark_told i n v w now (inr lacks) = let none : mark_of n ≡ 0 = ap (λ (k : ℕ). k / 4) lacks in inr (lacks, omega arith)
+
   one_first_set : (views : List (View G E L)) (id : ℕ) (v w : View G E L) → get_elem? views id ≡ some v → w.role ≡ v.role → OneFirst views → OneFirst (set views id w)
   one_first_set views id v w at same one = let is = found (ℕ_discrete one.seat id) in record {
     seat = one.seat;
@@ -74,10 +81,11 @@ module _ {C G E L : Type 0} (tag : C → G) (lawful : C → Type 0) (history : C
   -- a step of one seat on the word i, which says the same of all other cells
   turn_step : (s : State (Option C) (View G E L)) (id : ℕ) (v w : View G E L) (i n : ℕ) (homes : List (maybe.Option (Option C)))
       → Rule s → get_elem? s.views id ≡ some v → is_live v.role ≡ true → i < length tags → w.role ≡ v.role → (IsShaped tags v → IsShaped tags w)
-      → length homes ≡ length s.homes → ((j : ℕ) → j ≢ i → get_elem? homes j ≡ get_elem? s.homes j) → ((j : ℕ) → j ≢ i → Alike j v w)
+      → length homes ≡ length s.homes → ((j : ℕ) → j ≢ i → get_elem? homes j ≡ get_elem? s.homes j) → ((j : ℕ) → j ≢ i → Alike j v w) → ((j : ℕ) → j ≢ i → Even j v w)
+      → (IsAccounted i (get_or s.words i 0) s.views → IsAccounted i n (set s.views id w))
       → ((t : G) → get_elem? tags i ≡ some t → Lane tag lawful history (set s.views id w) i n (get_elem? homes i) t)
       → Rule (record { words = set s.words i n; homes = homes; views = set s.views id w })
-  turn_step s id v w i n homes rule at live in_it role shape size other_homes alike here = record {
+  turn_step s id v w i n homes rule at live in_it role shape size other_homes alike even counts here = record {
     long = length-set s.words i n ∙ rule.long;
     deep = size ∙ rule.deep;
     lanes = λ j t e. dite (ℕ_discrete j i)
@@ -95,6 +103,10 @@ module _ {C G E L : Type 0} (tag : C → G) (lawful : C → Type 0) (history : C
         (λ (t : (k ≢ id) × (get_elem? s.views k ≡ some u)). rule.spent k u t.1 dead)
         (at_set s.views id k w u e);
     one_first = one_first_set s.views id v w at role rule.one_first;
+    accounts = λ j lt. dite (ℕ_discrete j i)
+        (λ (same : j ≡ i). subst (λ (k : ℕ). IsAccounted k (get_or (set s.words i n) k 0) (set s.views id w)) (sym same)
+        (subst (λ (k : ℕ). IsAccounted i k (set s.views id w)) (sym (get_or-set_same s.words i n 0 (let l = rule.long in omega arith))) (counts (rule.accounts i in_it))))
+        (λ (other : j ≢ i). let word = get_or-set_other s.words i j n 0 other in accounts_even s.views id j (get_or s.words j 0) (get_or (set s.words i n) j 0) v w at (even j other) (ap flag_of word) (ap mark_of word) (rule.accounts j lt));
   }
 
   same_alike : (j : ℕ) (v w : View G E L) → w.seen ≡ v.seen → w.met ≡ v.met → w.turn ≡ v.turn → Alike j v w
@@ -103,19 +115,35 @@ module _ {C G E L : Type 0} (tag : C → G) (lawful : C → Type 0) (history : C
   in_tags : (s : State (Option C) (View G E L)) (slots i : ℕ) → Rule s → length s.homes ≡ slots → i < slots → i < length tags
   in_tags s slots i rule len lt = let d = rule.deep in omega arith
 
+  -- a step that changes at most what the seat did at the cell i
+  same_even : (i j : ℕ) (v w : View G E L) (c : Changes) → j ≢ i → w.changes ≡ set v.changes i c → w.requests ≡ v.requests → w.turn ≡ v.turn → Even j v w
+  same_even i j v w c other changes requests turn = record {
+    changes = ap (λ (l : List Changes). get_or l j no_changes) changes ∙ get_or-set_other v.changes i j c no_changes other;
+    requests = ap (λ (l : List ℕ). get_or l j 0) requests;
+    back = λ log e. sym turn ∙ e;
+  }
+
+  bits_here : (s : State (Option C) (View G E L)) (i : ℕ) → Rule s → i < length tags → BitsAfter (get_or s.words i 0)
+  bits_here s i rule in_it = let t = has_at tags i in_it in lane_bits tag lawful history s.views i (get_or s.words i 0) (get_elem? s.homes i) t.0 (rule.lanes i t.0 t.1)
+
   pub flags : (slots id : ℕ) (me : SeatState C G E L) (i : ℕ) → i < slots → is_live me.0.role ≡ true → Allows Rule slots id me i (λ n. bit_or n 1) (FlagTells (step slots i 1 0 none) me)
   flags slots id me i lt live s rule len at small =
       let v = me.0 in
-      let w = flagged i v in
       let n = get_or s.words i 0 in
+      let w = flagged i n v in
+      let now = with_flag n (changes_of v i) in
       let in_it = in_tags s slots i rule len lt in
-      let shape = (rule.shapes id v at live).3 in (
+      let shape = rule.shapes id v at live in
+      let flags_wide : i < length v.flags = (let k = shape.3 in omega arith) in
+      let changes_wide : i < length v.changes = (let k = shape.6 in omega arith) in (
         w,
         keeps,
         tt,
-        turn_step s id v w i (bit_or n 1) s.homes rule at live in_it refl (λ sh. (sh.0, sh.1, sh.2, length-set v.flags i (slice_index v.flags i + 1) ∙ sh.3, sh.4)) refl (λ j other. refl) (λ j other. same_alike j v w refl refl refl)
+        turn_step s id v w i (bit_or n 1) s.homes rule at live in_it refl (λ sh. (sh.0, sh.1, sh.2, length-set v.flags i (slice_index v.flags i + 1) ∙ sh.3, sh.4, sh.5, length-set v.changes i now ∙ sh.6, sh.7)) refl (λ j other. refl) (λ j other. same_alike j v w refl refl refl)
+            (λ j other. same_even i j v w now other refl refl refl)
+            (accounts_flag s.views id i n v w at (bits_here s i rule in_it) (get_or-set_same v.changes i now no_changes changes_wide) refl (λ log e. e))
             (λ t e. lane_alike tag lawful history s.views id v w i (bit_or n 1) (get_elem? s.homes i) t at (same_alike i v w refl refl refl) (lane_flag tag lawful history s.views i n (get_elem? s.homes i) t (rule.lanes i t e))),
-        (refl, get_or-set_same v.flags i (slice_index v.flags i + 1) 0 (omega arith)),
+        (refl, refl, get_or-set_same v.flags i (slice_index v.flags i + 1) 0 flags_wide),
       )
 
   pub marks : (slots id : ℕ) (me : SeatState C G E L) (i : ℕ) → i < slots → is_live me.0.role ≡ true → Allows Rule slots id me i (λ n. bit_or n 4) (MarkTells (step slots i 4 0 none) me)
@@ -123,40 +151,71 @@ module _ {C G E L : Type 0} (tag : C → G) (lawful : C → Type 0) (history : C
       let v = me.0 in
       let n = get_or s.words i 0 in
       let w = marked i n v in
+      let now = with_mark n (changes_of v i) in
       let in_it = in_tags s slots i rule len lt in
+      let shape = rule.shapes id v at live in
+      let changes_wide : i < length v.changes = (let k = shape.6 in omega arith) in
       let t = has_at tags i in_it in (
         w,
         keeps,
         tt,
-        turn_step s id v w i (bit_or n 4) s.homes rule at live in_it refl (λ sh. sh) refl (λ j other. refl) (λ j other. same_alike j v w refl refl refl)
+        turn_step s id v w i (bit_or n 4) s.homes rule at live in_it refl (λ sh. (sh.0, sh.1, sh.2, sh.3, sh.4, sh.5, length-set v.changes i now ∙ sh.6, sh.7)) refl (λ j other. refl) (λ j other. same_alike j v w refl refl refl)
+            (λ j other. same_even i j v w now other refl refl refl)
+            (accounts_mark s.views id i n v w at (bits_here s i rule in_it) (get_or-set_same v.changes i now no_changes changes_wide) refl (λ log e. e))
             (λ t e. lane_alike tag lawful history s.views id v w i (bit_or n 4) (get_elem? s.homes i) t at (same_alike i v w refl refl refl) (lane_mark tag lawful history s.views i n (get_elem? s.homes i) t (rule.lanes i t e))),
-        (refl, lane_queued tag lawful history s.views i n (get_elem? s.homes i) t.0 (rule.lanes i t.0 t.1)),
+        (refl, refl, mark_told i n v w (ap (λ (c : Changes). c.mark_set) (get_or-set_same v.changes i now no_changes changes_wide)) (lane_queued tag lawful history s.views i n (get_elem? s.homes i) t.0 (rule.lanes i t.0 t.1))),
       )
 
   pub unmarks : (slots id : ℕ) (me : SeatState C G E L) (i : ℕ) → i < slots → is_live me.0.role ≡ true → Allows Rule slots id me i (λ n. bit_and n 18446744073709551611) (UnmarkTells (step slots i 18446744073709551611 0 none) me)
   unmarks slots id me i lt live s rule len at small =
       let v = me.0 in
-      let w = unmarked i v in
       let n = get_or s.words i 0 in
+      let w = unmarked i n v in
+      let now = with_unmark n (changes_of v i) in
       let in_it = in_tags s slots i rule len lt in
-      let shape = (rule.shapes id v at live).4 in (
+      let shape = rule.shapes id v at live in
+      let unmarks_wide : i < length v.unmarks = (let k = shape.4 in omega arith) in
+      let changes_wide : i < length v.changes = (let k = shape.6 in omega arith) in (
         w,
         keeps,
         tt,
-        turn_step s id v w i (bit_and n 18446744073709551611) s.homes rule at live in_it refl (λ sh. (sh.0, sh.1, sh.2, sh.3, length-set v.unmarks i (slice_index v.unmarks i + 1) ∙ sh.4)) refl (λ j other. refl) (λ j other. same_alike j v w refl refl refl)
+        turn_step s id v w i (bit_and n 18446744073709551611) s.homes rule at live in_it refl (λ sh. (sh.0, sh.1, sh.2, sh.3, length-set v.unmarks i (slice_index v.unmarks i + 1) ∙ sh.4, sh.5, length-set v.changes i now ∙ sh.6, sh.7)) refl (λ j other. refl) (λ j other. same_alike j v w refl refl refl)
+            (λ j other. same_even i j v w now other refl refl refl)
+            (accounts_unmark s.views id i n v w at (bits_here s i rule in_it) (get_or-set_same v.changes i now no_changes changes_wide) refl (λ log e. e))
             (λ t e. lane_alike tag lawful history s.views id v w i (bit_and n 18446744073709551611) (get_elem? s.homes i) t at (same_alike i v w refl refl refl) (lane_unmark tag lawful history s.views i n (get_elem? s.homes i) t (rule.lanes i t e))),
-        (refl, get_or-set_same v.unmarks i (slice_index v.unmarks i + 1) 0 (omega arith)),
+        (refl, refl, get_or-set_same v.unmarks i (slice_index v.unmarks i + 1) 0 unmarks_wide),
       )
 
-  pub clears : (slots id : ℕ) (me : SeatState C G E L) (i : ℕ) → i < slots → is_live me.0.role ≡ true → Allows Rule slots id me i (λ n. bit_and n 18446744073709551614) (ClearTells (step slots i 18446744073709551614 0 none) me)
-  clears slots id me i lt live s rule len at small = let v = me.0 in let n = get_or s.words i 0 in let in_it = in_tags s slots i rule len lt in (
-    v,
-    keeps,
-    tt,
-    turn_step s id v v i (bit_and n 18446744073709551614) s.homes rule at live in_it refl (λ sh. sh) refl (λ j other. refl) (λ j other. same_alike j v v refl refl refl)
-        (λ t e. lane_alike tag lawful history s.views id v v i (bit_and n 18446744073709551614) (get_elem? s.homes i) t at (same_alike i v v refl refl refl) (lane_clear tag lawful history s.views i n (get_elem? s.homes i) t (rule.lanes i t e))),
-    refl,
-  )
+  -- nobody but the seat that has the turn
+  holds_alone : (views : List (View G E L)) (id : ℕ) (v : View G E L) (i n : ℕ) (h : SlotState C) (t : G) (log : List E) → get_elem? views id ≡ some v → v.turn ≡ Has i log → Lane tag lawful history views i n h t
+      → (k : ℕ) (u : View G E L) (m : List E) → get_elem? views k ≡ some u → u.turn ≡ Has i m → k ≡ id
+  holds_alone views id v i n h t log at has (inl x) k u m e theirs = absurd ((x.each id v at).1 log has)
+  holds_alone views id v i n h t log at has (inr x) k u m e theirs = (x.each k u e).1 m theirs ∙ sym ((x.each id v at).1 log has)
+
+  pub clears : (slots id : ℕ) (me : SeatState C G E L) (i : ℕ) (log : List E) → i < slots → me.0.turn ≡ Has i log → is_live me.0.role ≡ true → Allows Rule slots id me i (λ n. bit_and n 18446744073709551614) (ClearTells (step slots i 18446744073709551614 0 none) me)
+  clears slots id me i log lt has live s rule len at small =
+      let v = me.0 in
+      let n = get_or s.words i 0 in
+      let w = cleared i n v in
+      let now = with_clear n (changes_of v i) in
+      let known = requests_of v i + flag_of n in
+      let in_it = in_tags s slots i rule len lt in
+      let t = has_at tags i in_it in
+      let shape = rule.shapes id v at live in
+      let clears_wide : i < length v.clears = (let k = shape.5 in omega arith) in
+      let changes_wide : i < length v.changes = (let k = shape.6 in omega arith) in
+      let requests_wide : i < length v.requests = (let k = shape.7 in omega arith) in (
+        w,
+        keeps,
+        tt,
+        turn_step s id v w i (bit_and n 18446744073709551614) s.homes rule at live in_it refl
+            (λ sh. (sh.0, sh.1, sh.2, sh.3, sh.4, length-set v.clears i (slice_index v.clears i + 1) ∙ sh.5, length-set v.changes i now ∙ sh.6, length-set v.requests i known ∙ sh.7))
+            refl (λ j other. refl) (λ j other. same_alike j v w refl refl refl)
+            (λ j other. record { changes = get_or-set_other v.changes i j now no_changes other; requests = get_or-set_other v.requests i j known 0 other; back = λ m e. e })
+            (accounts_clear s.views id i n v w log at has (holds_alone s.views id v i n (get_elem? s.homes i) t.0 log at has (rule.lanes i t.0 t.1)) (bits_here s i rule in_it) (get_or-set_same v.changes i now no_changes changes_wide) (get_or-set_same v.requests i known 0 requests_wide))
+            (λ t e. lane_alike tag lawful history s.views id v w i (bit_and n 18446744073709551614) (get_elem? s.homes i) t at (same_alike i v w refl refl refl) (lane_clear tag lawful history s.views i n (get_elem? s.homes i) t (rule.lanes i t e))),
+        (refl, refl, get_or-set_same v.clears i (slice_index v.clears i + 1) 0 clears_wide),
+      )
 
   other_place : (i j : ℕ) (v w : View G E L) (log : List E) → j ≢ i → v.turn ≡ Free → w.turn ≡ Has i log → get_or w.seen j [] ≡ get_or v.seen j [] → w.met ≡ v.met → Alike j v w
   other_place i j v w log other free has seen met = record {
@@ -175,8 +234,10 @@ module _ {C G E L : Type 0} (tag : C → G) (lawful : C → Type 0) (history : C
           let n = get_or s.words i 0 in
           let v = me.0 in
           let log = history x.cell in
-          let w = claimed i n log (tally x.cell) v in
+          let answered = flags_cleared i s.views in
+          let w = claimed i n answered log (tally x.cell) v in
           let homes = set s.homes i none in
+          let requests_wide : i < length v.requests = (let k = (rule.shapes id v at live).7 in omega arith) in
           let deep = rule.deep in
           let mine = x.each id v at in
           let tags_are = (rule.shapes id v at live).0 in
@@ -198,9 +259,11 @@ module _ {C G E L : Type 0} (tag : C → G) (lawful : C → Type 0) (history : C
             w,
             takes i (Some x.cell),
             x.there,
-            turn_step s id v w i (bit_or n 2) homes rule at live in_it refl (λ sh. sh) (length-set s.homes i none) (λ j other. set_else s.homes i j none other) (λ j other. other_place i j v w log other free refl refl refl)
+            turn_step s id v w i (bit_or n 2) homes rule at live in_it refl (λ sh. (sh.0, sh.1, sh.2, sh.3, sh.4, sh.5, sh.6, length-set v.requests i answered ∙ sh.7)) (length-set s.homes i none) (λ j other. set_else s.homes i j none other) (λ j other. other_place i j v w log other free refl refl refl)
+                (λ j other. record { changes = refl; requests = get_or-set_other v.requests i j answered 0 other; back = λ m e. absurd (other (sym (same_place i j log m e))) })
+                (accounts_claim s.views id i n v w at (bits_here s i rule in_it) refl (get_or-set_same v.requests i answered 0 requests_wide))
                 (λ t' e'. subst (λ (y : G). Lane tag lawful history (set s.views id w) i (bit_or n 2) (get_elem? homes i) y) (some-injective t t' (sym e ∙ e')) (inr lane)),
-            inr (subst (LacksBit 2) (sym x.word_is) (idles x.queued x.flag), (x.cell, refl, x.is_lawful, ap (λ (l : List G). get_elem? l i) tags_are ∙ (e ∙ ap some (sym x.is_tagged)), mine.0)),
+            (refl, inr (subst (LacksBit 2) (sym x.word_is) (idles x.queued x.flag), (x.cell, answered, refl, x.is_lawful, ap (λ (l : List G). get_elem? l i) tags_are ∙ (e ∙ ap some (sym x.is_tagged)), mine.0))),
           )
       by_lane in_it t e (inr x) =
           let n = get_or s.words i 0 in
@@ -221,10 +284,11 @@ module _ {C G E L : Type 0} (tag : C → G) (lawful : C → Type 0) (history : C
             w,
             keeps,
             tt,
-            turn_step s id v w i (bit_or n 2) s.homes rule at live in_it refl (λ sh. sh) refl (λ j other. refl) (λ j other. same_alike j v w refl refl refl)
+            turn_step s id v w i (bit_or n 2) s.homes rule at live in_it refl (λ sh. sh) refl (λ j other. refl) (λ j other. same_alike j v w refl refl refl) (λ j other. record { changes = refl; requests = refl; back = λ m e. e })
+                (let bits = (bits_here s i rule in_it).claim in accounts_even s.views id i n (bit_or n 2) v w at (record { changes = refl; requests = refl; back = λ m e. e }) bits.0 bits.1)
                 (λ t' e'. lane_alike tag lawful history s.views id v w i (bit_or n 2) (get_elem? s.homes i) t' at (same_alike i v w refl refl refl)
                 (subst (λ (y : G). Lane tag lawful history s.views i (bit_or n 2) (get_elem? s.homes i) y) (some-injective t t' (sym e ∙ e')) (inr lane))),
-            inl (subst (HasBit 2) (sym x.word_is) (runs x.queued x.flag), refl),
+            (refl, inl (subst (HasBit 2) (sym x.word_is) (runs x.queued x.flag), refl)),
           )
 
   leaves_place : (i j : ℕ) (v w : View G E L) (log : List E) → j ≢ i → w.turn ≡ Free → v.turn ≡ Has i log → get_or w.seen j [] ≡ get_or v.seen j [] → w.met ≡ v.met → Alike j v w
@@ -250,6 +314,8 @@ module _ {C G E L : Type 0} (tag : C → G) (lawful : C → Type 0) (history : C
           let deep = rule.deep in
           let shape = rule.shapes id v at live in
           let wide : i < length v.seen = (let k = shape.1 in omega arith) in
+          let known = requests_of v i + flag_of n in
+          let requests_wide : i < length v.requests = (let k = shape.7 in omega arith) in
           let holder_is : id ≡ x.holder = (x.each id v at).1 log has in
           let view_is : v ≡ x.view = some-injective v x.view (sym at ∙ (ap (get_elem? s.views) holder_is ∙ x.at)) in
           let log_is : x.log ≡ log = ap log_of (sym x.has ∙ (ap (λ (y : View G E L). y.turn) (sym view_is) ∙ has)) in
@@ -274,12 +340,15 @@ module _ {C G E L : Type 0} (tag : C → G) (lawful : C → Type 0) (history : C
             w,
             gives,
             tt,
-            turn_step s id v w i (bit_and n 18446744073709551613) homes rule at live in_it refl (λ sh. (sh.0, length-set v.seen i (history c) ∙ sh.1, sh.2, sh.3, sh.4)) (length-set s.homes i (some (Some c))) (λ j other. set_else s.homes i j (some (Some c)) other)
+            turn_step s id v w i (bit_and n 18446744073709551613) homes rule at live in_it refl (λ sh. (sh.0, length-set v.seen i (history c) ∙ sh.1, sh.2, sh.3, sh.4, sh.5, sh.6, length-set v.requests i known ∙ sh.7)) (length-set s.homes i (some (Some c))) (λ j other. set_else s.homes i j (some (Some c)) other)
                 (λ j other. leaves_place i j v w log other refl has (get_or-set_other v.seen i j (history c) [] other) refl)
+                (λ j other. record { changes = refl; requests = get_or-set_other v.requests i j known 0 other; back = λ m e. absurd (no_turn w.turn j m refl e) })
+                (accounts_release s.views id i n v w log at has (λ m. no_turn w.turn i m refl) (bits_here s i rule in_it) refl (get_or-set_same v.requests i known 0 requests_wide))
                 (λ t' e'. subst (λ (y : G). Lane tag lawful history (set s.views id w) i (bit_and n 18446744073709551613) (get_elem? homes i) y) (some-injective t t' (sym e ∙ e')) (inl lane)),
-            λ d same. let p : c ≡ d = ap (cell_or c) same in (
-              ap (λ (y : C). (released i n (history y) (tally y) v, [])) p,
-              get_or-set_same v.seen i (history c) [] wide ∙ ap history p,
+            (
+              refl,
+              λ d same. let p : c ≡ d = ap (cell_or c) same in (ap (λ (y : C). (released i n (history y) (tally y) v, [])) p, get_or-set_same v.seen i (history c) [] wide ∙ ap history p),
+              get_or-set_same v.requests i known 0 requests_wide,
               lane_flagged tag lawful history s.views i n (get_elem? s.homes i) t (inr x),
             ),
           )

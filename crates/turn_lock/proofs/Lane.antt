@@ -1,12 +1,12 @@
 -- The turn rule as the proofs use it: each cell is at home, or away with one seat.
-use Rattle.std.specs.Prelude.{◌≡◌, ◌⊎◌, ℕ, ◌+◌, Bool, true, false, List, length, slice_index, Option, Some}
+use Rattle.std.specs.Prelude.{◌≡◌, ◌⊎◌, ℕ, ◌+◌, ◌<◌, Bool, true, false, List, [], length, slice_index, Option, Some}
 use mathlib.Core.Option.{some, none}
 use lib.ListN.{get_elem?}
 use Rattle.atomic_table.specs.Table.{State}
 use Rattle.turn_lock.specs.declared.view.View.{View}
 use Rattle.turn_lock.specs.declared.view.Turn.TheVariants.{Free, Has}
 use Rattle.turn_lock.specs.View.{is_live, IsShaped}
-use Rattle.turn_lock.specs.Rule.{IsWithin, SlotState, OneFirst}
+use Rattle.turn_lock.specs.Rule.{IsWithin, SlotState, OneFirst, IsAccounted}
 
 -- the word with these bits
 abbrev pub bit : Bool → ℕ → ℕ
@@ -49,5 +49,6 @@ module _ {C G E L : Type 0} (tag : C → G) (lawful : C → Type 0) (history : C
     pub deep : length s.homes ≡ length tags
     pub lanes : (i : ℕ) (t : G) → get_elem? tags i ≡ some t → Lane s.views i (slice_index s.words i) (get_elem? s.homes i) t
     pub shapes : (id : ℕ) (v : View G E L) → get_elem? s.views id ≡ some v → is_live v.role ≡ true → IsShaped tags v
-    pub spent : (id : ℕ) (v : View G E L) → get_elem? s.views id ≡ some v → is_live v.role ≡ false → v.turn ≡ Free
+    pub spent : (id : ℕ) (v : View G E L) → get_elem? s.views id ≡ some v → is_live v.role ≡ false → (v.turn ≡ Free) × (v.changes ≡ [])
     pub one_first : OneFirst s.views
+    pub accounts : (i : ℕ) → i < length tags → IsAccounted i (slice_index s.words i) s.views

@@ -11,6 +11,7 @@ use Rattle.turn_lock.specs.declared.view.Turn.TheVariants.{Has}
 use Rattle.turn_lock.specs.View.{out_count, seats_out, seen_of, met_of}
 use Rattle.turn_lock.specs.Rule.{IsWithin, SlotState, HasBit, LacksBit}
 use Rattle.turn_lock.proofs.Lane.{word_of, Lane}
+use Rattle.turn_lock.proofs.Accounts.{BitsAfter, bits_after}
 
 -- the steps on a word
 pub or_flag : (q r f : Bool) → bit_or (word_of q r f) 1 ≡ word_of q r true
@@ -190,3 +191,7 @@ module _ {C G E L : Type 0} (tag : C → G) (lawful : C → Type 0) (history : C
   pub lane_flagged : (views : List (View G E L)) (j n : ℕ) (h : SlotState C) (t : G) → Lane tag lawful history views j n h t → HasBit 1 n ⊎ LacksBit 1 n
   lane_flagged views j n h t (inl x) = subst (λ (k : ℕ). HasBit 1 k ⊎ LacksBit 1 k) (sym x.word_is) (flag_or_not x.queued false x.flag)
   lane_flagged views j n h t (inr x) = subst (λ (k : ℕ). HasBit 1 k ⊎ LacksBit 1 k) (sym x.word_is) (flag_or_not x.queued true x.flag)
+
+  pub lane_bits : (views : List (View G E L)) (j n : ℕ) (h : SlotState C) (t : G) → Lane tag lawful history views j n h t → BitsAfter n
+  lane_bits views j n h t (inl x) = subst BitsAfter (sym x.word_is) (bits_after x.queued false x.flag)
+  lane_bits views j n h t (inr x) = subst BitsAfter (sym x.word_is) (bits_after x.queued true x.flag)

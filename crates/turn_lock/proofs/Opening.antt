@@ -1,5 +1,5 @@
 -- The turn rule holds of a new table, and says at the end that each cell is at home.
-use Rattle.std.proofs.Common.{◌≡◌, ◌⊎◌, ℕ, zero, suc, ◌<◌, false, List, [], ◌∷◌, map, length, take, replicate, get_or, sym, refl, ap, ◌∙◌, subst, inl, inr, ⊎_elim, arith, Option, Some, None}
+use Rattle.std.proofs.Common.{true≢false, ◌≡◌, ◌≢◌, ◌⊎◌, ℕ, zero, suc, ◌<◌, ◌≤◌, false, List, [], ◌∷◌, map, length, take, replicate, get_or, sym, refl, ap, ◌∙◌, subst, inl, inr, ⊎_elim, arith, Option, Some, None}
 use Rattle.std.specs.Prelude.{All}
 use Rattle.std.proofs.lemmas.List.{length-map}
 use mathlib.Core.Option.{some, some-injective, some-ne-none}
@@ -8,14 +8,17 @@ use lib.ListN.{get_elem?}
 use Rattle.atomic_table.specs.Table.{opening, Final, Seen}
 use Rattle.atomic_table.proofs.Lists.{at_map}
 use Rattle.turn_lock.specs.declared.view.View.{View}
+use Rattle.turn_lock.specs.declared.view.Changes.{Changes}
 use Rattle.turn_lock.specs.declared.view.Turn.TheVariants.{Free, Has}
 use Rattle.turn_lock.specs.declared.view.Role.{Role}
 use Rattle.turn_lock.specs.declared.view.Role.TheVariants.{First, Other, Spent}
-use Rattle.turn_lock.specs.View.{out_count, is_live, seats_out, seen_of, IsShaped, first_view}
-use Rattle.turn_lock.specs.Rule.{IsWithin}
+use Rattle.turn_lock.specs.View.{out_count, is_live, seats_out, seen_of, IsShaped, zeros, no_changes, changes_of, requests_of, flag_of, mark_of, first_view}
+use Rattle.turn_lock.specs.Rule.{IsWithin, IsAccounted, flags_set}
+use Rattle.turn_lock.specs.Steps.{AccountsAlone}
 use Rattle.turn_lock.proofs.Lane.{Home, Away, Laned}
 use Rattle.turn_lock.proofs.Lanes.{in_range}
 use Rattle.turn_lock.proofs.Prefixes.{nothing_begins, blank_at, length-blank}
+use Rattle.turn_lock.proofs.Accounts.{length-unchanged, unchanged_at, total-alone}
 use Rattle.turn_lock.proofs.Joining.{out_of, length-zeros}
 use Rattle.turn_lock.proofs.Keeps.{has_at, no_turn}
 
@@ -60,6 +63,29 @@ zeros_all zero i = refl
 zeros_all (suc m) zero = refl
 zeros_all (suc m) (suc i) = zeros_all m i
 
+zero_at : {A : Type 0} → (l : List A) (i : ℕ) → get_or (zeros l) i 0 ≡ 0
+zero_at [] i = refl
+zero_at (x ∷ l) zero = refl
+zero_at (x ∷ l) (suc i) = zero_at l i
+
+-- the one view of a new table accounts for a word without a bit
+opens_accounted : {G E L : Type 0} → (tags : List G) (i n : ℕ) → n ≡ 0 → IsAccounted i n (first_view {E = E} {L = L} tags ∷ [])
+opens_accounted {G} {E} {L} tags i n clear =
+    let v : View G E L = first_view tags in
+    let none = unchanged_at tags i in
+    let s : (changes_of v i).flag_set ≡ 0 = ap (λ (c : Changes). c.flag_set) none in
+    let c : (changes_of v i).flag_cleared ≡ 0 = ap (λ (c : Changes). c.flag_cleared) none in
+    let s' : (changes_of v i).mark_set ≡ 0 = ap (λ (c : Changes). c.mark_set) none in
+    let c' : (changes_of v i).mark_cleared ≡ 0 = ap (λ (c : Changes). c.mark_cleared) none in
+    let flag : flag_of n ≡ 0 = ap flag_of clear in
+    let mark : mark_of n ≡ 0 = ap mark_of clear in
+    let requests : requests_of v i ≡ 0 = zero_at tags i in record {
+      flag = omega arith;
+      mark = omega arith;
+      known = λ id u h. subst (λ (y : View G E L). requests_of y i ≤ flags_set i (v ∷ [])) (only v id u h).1 (omega arith);
+      answered = λ id u log h has. absurd (no_turn Free i log refl (ap (λ (y : View G E L). y.turn) (only v id u h).1 ∙ has));
+    }
+
 module _ {C G E : Type 0} (L : Type 0) (tag : C → G) (lawful : C → Type 0) (history : C → List E) where
   pub opens : (cells : List C) (words : List ℕ) (slots : List (Option C)) → All lawful cells → slots ≡ map Some cells → length words ≡ length cells → ((i : ℕ) → get_or words i 0 ≡ 0)
       → Laned tag lawful history (map tag cells) (opening words slots (first_view {E = E} {L = L} (map tag cells)))
@@ -77,10 +103,39 @@ module _ {C G E : Type 0} (L : Type 0) (tag : C → G) (lawful : C → Type 0) (
       each = λ id u h. let o = only v id u h in subst (λ (y : View G E L). IsWithin i (history c.0) y × ((log : List E) → ¬ (y.turn ≡ Has i log))) o.1
           ((subst (λ (m : List E). IsPrefix m (history c.0)) (sym (blank_at tags i)) (nothing_begins (history c.0)), subst (λ (m : List E). IsPrefix m (history c.0)) (sym (blank_at tags i)) (nothing_begins (history c.0))), λ log. no_turn Free i log refl);
     });
-    shapes = λ id u h lives. subst (λ (y : View G E L). IsShaped tags y) (only v id u h).1 (refl, length-blank E tags, length-blank E tags, length-zeros tags, length-zeros tags);
-    spent = λ id u h dead. ap (λ (y : View G E L). y.turn) (sym (only v id u h).1);
+    shapes = λ id u h lives. subst (λ (y : View G E L). IsShaped tags y) (only v id u h).1 (refl, length-blank E tags, length-blank E tags, length-zeros tags, length-zeros tags, length-zeros tags, length-unchanged tags, length-zeros tags);
+    spent = λ id u h dead. absurd (true≢false (ap (λ (y : View G E L). is_live y.role) (only v id u h).1 ∙ dead));
     one_first = record { seat = 0; view = v; out = 0; at = refl; is_first = refl; counts = omega arith; alone = λ id u n h first. (only v id u h).0 };
+    accounts = λ i lt. opens_accounted tags i (get_or words i 0) (clear i);
   }
+
+  -- where no other seat is out, the first accounts for each word alone
+  pub accounts_alone : (tags : List G) (id : ℕ) (v : View G E L) (words : List ℕ) (slots : List (Option C)) → v.role ≡ First 0 → Final (Seen (Laned tag lawful history tags) id v) words slots → (i : ℕ) → i < length tags → AccountsAlone v i
+  accounts_alone tags id v words slots first end i lt =
+      let s = end.0 in
+      let rule = end.1.0 in
+      let at = end.1.1 in
+      let one = rule.one_first in
+      let seat : id ≡ one.seat = one.alone id v 0 at first in
+      let view_is : v ≡ one.view = some-injective v one.view (sym at ∙ (ap (get_elem? s.views) seat ∙ one.at)) in
+      let out : 0 ≡ one.out = ap out_of (sym first ∙ (ap (λ (y : View G E L). y.role) view_is ∙ one.is_first)) in
+      let none_out : seats_out s.views ≡ 0 = sym (out ∙ one.counts) in
+      let none : (k : ℕ) (u : View G E L) → k ≢ id → get_elem? s.views k ≡ some u → u.changes ≡ [] = λ k u apart e. ⊎_elim
+      (λ (f : (n : ℕ) × (u.role ≡ First n)). absurd (apart (one.alone k u f.0 e f.1 ∙ sym seat)))
+      (λ (r : (out_count u.role ≡ 1) ⊎ (is_live u.role ≡ false)). ⊎_elim
+      (λ (o : out_count u.role ≡ 1). absurd (apart_ones _ o (nobody s.views k u e none_out)))
+      (λ (d : is_live u.role ≡ false). (rule.spent k u e d).1)
+      r)
+      (role_cases u.role) in
+      let set_is = total-alone (λ (y : View G E L). (changes_of y i).flag_set) s.views id v at (λ k u apart e. ap (λ (l : List Changes). (get_or l i no_changes).flag_set) (none k u apart e)) in
+      let cleared_is = total-alone (λ (y : View G E L). (changes_of y i).flag_cleared) s.views id v at (λ k u apart e. ap (λ (l : List Changes). (get_or l i no_changes).flag_cleared) (none k u apart e)) in
+      let marks_are = total-alone (λ (y : View G E L). (changes_of y i).mark_set) s.views id v at (λ k u apart e. ap (λ (l : List Changes). (get_or l i no_changes).mark_set) (none k u apart e)) in
+      let unmarks_are = total-alone (λ (y : View G E L). (changes_of y i).mark_cleared) s.views id v at (λ k u apart e. ap (λ (l : List Changes). (get_or l i no_changes).mark_cleared) (none k u apart e)) in
+      let all = rule.accounts i lt in
+      let flag = all.flag in
+      let mark = all.mark in
+      let known = all.known id v at in
+      (get_or s.words i 0, omega arith, omega arith, omega arith)
 
   -- where no other seat is out and the first has no turn, each cell is at home
   pub closes : (tags : List G) (id : ℕ) (v : View G E L) (words : List ℕ) (slots : List (Option C)) → v.role ≡ First 0 → v.turn ≡ Free → Final (Seen (Laned tag lawful history tags) id v) words slots
@@ -104,7 +159,7 @@ module _ {C G E : Type 0} (L : Type 0) (tag : C → G) (lawful : C → Type 0) (
             no_turn v.turn i x.log free (ap (λ (y : View G E L). y.turn) (some-injective v x.view (sym at ∙ (ap (get_elem? s.views) (sym same) ∙ x.at))) ∙ x.has))
             (λ (r : (out_count x.view.role ≡ 1) ⊎ (is_live x.view.role ≡ false)). ⊎_elim
             (λ (o : out_count x.view.role ≡ 1). let z = nobody s.views x.holder x.view x.at none_out in apart_ones _ o z)
-            (λ (d : is_live x.view.role ≡ false). no_turn x.view.turn i x.log (rule.spent x.holder x.view x.at d) x.has)
+            (λ (d : is_live x.view.role ≡ false). no_turn x.view.turn i x.log (rule.spent x.holder x.view x.at d).0 x.has)
             r)
             (role_cases x.view.role)))
             (rule.lanes i t.0 t.1),

@@ -11,7 +11,8 @@ use Rattle.turn_lock.specs.declared.view.Turn.TheVariants.{Free, Has}
 use Rattle.turn_lock.specs.declared.view.Role.TheVariants.{First, Other}
 use Rattle.turn_lock.specs.View.{is_live, first_view, new_view, with_one_more, joining, spent_view, carried_of}
 use Rattle.turn_lock.specs.Rule.{IsWithin, SomeoneHas, TurnRule, HasBit, LacksBit}
-use Rattle.turn_lock.specs.Steps.{SeatState, FlagTells, MarkTells, UnmarkTells, ClearTells, ClaimTells, ReleaseTells, SettleTells, MayRelease}
+use Rattle.turn_lock.specs.Kinds.{SeatState, FlagTells, MarkTells, UnmarkTells, ClearTells, ClaimTells, ReleaseTells, SettleTells}
+use Rattle.turn_lock.specs.Steps.{MayRelease, AccountsAlone}
 use Rattle.turn_lock.proofs.Lane.{word_of, Home, Away, Lane, Laned}
 use Rattle.turn_lock.proofs.Lanes.{in_range, runs, idles, apart}
 use Rattle.turn_lock.proofs.Keeps.{has_at, log_of}
@@ -77,6 +78,7 @@ module _ {C G E L : Type 0} (tag : C → G) (lawful : C → Type 0) (history : C
     shapes = rule.shapes;
     spent = rule.spent;
     one_first = rule.one_first;
+    accounts = rule.accounts;
   }
 
   pub rule_of : (s : State (Option C) (View G E L)) → Laned tag lawful history tags s → TurnRule tag lawful history tags s
@@ -97,6 +99,7 @@ module _ {C G E L : Type 0} (tag : C → G) (lawful : C → Type 0) (history : C
     seen_away = λ i lt one id v here. ⊎_elim (λ (x : At_home i (at lt).0). absurd ((x.each one.0 one.1 one.3).1 one.2 one.4))
         (λ (x : Gone_off i (at lt).0). subst (λ (l : List E). IsWithin i l v) (log_is i one x.holder x.view x.log x.at x.has ((x.each one.0 one.1 one.3).1 one.2 one.4)) (x.each id v here).0) (lane lt);
     one_first = lanes.one_first;
+    accounts = lanes.accounts;
   }
     where
       At_home : ℕ → G → Type 0
@@ -134,8 +137,8 @@ module _ {C G E L : Type 0} (tag : C → G) (lawful : C → Type 0) (history : C
   pub unmarks : (slots id : ℕ) (me : SeatState C G E L) (i : ℕ) → i < slots → is_live me.0.role ≡ true → Allows Rule slots id me i (λ n. bit_and n 18446744073709551611) (UnmarkTells (step slots i 18446744073709551611 0 none) me)
   unmarks slots id me i lt live = allows_as slots id me i (λ n. bit_and n 18446744073709551611) (UnmarkTells (step slots i 18446744073709551611 0 none) me) (kept.unmarks tag lawful history tally tags slots id me i lt live)
 
-  pub clears : (slots id : ℕ) (me : SeatState C G E L) (i : ℕ) → i < slots → is_live me.0.role ≡ true → Allows Rule slots id me i (λ n. bit_and n 18446744073709551614) (ClearTells (step slots i 18446744073709551614 0 none) me)
-  clears slots id me i lt live = allows_as slots id me i (λ n. bit_and n 18446744073709551614) (ClearTells (step slots i 18446744073709551614 0 none) me) (kept.clears tag lawful history tally tags slots id me i lt live)
+  pub clears : (slots id : ℕ) (me : SeatState C G E L) (i : ℕ) (log : List E) → i < slots → me.0.turn ≡ Has i log → is_live me.0.role ≡ true → Allows Rule slots id me i (λ n. bit_and n 18446744073709551614) (ClearTells (step slots i 18446744073709551614 0 none) me)
+  clears slots id me i log lt has live = allows_as slots id me i (λ n. bit_and n 18446744073709551614) (ClearTells (step slots i 18446744073709551614 0 none) me) (kept.clears tag lawful history tally tags slots id me i log lt has live)
 
   pub claims : (slots id : ℕ) (me : SeatState C G E L) (i : ℕ) → i < slots → me.0.turn ≡ Free → is_live me.0.role ≡ true → Allows Rule slots id me i (λ n. bit_or n 2) (ClaimTells tag lawful history tally (step slots i 2 0 none) me)
   claims slots id me i lt free live = allows_as slots id me i (λ n. bit_or n 2) (ClaimTells tag lawful history tally (step slots i 2 0 none) me) (kept.claims tag lawful history tally tags slots id me i lt free live)
@@ -174,3 +177,6 @@ module _ {C G E : Type 0} (L : Type 0) (tag : C → G) (lawful : C → Type 0) (
   pub closes : (tags : List G) (id : ℕ) (v : View G E L) (words : List ℕ) (slots : List (Option C)) → v.role ≡ First 0 → v.turn ≡ Free → Final (Seen (TurnRule tag lawful history tags) id v) words slots
       → (length slots ≡ length tags) × ((i : ℕ) → i < length tags → (c : C) × (get_elem? slots i ≡ some (Some c)) × lawful c × (get_elem? v.tags i ≡ some (tag c)) × IsWithin i (history c) v)
   closes tags id v words slots first free end = made.closes L tag lawful history tags id v words slots first free (end.0, (lanes_of tag lawful history tags end.0 end.1.0, end.1.1), end.2, end.3, end.4)
+
+  pub accounts_alone : (tags : List G) (id : ℕ) (v : View G E L) (words : List ℕ) (slots : List (Option C)) → v.role ≡ First 0 → Final (Seen (TurnRule tag lawful history tags) id v) words slots → (i : ℕ) → i < length tags → AccountsAlone v i
+  accounts_alone tags id v words slots first end = made.accounts_alone L tag lawful history tags id v words slots first (end.0, (lanes_of tag lawful history tags end.0 end.1.0, end.1.1), end.2, end.3, end.4)

@@ -6,7 +6,7 @@ ghost use Rattle.std.specs.Mem.Slots.{slots_items, slots_len, IsFull};
 ghost use Rattle.turn_lock.specs.declared.view.Turn.TheVariants.{Free};
 ghost use Rattle.turn_lock.specs.View.{is_live, carried_of, room_for, first_view, new_view, with_one_more, joined, flagged, marked, unmarked, seen_of, HasSeenAll, IsFirst, IsOther};
 ghost use Rattle.turn_lock.specs.Rule.{HasFlag, LacksFlag, IsQueued, IsUnqueued};
-ghost use Rattle.turn_lock.specs.Steps.{Gets, Misses, MayRelease, GivesBack, AreBack};
+ghost use Rattle.turn_lock.specs.Steps.{Gets, HasTurn, Misses, MayRelease, GivesBack, AskedMeanwhile, AskedNoMore, SetsMark, FindsMark, AreBack, AccountsAlone};
 ghost use Rattle.turn_lock.specs.Lending.{cell_of, index_of};
 ghost use Rattle.turn_lock.specs.Seats.{view_of, cell_count, IsOf, IsSameSeat};
 
@@ -26,10 +26,10 @@ const RUNNING: u64 = 2;
 
 const QUEUED: u64 = 4;
 
-/// Another seat has the turn.
+/// Another seat is at the cell.
 #[derive(Clone, Copy, PartialEq, Eq, Debug)]
 pub struct Busy {
-    /// The word that was found: bit 0 is FLAG, bit 1 is RUNNING, which is set, and bit 2 is QUEUED.
+    /// The cell's word as the claim met it: bit 0 is FLAG, bit 1 is RUNNING, which is 1 here, and bit 2 is QUEUED.
     pub word: u64,
 }
 
@@ -78,10 +78,11 @@ fn unload<C: Drop>(mut closed: Closed<Option<C>, Global>, mut room: Vec<C>) -> V
 }
 
 impl<C: TurnCell> Turns<C> {
-    /// A lock over 1 to 32 cells, all at home, and its first seat, which has no turn and has seen nothing. No seat is out.
+    /// Makes a lock of 1 to 32 cells, each in its slot, with the first seat. That seat has seen nothing, has no turn, and has
+    /// counted no seat out.
     ///
-    /// It makes no atomic step. It takes memory for the words, the slots and the cells in them. At `NoMemory` the cells
-    /// are dropped.
+    /// It makes no atomic step. Memory goes to the words, the slots and the cells in them. Where there is none the answer is
+    /// `NoMemory`, and the cells are dropped.
     pub fn new(alloc: Global, cells: CellList<C>) -> Result<(Turns<C>, TurnSeat<C>), NoMemory>
         requires some { 0 < length cells }
         requires few { length cells ≤ 32 }
@@ -101,14 +102,14 @@ impl<C: TurnCell> Turns<C> {
         }
     }
 
-    /// Asks for another turn at a cell, whoever has the present one: one step sets FLAG in its word.
+    /// Leaves word at a cell that it should get another turn, whether or not somebody is at it: an OR of its word with FLAG.
     ///
-    /// The seat's number of flags of that cell rises by 1. It takes no memory and does not wait.
+    /// The seat counts its flags cell by cell, and has one more. It takes no memory and does not wait.
     pub fn flag(&self, seat: &mut TurnSeat<C>, index: u32)
         requires own { IsOf self.now seat.old }
         requires exists { index < cell_count self.now }
         ensures own { IsSameSeat seat.old seat.new }
-        ensures flagged { view_of seat.new ≡ flagged index (view_of seat.old) }
+        ensures flagged { (word : ℕ) × (view_of seat.new ≡ flagged index word (view_of seat.old)) }
         ensures counted { slice_index (view_of seat.new).flags index ≡ slice_index (view_of seat.old).flags index + 1 }
     {
         self.table
@@ -116,15 +117,16 @@ impl<C: TurnCell> Turns<C> {
             .fetch_or::<Flag>(&mut seat.seat, index as usize, FLAG);
     }
 
-    /// Marks a cell as queued: one step sets QUEUED in its word. True exactly where the word that it found had no QUEUED.
+    /// Puts the mark on a cell, an OR of its word with QUEUED, and answers whether it was missing there until now.
     ///
-    /// It counts as a try of the seat. It takes no memory and does not wait.
+    /// The seat counts a try. It takes no memory and does not wait.
     pub fn mark(&self, seat: &mut TurnSeat<C>, index: u32) -> bool
         requires own { IsOf self.now seat.old }
         requires exists { index < cell_count self.now }
         ensures own { IsSameSeat seat.old seat.new }
         ensures marked { (word : ℕ) × MatchBool result (IsUnqueued word) (IsQueued word)
             × (view_of seat.new ≡ marked index word (view_of seat.old)) }
+        ensures set { MatchBool result (SetsMark index (view_of seat.old) (view_of seat.new)) (FindsMark index (view_of seat.old) (view_of seat.new)) }
     {
         let word = self
             .table
@@ -133,14 +135,14 @@ impl<C: TurnCell> Turns<C> {
         word & QUEUED == 0
     }
 
-    /// Takes the mark of a cell away: one step clears QUEUED in its word, marked or not.
+    /// Removes the mark from a cell, if it is there, and leaves the other bits of its word.
     ///
-    /// The seat's number of unmarks of that cell rises by 1. It takes no memory and does not wait.
+    /// The seat counts its unmarks cell by cell, and has one more. It takes no memory and does not wait.
     pub fn unmark(&self, seat: &mut TurnSeat<C>, index: u32)
         requires own { IsOf self.now seat.old }
         requires exists { index < cell_count self.now }
         ensures own { IsSameSeat seat.old seat.new }
-        ensures unmarked { view_of seat.new ≡ unmarked index (view_of seat.old) }
+        ensures unmarked { (word : ℕ) × (view_of seat.new ≡ unmarked index word (view_of seat.old)) }
         ensures counted { slice_index (view_of seat.new).unmarks index ≡ slice_index (view_of seat.old).unmarks index + 1 }
     {
         self.table
@@ -148,14 +150,14 @@ impl<C: TurnCell> Turns<C> {
             .fetch_and::<Unmark>(&mut seat.seat, index as usize, !QUEUED);
     }
 
-    /// Tries once for the turn of a cell: one step, the claim, sets RUNNING in its word.
+    /// Tries once for the turn of a cell. The try, a claim, is an OR of its word with RUNNING.
     ///
-    /// Where the claim found no RUNNING the turn is got. A second step clears FLAG, and a third takes the cell out of its
-    /// slot, so `Ok` carries it. It is lawful, has its tag, and its history begins with what this seat had seen of it. The
-    /// seat keeps the cell's tally as the one found.
+    /// If RUNNING was missing, this seat has the turn from then on. It clears FLAG, which adds one to its clears of that cell,
+    /// and takes the cell out of its slot, which `Ok` carries. The cell is lawful, has its tag, and has a history that goes on
+    /// from what this seat had seen. Its tally is noted as the one found.
     ///
-    /// `Busy` comes exactly where the claim found RUNNING. It carries the word found, and nothing changed but the seat's
-    /// tries, claims and latest try. The call takes no memory and does not wait.
+    /// If RUNNING was there, `Busy` brings the word. The seat has counted the try and the claim, and noted the word; all else
+    /// is as it was. The call takes no memory and does not wait.
     pub fn try_turn(&self, seat: &mut TurnSeat<C>, index: u32) -> Result<Held<C>, Busy>
         requires own { IsOf self.now seat.old }
         requires exists { index < cell_count self.now }
@@ -164,6 +166,8 @@ impl<C: TurnCell> Turns<C> {
         ensures place { IfOk result (λ held. index_of held ≡ index) }
         ensures got { IfOk result (λ held. Gets C.tag C.lawful C.history C.tally index
             (view_of seat.old) (cell_of held) (view_of seat.new)) }
+        ensures turn { IfOk result (λ held. HasTurn C.tag C.history (index_of held) (cell_of held) (view_of seat.new)) }
+        ensures cleared { IfOk result (λ held. slice_index (view_of seat.new).clears index ≡ slice_index (view_of seat.old).clears index + 1) }
         ensures busy { IfErr result (λ busy. Misses index (view_of seat.old) busy.word (view_of seat.new)) }
     {
         let shared = &self.table.shared;
@@ -177,13 +181,14 @@ impl<C: TurnCell> Turns<C> {
         Ok(Held { index, cell })
     }
 
-    /// Gives a turn back. A first step puts the cell into its slot, and the last one clears RUNNING in its word.
+    /// Ends a turn: a step puts the cell into its slot, and the last one takes RUNNING out of the word.
     ///
-    /// True exactly where the word found by the last step had FLAG, so where somebody asked for another turn meanwhile.
-    /// The seat has then seen the whole history, has no turn, and keeps the cell's tally as the one put back.
+    /// The answer is whether FLAG was in the word then. The turn cleared it at its beginning, and nobody else clears it during
+    /// the turn, so it means that somebody asked for another turn meanwhile: the seat knows of one request more than it did. It
+    /// has no turn any more, has seen all of the history, and notes the tally of the cell as the one put back.
     ///
-    /// The seat has to have the turn of this cell. The cell has to be lawful with the tag of its place, and its history has
-    /// to begin with the one found. It takes no memory and does not wait.
+    /// The caller has the turn of this cell, and brings a lawful cell with the tag of its place, whose history goes on from the
+    /// one found. It takes no memory and does not wait.
     pub fn release(&self, seat: &mut TurnSeat<C>, held: Held<C>) -> bool
         requires own { IsOf self.now seat.old }
         requires turn { MayRelease C.tag C.lawful C.history (index_of held) (view_of seat.old) (cell_of held) }
@@ -191,6 +196,8 @@ impl<C: TurnCell> Turns<C> {
         ensures back { (word : ℕ) × MatchBool result (HasFlag word) (LacksFlag word)
             × GivesBack C.history C.tally (index_of held)
             (view_of seat.old) (cell_of held) word (view_of seat.new) }
+        ensures asked { MatchBool result (AskedMeanwhile (index_of held) (view_of seat.old) (view_of seat.new))
+            (AskedNoMore (index_of held) (view_of seat.old) (view_of seat.new)) }
         ensures seen { seen_of (view_of seat.new) (index_of held) ≡ C.history (cell_of held) }
     {
         let Held { index, cell } = held;
@@ -203,11 +210,11 @@ impl<C: TurnCell> Turns<C> {
         word & FLAG != 0
     }
 
-    /// A further seat, mostly for another thread. It has seen what the first seat has seen, has no turn, and did nothing
-    /// yet. The first seat's number of seats out rises by 1.
+    /// Makes a seat for another thread. It has seen what the first seat has seen, knows of the requests that it knows of, and
+    /// has done nothing. The first seat counts one more out.
     ///
-    /// One step, a load of word 0. At `NoMemory` the first seat is as it was; the answer is there for a seat that needs
-    /// memory, which this one does not. It does not wait.
+    /// It is one step, a load of word 0. `NoMemory` would leave the first seat as it was; it is there for seats that need memory,
+    /// which they don't yet. The call does not wait.
     pub fn split_seat(&self, seat: &mut TurnSeat<C>) -> Result<TurnSeat<C>, NoMemory>
         requires own { IsOf self.now seat.old }
         requires first { (out : ℕ) × IsFirst out (view_of seat.old) }
@@ -221,11 +228,11 @@ impl<C: TurnCell> Turns<C> {
         Ok(TurnSeat { seat: other, room })
     }
 
-    /// Takes back a seat that `split_seat` gave. The first seat has then seen, of each cell, a list that begins with what
-    /// either had seen, and its number of seats out falls by 1.
+    /// Ends a seat that `split_seat` made. Of each cell, what either of the two has seen begins what the first seat has seen from
+    /// then on. Their changes are added up, and the first seat counts one fewer out.
     ///
-    /// Two steps, both loads of word 0: the first joins the views, and the second tells that a seat was out, and that of two
-    /// lists seen the shorter begins the longer. It takes no memory and does not wait.
+    /// It makes two steps, both loads of word 0: one joins the views, and one tells that a seat was out, and that of two lists
+    /// seen the shorter begins the longer. It takes no memory and does not wait.
     pub fn join_seat(&self, seat: &mut TurnSeat<C>, other: TurnSeat<C>)
         requires own { IsOf self.now seat.old × IsOf self.now other }
         requires first { (out : ℕ) × IsFirst out (view_of seat.old) }
@@ -243,15 +250,16 @@ impl<C: TurnCell> Turns<C> {
         shared.load::<Settle>(&mut seat.seat, 0);
     }
 
-    /// The cells in their order, once no seat is out: lawful, with their tags, and with histories that begin with what the
-    /// first seat has seen.
+    /// Ends the lock when all other seats have been joined, and gives its cells in order. Each is lawful, has its tag, and has a
+    /// history that goes on from what the first seat has seen. That seat's changes account for FLAG and QUEUED of each cell.
     ///
     /// It makes no atomic step, takes no memory and does not wait.
     pub fn close(self, seat: TurnSeat<C>) -> CellList<C>
         requires own { IsOf self seat }
         requires first { IsFirst 0 (view_of seat) }
         requires free { (view_of seat).turn ≡ Free }
-        ensures { AreBack C.tag C.lawful C.history (view_of seat) result }
+        ensures back { AreBack C.tag C.lawful C.history (view_of seat) result }
+        ensures accounted { (i : ℕ) → i < length result → AccountsAlone (view_of seat) i }
     {
         let Turns { table } = self;
         let TurnSeat { seat, room } = seat;

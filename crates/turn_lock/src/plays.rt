@@ -2,7 +2,7 @@
 ghost use Rattle.std.specs.Prelude.{map};
 ghost use Rattle.turn_lock.specs.View.{first_view, with_one_more, new_view, joining, spent_view};
 ghost use Rattle.turn_lock.specs.Rule.{TurnRule};
-ghost use Rattle.turn_lock.specs.Steps.{FlagTells, MarkTells, UnmarkTells, ClearTells, ClaimTells, ReleaseTells, SettleTells};
+ghost use Rattle.turn_lock.specs.Kinds.{FlagTells, MarkTells, UnmarkTells, ClearTells, ClaimTells, ReleaseTells, SettleTells};
 
 use crate::cell::TurnCell;
 use crate::view::View;

@@ -53,66 +53,59 @@ fn one_cell(alloc: Global) -> Option<(Lock, NumbersSeat)>
     Turns::new(alloc, cells).ok()
 }
 
-// The word that a try finds where another seat has the turn.
-fn refused(turns: &Lock, seat: &mut NumbersSeat, index: u32) -> Option<u64>
+// A turn in which nothing happens: what its release answers, or the word found where another seat has the turn.
+fn idle_turn(turns: &Lock, seat: &mut NumbersSeat, index: u32) -> Result<bool, u64>
     requires own { IsOf turns.now seat.old }
     requires exists { index < cell_count turns.now }
     requires free { (view_of seat.old).turn ≡ Free }
     ensures { IsStill seat.old seat.new }
 {
     match turns.try_turn(seat, index) {
-        Ok(held) => {
-            turns.release(seat, held);
-            None
-        }
-        Err(Busy { word }) => Some(word),
+        Ok(held) => Ok(turns.release(seat, held)),
+        Err(Busy { word }) => Err(word),
     }
 }
 
 #[test]
-fn a_turn_hands_on_what_was_appended(rt: HostRuntime) -> Result<(), Fail> {
+fn a_flag_during_a_turn_is_told_at_its_end(rt: HostRuntime) -> Result<(), Fail> {
     let Some((turns, mut s)) = one_cell(rt.alloc()) else {
         panic!(rt; "no memory for the lock")
     };
     let Ok(mut t) = turns.split_seat(&mut s) else {
         panic!(rt; "no memory for the seat")
     };
-    let mut held = match turns.try_turn(&mut s, 0) {
+    let held = match turns.try_turn(&mut s, 0) {
         Ok(held) => held,
         Err(_) => panic!(rt; "the cell is away"),
     };
-    let first = refused(&turns, &mut t, 0);
-    turns.flag(&mut t, 0);
-    let second = refused(&turns, &mut t, 0);
-    let pushed = held.cell().items.push(5).is_ok();
+    let before = idle_turn(&turns, &mut t, 0);
+    turns.flag(&mut s, 0);
+    turns.unmark(&mut t, 0);
+    let after = idle_turn(&turns, &mut t, 0);
     let flagged = turns.release(&mut s, held);
-    let mut held = match turns.try_turn(&mut t, 0) {
-        Ok(held) => held,
-        Err(_) => panic!(rt; "the cell is away"),
-    };
-    let last = held.cell().items.last().copied();
-    let flagged_again = turns.release(&mut t, held);
+    let last = idle_turn(&turns, &mut t, 0);
     turns.join_seat(&mut s, t);
     let cells = turns.close(s);
-    assert!(rt; pushed);
-    assert_eq!(rt; first, Some(2));
-    assert_eq!(rt; second, Some(3));
-    assert!(rt; flagged && !flagged_again);
-    assert_eq!(rt; last, Some(5));
+    assert_eq!(rt; before, Err(2));
+    assert_eq!(rt; after, Err(3));
+    assert!(rt; flagged);
+    assert_eq!(rt; last, Ok(false));
     assert_eq!(rt; cells.len(), 1);
     Ok(())
 }
 
 #[test]
-fn a_mark_is_made_once(rt: HostRuntime) -> Result<(), Fail> {
+fn a_mark_outlives_a_turn(rt: HostRuntime) -> Result<(), Fail> {
     let Some((turns, mut s)) = one_cell(rt.alloc()) else {
         panic!(rt; "no memory for the lock")
     };
     let first = turns.mark(&mut s, 0);
+    let turn = idle_turn(&turns, &mut s, 0);
     let second = turns.mark(&mut s, 0);
     turns.unmark(&mut s, 0);
     let third = turns.mark(&mut s, 0);
     drop(turns.close(s));
+    assert_eq!(rt; turn, Ok(false));
     assert!(rt; first && !second && third);
     Ok(())
 }

@@ -10,8 +10,8 @@ use std::snapshot::Snapshot;
 
 /// Cells, each under a lock of its own: one word, and one slot where the cell lies while nobody has its turn.
 ///
-/// Between any two atomic steps, in every schedule and for any number of seats, the words, the slots and the views of the
-/// seats meet the turn rule.
+/// After each atomic step, however threads are scheduled, the words, the slots and the views of all seats fit together as
+/// the turn rule says.
 #[derive(Drop)]
 pub struct Turns<C: TurnCell> {
     pub(crate) table: Table<

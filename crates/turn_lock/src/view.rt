@@ -19,6 +19,19 @@ pub enum Role {
     Spent,
 }
 
+/// How often the steps of seats changed the bits FLAG and QUEUED of one word. A step that finds a bit as it leaves it
+/// does not count here.
+pub struct Changes {
+    /// Flags that found no FLAG.
+    pub flag_set: u64,
+    /// Clears that found FLAG.
+    pub flag_cleared: u64,
+    /// Marks that found no QUEUED.
+    pub mark_set: u64,
+    /// Unmarks that found QUEUED.
+    pub mark_cleared: u64,
+}
+
 /// The view of a seat: what its thread knows of the lock, and what it did there. Each list has one place for each cell.
 pub struct View<G, E, L> {
     pub role: Role,
@@ -39,6 +52,13 @@ pub struct View<G, E, L> {
     pub flags: LinkedList<u64>,
     /// For each cell, how often the seat took its mark away.
     pub unmarks: LinkedList<u64>,
+    /// For each cell, how often the seat cleared its FLAG, which each turn does once.
+    pub clears: LinkedList<u64>,
+    /// For each cell, what this seat and those that were joined to it changed in its word.
+    pub changes: LinkedList<Changes>,
+    /// For each cell, how often its FLAG had been set, by all seats, when this seat's latest turn of it began, and once that
+    /// turn was given back, when it ended.
+    pub requests: LinkedList<u64>,
     /// The tally of the cell when a turn was last got, as a list of one. Empty before the first turn.
     pub found: LinkedList<L>,
     /// The tally of the cell when a turn was last given back, as a list of one. Empty before the first.

@@ -3,7 +3,7 @@ use mathlib.Core.Option.{some-injective}
 use Rattle.turn_lock.specs.Steps.{AreBack}
 use Rattle.turn_lock.proofs.Lanes.{in_range}
 use Rattle.turn_lock.proofs.Opening.{back_same, same_cell}
-use Rattle.turn_lock.proofs.Ruled.{closes}
+use Rattle.turn_lock.proofs.Ruled.{closes, accounts_alone}
 use Rattle.turn_lock.proofs.turns.Turns.close.Goals as goal
 
 pub unload-cells-requires-clause-home : goal.unload-cells-requires-clause-home
@@ -16,8 +16,19 @@ unload-cells-requires-clause-home g c k lt =
     let at = out.1 k (omega (arith, out.0)) in
     (at.0, at.1)
 
-pub returns : goal.returns
-returns g c =
+pub returns-clause-accounted : goal.returns-clause-accounted
+returns-clause-accounted g c i lt =
+    let z = c.args.self in
+    let s = c.args.seat in
+    let out = closes g.row.C-Tally.Denot g.C.TurnCell.tag g.C.TurnCell.lawful g.C.TurnCell.history (map g.C.TurnCell.tag z.table.shared.key.value.items) s.seat.id s.seat.me.0 _ _ c.requires.first c.requires.free c.close_with.ensures.values.2 in
+    let sized = c.close_with.ensures.counts.1 in
+    let items = c.close_with.result.slots.ok.0 in
+    let count = c.unload-cells.ensures.count in
+    let same = ap length c.from_vec.ensures.same in
+    accounts_alone g.row.C-Tally.Denot g.C.TurnCell.tag g.C.TurnCell.lawful g.C.TurnCell.history (map g.C.TurnCell.tag z.table.shared.key.value.items) s.seat.id s.seat.me.0 _ _ c.requires.first c.close_with.ensures.values.2 i (omega (arith, out.0))
+
+pub returns-clause-back : goal.returns-clause-back
+returns-clause-back g c =
     let z = c.args.self in
     let s = c.args.seat in
     let out = closes g.row.C-Tally.Denot g.C.TurnCell.tag g.C.TurnCell.lawful g.C.TurnCell.history (map g.C.TurnCell.tag z.table.shared.key.value.items) s.seat.id s.seat.me.0 _ _ c.requires.first c.requires.free c.close_with.ensures.values.2 in

@@ -1,0 +1,3 @@
+-- What the public calls claim: of the two ends, and of a look at a link and a take from it. Private functions claim nothing else.
+pub mod Links
+pub mod Looks

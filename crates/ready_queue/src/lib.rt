@@ -1,0 +1,27 @@
+//! Tickets: numbers that any number of threads put into one queue and take out of it, first in, first out, each once.
+//!
+//! Calls: `Tickets::new` makes a queue and its first pass. `put` adds a ticket at the back, or finds the queue full, and
+//! `take` takes the one in front, or finds none. `split_pass` makes a pass for another thread, and `join_pass` takes it
+//! back. `put` and `take` may wait for other threads, and after `new` no call takes memory.
+//!
+//! A contract sees of a pass its view (`view_of`): the tickets that it put and those that it took, in order, and how often it
+//! was refused. Whatever the threads do, what all passes put is what they took and what waits (`TicketRule`). A refusal, and
+//! the ticket that is taken, are told of a moment of the call. `ticket_law` says of a queue as a list what first in, first
+//! out comes to.
+//!
+//! Only tested: that `new` and `split_pass` answer `Ok` where memory is ample, and that between two threads no ticket is lost.
+//! Not said: that `put` and `take` return, or that a ticket is ever taken.
+#![tactic(auto)]
+
+mod pass;
+mod plays;
+mod queue;
+#[cfg(test)]
+mod tests;
+mod tickets;
+mod view;
+
+pub use pass::TicketPass;
+pub use queue::{Full, ticket_law};
+pub use tickets::Tickets;
+pub use view::PassView;
