@@ -1,5 +1,8 @@
+pub mod CommandLemmas
+pub mod FeedsLemmas
 pub mod LoadLemmas
 pub mod ReplyLemmas
 pub mod RunLemmas
-pub mod WriteLemmas
 pub mod TopLemmas
+pub mod VerdictLemmas
+pub mod WriteLemmas

@@ -1,164 +1,155 @@
 -- From files that were loaded to the reply.
-use Rattle.std.proofs.Common.{◌≡◌, ◌⊎◌, inl, inr, ℕ, List, [], ◌∷◌, ◌++◌, append_assoc, Option, None, Some, true, false, refl, sym, ◌∙◌, subst}
+use Rattle.std.proofs.Common.{◌≡◌, ◌⊎◌, inl, inr, ℕ, List, [], ◌∷◌, ◌++◌, append_assoc, Option, None, Some, refl, sym, ap, ◌∙◌, subst}
 use Rattle.std.proofs.lemmas.List.{append-nil}
 use Rattle.std.specs.Prelude.{Result, Ok, Err}
-use Rattle.join_base.specs.declared.message.Message.{Message}
-use Rattle.join_base.specs.Outside.{Told, with_asked}
+use Rattle.join_base.specs.Outside.{Files, Told, with_asked}
 use Rattle.script_types.specs.declared.plan.Plan.{Plan}
-use Rattle.join_tool.specs.declared.load.LoadFault.{LoadFault}
-use Rattle.join_tool.specs.declared.load.LoadFault.TheVariants as load
+use Rattle.command_words.specs.Command.{Command, RunWords, Run, Check, Replay, Lint}
 use Rattle.join_tool.specs.declared.reply.Reply.{Reply}
 use Rattle.join_tool.specs.declared.reply.Reply.TheVariants as reply
-use Rattle.join_tool.specs.declared.reply.Unanswered.{Unanswered}
-use Rattle.first_form.specs.Runs.{can_run}
-use Rattle.join_tool.specs.Command.{Command, Run, Check, command_of}
-use Rattle.join_tool.specs.Verdict.{GivesRunnable, MayAskBy, OfWords, Words, nothing, first, both}
-use Rattle.join_tool.specs.Loading.{LoadsFeed, LoadsScript, Tells}
-use Rattle.join_tool.specs.Replying.{CommandReplies, CommandVerdict, Replies, ReplyVerdict, fault_reply, verdict_of}
-
--- the names that were asked stand behind the others
-asked_one : (before : Told) (name : List ℕ) → with_asked before name ≡ record { files = before.files; asked = before.asked ++ name ∷ [] }
-asked_one before name = refl
+use Rattle.join_tool.specs.declared.stop.Stop.{Stop}
+use Rattle.join_tool.specs.declared.stop.Stop.TheVariants as stop
+use Rattle.script_types.specs.Typed.{IsTyped}
+use Rattle.join_tool.specs.Files.{file_of, log_of}
+use Rattle.join_tool.specs.Verdict.{Feeds, FeedsAnswer, Given, IsBeginning, MayAsk, MayAskRun, Refused, ScriptGives, Verdict, asks_feeds, asks_nothing, asks_script, replay_asks_nothing, replay_asks_script, replay_asks_log, fetched, feeds_answer, limits_of, run_of}
+use Rattle.join_tool.specs.Loading.{LoadsFeeds, LoadsLog, LoadsScript, ReadsFeeds, ReadsLog, StopsFeeds, StopsScript, Tells, stopped_by}
+use Rattle.join_tool.specs.Replying.{OfStop, Replies, replied_with}
 
 asked_none : (before : Told) → before ≡ record { files = before.files; asked = before.asked ++ [] }
 asked_none before = λ i. record { files = before.files; asked = sym (append-nil before.asked) i }
 
-asked_two : (before : Told) (one other : List ℕ) → with_asked (with_asked before one) other ≡ record { files = before.files; asked = before.asked ++ one ∷ other ∷ [] }
-asked_two before one other = λ i. record { files = before.files; asked = append_assoc before.asked (one ∷ []) (other ∷ []) i }
+-- ---- a script that stops its command
+
+module _ (command : Command) (name : List ℕ) (none : (files : Files) → MayAsk files command []) (one : (files : Files) → MayAsk files command (name ∷ []))
+    (refused : (files : Files) (o : Option Verdict) → StopsScript (file_of files name) o → OfStop files command o) where
+  stops : (before now : Told) (why : Stop) → LoadsScript before now name (Err why) → Replies command before now (Err why)
+  stops before now why loaded = by_asks loaded.asks
+    where
+      by_asks : (now ≡ with_asked before name) ⊎ (now ≡ before) → Replies command before now (Err why)
+      by_asks (inl is) = record { asked = name ∷ []; told_is = is; may_ask = one before.files; verdict = refused before.files (stopped_by why) loaded.answer }
+      by_asks (inr is) = record { asked = []; told_is = is ∙ asked_none before; may_ask = none before.files; verdict = refused before.files (stopped_by why) loaded.answer }
+
+  stopped : (before now : Option Told) (why : Stop) → Tells before now (λ b n. LoadsScript b n name (Err why)) → Tells before now (λ b n. Replies command b n (Err why))
+  stopped None now why loaded = tt
+  stopped (Some before) None why loaded = absurd loaded
+  stopped (Some before) (Some now) why loaded = stops before now why loaded
 
 -- ---- `run`
 
-module _ (script_name feed_name : List ℕ) where
-  abbrev RunReplies : Told → Told → Result Reply Unanswered → Type 0
-  RunReplies before now result = CommandReplies (Run script_name feed_name) before now result
+module _ (run : RunWords) where
+  run_refused : (files : Files) (o : Option Verdict) → StopsScript (file_of files run.script) o → OfStop files (Run run) o
+  run_refused files None is = tt
+  run_refused files (Some verdict) is = inl is
 
-  script_asked : (before now : Told) (result : Result Reply Unanswered) → now ≡ with_asked before script_name → CommandVerdict before (Run script_name feed_name) result → RunReplies before now result
-  script_asked before now result is verdict = record { asked = script_name ∷ []; told_is = is; may_ask = first; verdict = verdict }
-
-  -- the script stops it
-  script_stops : (before now : Told) (fault : LoadFault) → LoadsScript before now script_name (Err fault) → RunReplies before now (fault_reply fault 1)
-  script_stops before now load.Failed l = script_asked before now (fault_reply load.Failed 1) l.asks tt
-  script_stops before now load.TooLong l = script_asked before now (fault_reply load.TooLong 1) l.asks (inl (refl, l.answer))
-  script_stops before now (load.Script place cause) l = script_asked before now (fault_reply (load.Script place cause) 1) l.asks l.answer
-  script_stops before now load.Feed l = absurd l.answer
-  script_stops before now load.NoMemory l = by_asks l.asks
-    where
-      by_asks : (now ≡ with_asked before script_name) ⊎ (now ≡ before) → RunReplies before now (fault_reply load.NoMemory 1)
-      by_asks (inl is) = script_asked before now (fault_reply load.NoMemory 1) is tt
-      by_asks (inr is) = record { asked = []; told_is = is ∙ asked_none before; may_ask = nothing; verdict = tt }
-
-  pub script_stopped : (before now : Option Told) (fault : LoadFault) → Tells before now (λ b n. LoadsScript b n script_name (Err fault))
-      → Tells before now (λ b n. RunReplies b n (fault_reply fault 1))
-  script_stopped None now fault l = tt
-  script_stopped (Some before) None fault l = absurd l
-  script_stopped (Some before) (Some now) fault l = script_stops before now fault l
+  pub run_script_stopped : (before now : Option Told) (why : Stop) → Tells before now (λ b n. LoadsScript b n run.script (Err why)) → Tells before now (λ b n. Replies (Run run) b n (Err why))
+  run_script_stopped = stopped (Run run) run.script (λ files. asks_nothing) (λ files. asks_script) run_refused
 
   module _ (plan : Plan) where
-    -- the plan can't run yet
-    pub not_built : (before now : Option Told) → Tells before now (λ b n. LoadsScript b n script_name (Ok plan)) → can_run plan ≡ false → Tells before now (λ b n. RunReplies b n (Ok reply.NotBuilt))
-    not_built None now l stops = tt
-    not_built (Some before) None l stops = absurd l
-    not_built (Some before) (Some now) l stops = script_asked before now (Ok reply.NotBuilt) l.asks (plan, l.answer, stops)
+    -- what the feeds come to is what the run comes to
+    replied : (before mid now : Told) (loaded : Result Feeds Stop) (result : Result Reply Stop) → LoadsScript before mid run.script (Ok plan) → LoadsFeeds mid now plan run.feeds loaded
+        → ((files : Files) → ScriptGives (file_of files run.script) plan → ReadsFeeds (feeds_answer files plan 1 run.feeds) loaded → OfStop files (Run run) (replied_with result))
+        → Replies (Run run) before now result
+    replied before mid now loaded result one l verdict =
+        let P : Told → Type 0 = λ m. LoadsFeeds m now plan run.feeds loaded in
+        let second = subst P one.asks l in
+        record {
+          asked = run.script ∷ second.asked;
+          told_is = second.told_is ∙ (λ i. record { files = before.files; asked = append_assoc before.asked (run.script ∷ []) second.asked i });
+          may_ask = asks_feeds plan second.asked one.answer second.in_order;
+          verdict = verdict before.files one.answer second.answer;
+        }
 
-    both_asked : (before now : Told) (result : Result Reply Unanswered) → GivesRunnable before.files script_name plan → now ≡ with_asked (with_asked before script_name) feed_name
-        → CommandVerdict before (Run script_name feed_name) result → RunReplies before now result
-    both_asked before now result gives is verdict = record {
-      asked = script_name ∷ feed_name ∷ [];
-      told_is = is ∙ asked_two before script_name feed_name;
-      may_ask = both plan gives;
-      verdict = verdict;
-    }
+    stop_verdict : (files : Files) → ScriptGives (file_of files run.script) plan → (o : Option Verdict) → StopsFeeds (feeds_answer files plan 1 run.feeds) o → OfStop files (Run run) o
+    stop_verdict files gives None is = tt
+    stop_verdict files gives (Some verdict) is = inr (plan, gives, ap (run_of plan (limits_of run.options)) is)
 
-    -- the feed stops it
-    feed_stops : (before now : Told) (fault : LoadFault) → GivesRunnable before.files script_name plan → LoadsFeed (with_asked before script_name) now feed_name plan (Err fault)
-        → RunReplies before now (fault_reply fault 2)
-    feed_stops before now load.Failed gives l = both_asked before now (fault_reply load.Failed 2) gives l.asks tt
-    feed_stops before now load.TooLong gives l = both_asked before now (fault_reply load.TooLong 2) gives l.asks (inr (refl, (plan, gives, l.answer)))
-    feed_stops before now (load.Script place cause) gives l = absurd l.answer
-    feed_stops before now load.Feed gives l = both_asked before now (fault_reply load.Feed 2) gives l.asks (plan, gives, l.answer)
-    feed_stops before now load.NoMemory gives l = by_asks l.asks
-      where
-        by_asks : (now ≡ with_asked (with_asked before script_name) feed_name) ⊎ (now ≡ with_asked before script_name) → RunReplies before now (fault_reply load.NoMemory 2)
-        by_asks (inl is) = both_asked before now (fault_reply load.NoMemory 2) gives is tt
-        by_asks (inr is) = script_asked before now (fault_reply load.NoMemory 2) is tt
+    pub run_feeds_stopped : (before mid now : Option Told) (why : Stop) → Tells before mid (λ b n. LoadsScript b n run.script (Ok plan)) → Tells mid now (λ b n. LoadsFeeds b n plan run.feeds (Err why))
+        → Tells before now (λ b n. Replies (Run run) b n (Err why))
+    run_feeds_stopped None mid now why one l = tt
+    run_feeds_stopped (Some before) None now why one l = absurd one
+    run_feeds_stopped (Some before) (Some mid) None why one l = absurd l
+    run_feeds_stopped (Some before) (Some mid) (Some now) why one l = replied before mid now (Err why) (Err why) one l (λ files gives is. stop_verdict files gives (stopped_by why) is)
 
-    module _ (runs : can_run plan ≡ true) where
-      pub feed_stopped : (before mid now : Option Told) (fault : LoadFault) → Tells before mid (λ b n. LoadsScript b n script_name (Ok plan))
-          → Tells mid now (λ b n. LoadsFeed b n feed_name plan (Err fault)) → Tells before now (λ b n. RunReplies b n (fault_reply fault 2))
-      feed_stopped None mid now fault one l = tt
-      feed_stopped (Some before) None now fault one l = absurd one
-      feed_stopped (Some before) (Some mid) None fault one l = absurd l
-      feed_stopped (Some before) (Some mid) (Some now) fault one l =
-          let P : Told → Type 0 = λ m. LoadsFeed m now feed_name plan (Err fault) in
-          feed_stops before now fault (record { given = one.answer; runs = runs }) (subst P one.asks l)
+    abbrev run_answer : Feeds → Reply
+    run_answer all = reply.Run plan (limits_of run.options) all
 
-      -- nothing stops it
-      pub all_loaded : (before mid now : Option Told) (posts : List (ℕ × Message)) → Tells before mid (λ b n. LoadsScript b n script_name (Ok plan))
-          → Tells mid now (λ b n. LoadsFeed b n feed_name plan (Ok posts)) → Tells before now (λ b n. RunReplies b n (Ok (reply.Run plan posts)))
-      all_loaded None mid now posts one l = tt
-      all_loaded (Some before) None now posts one l = absurd one
-      all_loaded (Some before) (Some mid) None posts one l = absurd l
-      all_loaded (Some before) (Some mid) (Some now) posts one l =
-          let P : Told → Type 0 = λ m. LoadsFeed m now feed_name plan (Ok posts) in
-          let second = subst P one.asks l in
-          let gives : GivesRunnable before.files script_name plan = record { given = one.answer; runs = runs } in
-          both_asked before now (Ok (reply.Run plan posts)) gives second.asks (gives, refl, (posts, second.answer, refl))
+    pub run_replied : (before mid now : Option Told) (all : Feeds) → Tells before mid (λ b n. LoadsScript b n run.script (Ok plan)) → Tells mid now (λ b n. LoadsFeeds b n plan run.feeds (Ok all))
+        → Tells before now (λ b n. Replies (Run run) b n (Ok (run_answer all)))
+    run_replied None mid now all one l = tt
+    run_replied (Some before) None now all one l = absurd one
+    run_replied (Some before) (Some mid) None all one l = absurd l
+    run_replied (Some before) (Some mid) (Some now) all one l =
+        replied before mid now (Ok all) (Ok (run_answer all)) one l (λ files gives is. inr (plan, gives, ap (run_of plan (limits_of run.options)) is))
 
 -- ---- `check`
 
-module _ (script_name : List ℕ) where
-  abbrev CheckReplies : Told → Told → Result Reply Unanswered → Type 0
-  CheckReplies before now result = CommandReplies (Check script_name) before now result
+module _ (name : List ℕ) where
+  check_refused : (files : Files) (o : Option Verdict) → StopsScript (file_of files name) o → OfStop files (Check name) o
+  check_refused files None is = tt
+  check_refused files (Some verdict) is = inl is
 
-  checked : (before now : Told) (result : Result Reply Unanswered) → now ≡ with_asked before script_name → CommandVerdict before (Check script_name) result → CheckReplies before now result
-  checked before now result is verdict = record { asked = script_name ∷ []; told_is = is; may_ask = inr refl; verdict = verdict }
+  pub check_stopped : (before now : Option Told) (why : Stop) → Tells before now (λ b n. LoadsScript b n name (Err why)) → Tells before now (λ b n. Replies (Check name) b n (Err why))
+  check_stopped = stopped (Check name) name (λ files. inl refl) (λ files. inr refl) check_refused
 
-  check_stops : (before now : Told) (fault : LoadFault) → LoadsScript before now script_name (Err fault) → CheckReplies before now (fault_reply fault 1)
-  check_stops before now load.Failed l = checked before now (fault_reply load.Failed 1) l.asks tt
-  check_stops before now load.TooLong l = checked before now (fault_reply load.TooLong 1) l.asks (refl, l.answer)
-  check_stops before now (load.Script place cause) l = checked before now (fault_reply (load.Script place cause) 1) l.asks l.answer
-  check_stops before now load.Feed l = absurd l.answer
-  check_stops before now load.NoMemory l = by_asks l.asks
-    where
-      by_asks : (now ≡ with_asked before script_name) ⊎ (now ≡ before) → CheckReplies before now (fault_reply load.NoMemory 1)
-      by_asks (inl is) = checked before now (fault_reply load.NoMemory 1) is tt
-      by_asks (inr is) = record { asked = []; told_is = is ∙ asked_none before; may_ask = inl refl; verdict = tt }
+  pub plan_checked : (plan : Plan) (before now : Option Told) → Tells before now (λ b n. LoadsScript b n name (Ok plan)) → Tells before now (λ b n. Replies (Check name) b n (Ok (reply.Check plan)))
+  plan_checked plan None now loaded = tt
+  plan_checked plan (Some before) None loaded = absurd loaded
+  plan_checked plan (Some before) (Some now) loaded = record { asked = name ∷ []; told_is = loaded.asks; may_ask = inr refl; verdict = inr (plan, loaded.answer, refl) }
 
-  pub check_stopped : (before now : Option Told) (fault : LoadFault) → Tells before now (λ b n. LoadsScript b n script_name (Err fault))
-      → Tells before now (λ b n. CheckReplies b n (fault_reply fault 1))
-  check_stopped None now fault l = tt
-  check_stopped (Some before) None fault l = absurd l
-  check_stopped (Some before) (Some now) fault l = check_stops before now fault l
+-- ---- `lint`
 
-  pub plan_checked : (plan : Plan) (before now : Option Told) → Tells before now (λ b n. LoadsScript b n script_name (Ok plan)) → Tells before now (λ b n. CheckReplies b n (Ok (reply.Check plan)))
-  plan_checked plan None now l = tt
-  plan_checked plan (Some before) None l = absurd l
-  plan_checked plan (Some before) (Some now) l = checked before now (Ok (reply.Check plan)) l.asks l.answer
+module _ (name : List ℕ) where
+  lint_refused : (files : Files) (o : Option Verdict) → StopsScript (file_of files name) o → OfStop files (Lint name) o
+  lint_refused files None is = tt
+  lint_refused files (Some verdict) is = inl is
 
--- ---- from a command to words
+  pub lint_stopped : (before now : Option Told) (why : Stop) → Tells before now (λ b n. LoadsScript b n name (Err why)) → Tells before now (λ b n. Replies (Lint name) b n (Err why))
+  lint_stopped = stopped (Lint name) name (λ files. inl refl) (λ files. inr refl) lint_refused
 
-words_verdict : (words : Words) (command : Command) (before : Told) (result : Result Reply Unanswered) → command_of words ≡ Some command → CommandVerdict before command result → ReplyVerdict before words result
-words_verdict words command before (Ok answer) is verdict = let P : Option Command → Type 0 = λ c. OfWords before.files c (verdict_of answer) in subst P (sym is) verdict
-words_verdict words command before (Err fault) is verdict = tt
+  pub plan_linted : (plan : Plan) (before now : Option Told) → Tells before now (λ b n. LoadsScript b n name (Ok plan)) → Tells before now (λ b n. Replies (Lint name) b n (Ok (reply.Lint plan)))
+  plan_linted plan None now loaded = tt
+  plan_linted plan (Some before) None loaded = absurd loaded
+  plan_linted plan (Some before) (Some now) loaded = record { asked = name ∷ []; told_is = loaded.asks; may_ask = inr refl; verdict = inr (plan, loaded.answer, refl) }
 
-words_replies : (words : Words) (command : Command) (before now : Told) (result : Result Reply Unanswered) → command_of words ≡ Some command → CommandReplies command before now result → Replies words before now result
-words_replies words command before now result is r = record {
-  asked = r.asked;
-  told_is = r.told_is;
-  are_asked = let P : Option Command → Type 0 = λ c. MayAskBy before.files c r.asked in subst P (sym is) r.may_ask;
-  verdict = words_verdict words command before result is r.verdict;
-}
+-- ---- `replay`
 
-pub command_replied : (words : Words) (command : Command) (before now : Option Told) (result : Result Reply Unanswered) → command_of words ≡ Some command
-    → Tells before now (λ b n. CommandReplies command b n result) → Tells before now (λ b n. Replies words b n result)
-command_replied words command None now result is r = tt
-command_replied words command (Some before) None result is r = absurd r
-command_replied words command (Some before) (Some now) result is r = words_replies words command before now result is r
+module _ (script log : List ℕ) where
+  replay_refused : (files : Files) (o : Option Verdict) → StopsScript (file_of files script) o → OfStop files (Replay script log) o
+  replay_refused files None is = tt
+  replay_refused files (Some verdict) is = inl is
 
--- no command: nothing is asked
-pub usage_replied : (words : Words) (told : Option Told) → command_of words ≡ None → Tells told told (λ b n. Replies words b n (Ok reply.Usage))
-usage_replied words None is = tt
-usage_replied words (Some before) is =
-    let P : Option Command → Type 0 = λ c. MayAskBy before.files c [] in
-    let Q : Option Command → Type 0 = λ c. OfWords before.files c (verdict_of reply.Usage) in
-    record { asked = []; told_is = asked_none before; are_asked = subst P (sym is) refl; verdict = subst Q (sym is) refl }
+  pub replay_script_stopped : (before now : Option Told) (why : Stop) → Tells before now (λ b n. LoadsScript b n script (Err why)) → Tells before now (λ b n. Replies (Replay script log) b n (Err why))
+  replay_script_stopped = stopped (Replay script log) script (λ files. replay_asks_nothing) (λ files. replay_asks_script) replay_refused
+
+  asked_both : (before now : Told) → now ≡ with_asked (with_asked before script) log → now ≡ record { files = before.files; asked = before.asked ++ (script ∷ log ∷ []) }
+  asked_both before now is = is ∙ (λ i. record { files = before.files; asked = append_assoc before.asked (script ∷ []) (log ∷ []) i })
+
+  module _ (plan : Plan) (typed : IsTyped plan) where
+    log_verdict : (files : Files) → ScriptGives (file_of files script) plan → (o : Option Verdict) → ReadsLog plan (log_of files log) o → OfStop files (Replay script log) o
+    log_verdict files gives None is = tt
+    log_verdict files gives (Some verdict) is = inr (plan, gives, (typed, is))
+
+    stops_log : (before now : Told) (why : Stop) → ScriptGives (file_of before.files script) plan → LoadsLog (with_asked before script) now plan log (Err why) → Replies (Replay script log) before now (Err why)
+    stops_log before now why gives l = by_asks l.asks
+      where
+        by_asks : (now ≡ with_asked (with_asked before script) log) ⊎ (now ≡ with_asked before script) → Replies (Replay script log) before now (Err why)
+        by_asks (inl is) = record { asked = script ∷ log ∷ []; told_is = asked_both before now is; may_ask = replay_asks_log plan gives; verdict = log_verdict before.files gives (stopped_by why) l.answer }
+        by_asks (inr is) = record { asked = script ∷ []; told_is = is; may_ask = replay_asks_script; verdict = log_verdict before.files gives (stopped_by why) l.answer }
+
+    pub replay_log_stopped : (before mid now : Option Told) (why : Stop) → Tells before mid (λ b n. LoadsScript b n script (Ok plan)) → Tells mid now (λ b n. LoadsLog b n plan log (Err why))
+        → Tells before now (λ b n. Replies (Replay script log) b n (Err why))
+    replay_log_stopped None mid now why one l = tt
+    replay_log_stopped (Some before) None now why one l = absurd one
+    replay_log_stopped (Some before) (Some mid) None why one l = absurd l
+    replay_log_stopped (Some before) (Some mid) (Some now) why one l = let P : Told → Type 0 = λ m. LoadsLog m now plan log (Err why) in stops_log before now why one.answer (subst P one.asks l)
+
+    accepts_log : (before now : Told) (arrivals : ℕ) → ScriptGives (file_of before.files script) plan → LoadsLog (with_asked before script) now plan log (Ok arrivals)
+        → Replies (Replay script log) before now (Ok (reply.Accepted arrivals))
+    accepts_log before now arrivals gives l = record { asked = script ∷ log ∷ []; told_is = asked_both before now l.asks; may_ask = replay_asks_log plan gives; verdict = inr (plan, gives, (typed, l.answer)) }
+
+    pub log_replayed : (before mid now : Option Told) (arrivals : ℕ) → Tells before mid (λ b n. LoadsScript b n script (Ok plan)) → Tells mid now (λ b n. LoadsLog b n plan log (Ok arrivals))
+        → Tells before now (λ b n. Replies (Replay script log) b n (Ok (reply.Accepted arrivals)))
+    log_replayed None mid now arrivals one l = tt
+    log_replayed (Some before) None now arrivals one l = absurd one
+    log_replayed (Some before) (Some mid) None arrivals one l = absurd l
+    log_replayed (Some before) (Some mid) (Some now) arrivals one l = let P : Told → Type 0 = λ m. LoadsLog m now plan log (Ok arrivals) in accepts_log before now arrivals one.answer (subst P one.asks l)

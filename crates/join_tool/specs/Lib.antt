@@ -1,11 +1,13 @@
+-- what `join_main` claims
 pub mod Command
-pub mod Asked
-pub mod Numbers
+pub mod Files
 pub mod Verdict
+pub mod LintText
 pub mod Output
+pub mod Answer
+pub mod Top
+pub mod Numbers
+-- what the private functions compute
 pub mod Loading
 pub mod Replying
-pub mod Sent
 pub mod Writing
-pub mod Top
-pub mod Answer

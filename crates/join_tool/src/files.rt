@@ -1,27 +1,64 @@
 //! Real files and real output: the edge of the program, which tells nothing of its bytes.
-ghost use Rattle.std.specs.Prelude.{◌≡◌, ◌<◌, ◌≤◌, ◌+◌, ◌^◌, ℕ, List, length, IfOk, None, min};
+ghost use Rattle.std.specs.Prelude.{◌≡◌, ◌<◌, ◌≤◌, ◌+◌, ◌^◌, ℕ, List, length, IfOk, OnOk, None, min};
 ghost use Rattle.join_base.specs.Outside.{FetchCause, FetchTells, IsCount, WriteCause, WriteTells};
 
-use join_base::{Bytes, Failed, FetchFault, Inputs, Sink};
+use join_base::{Bytes, Failed, FetchFault, Inputs, NoMemory, Sink};
 use std::alloc::Global;
 use std::fs;
 use std::io::{self, ErrorKind, Read, Write};
 use std::rt::Files;
 
-// Reads to the end, or one byte past `max`.
-fn read_up_to<F: Read + Drop>(alloc: Global, file: F, max: u64) -> Result<Bytes, FetchFault>
+/// How often a read or a write is made where signals interrupt it.
+pub const MAX_TRIES: u32 = 1_000;
+
+// Reads some bytes, or none at the end.
+fn read_some<F: Read>(file: &mut F, buffer: &mut [u8]) -> Result<usize, FetchFault>
+    ensures within { IfOk result (λ count. count ≤ length buffer.old) }
+    ensures same_length { length buffer.new ≡ length buffer.old }
+{
+    for _ in 0..MAX_TRIES {
+        match file.read(buffer) {
+            Ok(count) => return Ok(count),
+            Err(error) => {
+                if error.kind() != ErrorKind::Interrupted {
+                    return Err(fault_of(&error));
+                }
+            }
+        }
+    }
+    Err(FetchFault::Failed)
+}
+
+// Room for this many bytes.
+fn buffer_of(alloc: Global, size: usize) -> Result<Vec<u8>, NoMemory>
+    ensures { IfOk result (λ buffer. length buffer.items ≡ size) }
+{
+    let buffer = vec![in alloc; 0u8; size]?;
+    Ok(buffer)
+}
+
+fn append(bytes: &mut Vec<u8>, piece: &[u8]) -> Result<(), NoMemory>
+    ensures { OnOk result (length bytes.new.items ≡ length bytes.old.items + length piece.now) }
+{
+    bytes.extend_from_slice(piece)?;
+    Ok(())
+}
+
+/// Reads to the end, or some bytes past `max`.
+pub fn read_up_to<F: Read + Drop>(alloc: Global, mut file: F, max: u64) -> Result<Bytes, FetchFault>
     ensures within { IfOk result (λ bytes. length bytes ≤ max) }
 {
     let mut bytes = Vec::new(alloc);
-    match file.take(max.saturating_add(1)).read_to_end(&mut bytes) {
-        Ok(_) => {
-            if bytes.len() as u64 > max {
-                return Err(FetchFault::TooLong);
-            }
-            Ok(Bytes::from_vec(bytes))
+    let size = max.saturating_add(1).min(65_536) as usize;
+    let mut buffer = buffer_of(alloc, size)?;
+    'pieces: while bytes.len() as u64 <= max {
+        let count = read_some(&mut file, buffer.as_mut_slice())?;
+        if count == 0 {
+            return Ok(Bytes::from_vec(bytes));
         }
-        Err(error) => Err(fault_of(&error)),
+        append(&mut bytes, &buffer[..count])?;
     }
+    Err(FetchFault::TooLong)
 }
 
 // Want of memory is no fault of the file.
@@ -63,8 +100,8 @@ impl<'a, R: Files> Inputs for FileInputs<'a, R> {
 
     ghost faults = { λ s. s.faults };
 
-    /// A file that is missing, a folder, or one that can't be read is `Failed`. At most `max` bytes and one more are
-    /// read, so a device that never ends is `TooLong`.
+    /// A file that is missing, a folder, or one that can't be read is `Failed`, and so is one whose reads are interrupted again
+    /// and again. Reading ends soon behind `max` bytes, so a device that never ends is `TooLong`.
     fn fetch(&mut self, alloc: Global, name: &str, max: u64) -> Result<Bytes, FetchFault> {
         let read = read_file(self.rt, alloc, name, max);
         if let Err(FetchFault::Failed) = read {
@@ -94,7 +131,7 @@ fn write_some<W: Write>(writer: &mut W, piece: &[u8]) -> Result<usize, Failed>
     requires some { 0 < length piece.now }
     ensures count { IfOk result (IsCount piece.now) }
 {
-    for _ in 0..u64::MAX {
+    for _ in 0..MAX_TRIES {
         match writer.write(piece) {
             Ok(0) => return Err(Failed),
             Ok(count) => return Ok(count),

@@ -1,64 +1,37 @@
-//! Fetching and reading the files of a run.
-ghost use Rattle.std.specs.Prelude.{◌≡◌, IfOk};
-ghost use Rattle.first_form.specs.FirstForm.{IsFirstPlan, AreFirstPosts};
+//! Fetching and reading the files of a command.
+ghost use Rattle.std.specs.Prelude.{◌≡◌, ◌≢◌, ◌≤◌, length, Err, IfOk};
+ghost use Rattle.std.specs.List.{AllByRecursion};
 ghost use Rattle.script_types.specs.Typed.{IsTyped};
-ghost use Rattle.join_tool.specs.Loading.{LoadCause, LoadsFeed, LoadsScript, ReadsPlan, ReadsPosts, Tells};
+ghost use Rattle.fair_semantics.specs.Fits.{PostFits};
+ghost use Rattle.sensor_feed.specs.Feed.{feed_of};
+ghost use Rattle.command_words.specs.Views.{words_in};
+ghost use Rattle.join_tool.specs.Loading.{LoadCause, LoadsFeed, LoadsFeeds, LoadsScript, ReadsFeed, ReadsPlan, Tells, fetch_stop};
+ghost use Rattle.join_tool.specs.Verdict.{posts_or};
 
-use first_form::{Refusal, feed_of};
-use join_base::{FetchFault, Inputs, Posts, Word};
+use crate::stop::{Refusal, Stop};
+use join_base::{FeedList, FetchFault, Inputs, Posts, Word};
 use script_check::check_script;
-use script_reader::{ScriptCause, ScriptFault, read_script};
+use script_reader::read_script;
 use script_types::Plan;
+use sensor_feed::{FeedFault, read_feed};
 use std::alloc::Global;
 
 /// The most bytes of a script and of a feed.
 pub const MAX_FILE: u64 = 16_777_216;
 
-/// Why a file gave nothing.
-#[derive(Clone, Copy, PartialEq, Eq, Debug)]
-pub enum LoadFault {
-    /// It could not be read.
-    Failed,
-    /// It has too many bytes.
-    TooLong,
-    /// It is a script with this fault.
-    Script { place: u64, cause: ScriptCause },
-    /// It is a feed whose bytes are not of the form.
-    Feed,
-    NoMemory,
-}
-
-impl From<FetchFault> for LoadFault {
-    ghost use Rattle.std.specs.Prelude.{◌≡◌};
-    ghost use Rattle.join_tool.specs.Loading.{fetch_fault};
-
-    ghost from_gives = { λ fault e. e ≡ fetch_fault fault };
-
-    fn from(fault: FetchFault) -> LoadFault {
-        match fault {
-            FetchFault::Failed => LoadFault::Failed,
-            FetchFault::TooLong => LoadFault::TooLong,
-            FetchFault::NoMemory => LoadFault::NoMemory,
-        }
-    }
-}
-
-impl From<ScriptFault> for LoadFault {
-    ghost use Rattle.std.specs.Prelude.{◌≡◌};
-    ghost use Rattle.join_tool.specs.Loading.{script_fault};
-
-    ghost from_gives = { λ fault e. e ≡ script_fault fault };
-
-    fn from(fault: ScriptFault) -> LoadFault {
-        match fault {
-            ScriptFault::Bad { place, cause } => LoadFault::Script { place, cause },
-            ScriptFault::NoMemory => LoadFault::NoMemory,
-        }
+/// Why the file of this number gave no bytes.
+pub fn fetch_stop(file: u32, fault: FetchFault) -> Stop
+    ensures { result ≡ fetch_stop file fault }
+{
+    match fault {
+        FetchFault::Failed => Stop::ReadFault,
+        FetchFault::TooLong => Stop::Refused(Refusal::TooLong(file)),
+        FetchFault::NoMemory => Stop::NoMemory,
     }
 }
 
 // The plan of a script's bytes.
-fn read_plan(alloc: Global, bytes: &[u8]) -> Result<Plan, LoadFault>
+fn read_plan(alloc: Global, bytes: &[u8]) -> Result<Plan, Stop>
     ensures plan { ReadsPlan bytes.now result }
     ensures typed { IfOk result IsTyped }
 {
@@ -67,44 +40,74 @@ fn read_plan(alloc: Global, bytes: &[u8]) -> Result<Plan, LoadFault>
 }
 
 /// Fetches a script and reads its plan, which is well typed.
-pub fn load_script<I: Inputs>(alloc: Global, inputs: &mut I, name: &Word) -> Result<Plan, LoadFault>
+pub fn load_script<I: Inputs>(alloc: Global, inputs: &mut I, name: &Word) -> Result<Plan, Stop>
     ensures told { Tells (I.tells inputs.old) (I.tells inputs.new) (λ before now. LoadsScript before now name.now result) }
     ensures cause { LoadCause (I.faults inputs.old) (I.faults inputs.new) result }
     ensures typed { IfOk result IsTyped }
 {
     match inputs.fetch(alloc, name.as_str(), MAX_FILE) {
         Ok(file) => read_plan(alloc, file.bytes()),
-        Err(fault) => Err(LoadFault::from(fault)),
+        Err(fault) => Err(fetch_stop(1, fault)),
     }
 }
 
-// The posts of a feed's bytes.
-fn read_posts(alloc: Global, plan: &Plan, bytes: &[u8]) -> Result<Posts, LoadFault>
-    requires first { IsFirstPlan plan.now }
-    ensures posts { ReadsPosts plan.now bytes.now result }
-    ensures first { IfOk result (AreFirstPosts plan.now) }
+// The posts of the bytes of the feed of this number.
+fn read_posts(alloc: Global, plan: &Plan, feed: u32, bytes: &[u8]) -> Result<Posts, Stop>
+    requires typed { IsTyped plan.now }
+    ensures posts { ReadsFeed (posts_or feed (feed_of plan.now bytes.now)) result }
+    ensures read { result ≢ Err Stop.ReadFault }
+    ensures fits { IfOk result (AllByRecursion (PostFits plan.now)) }
 {
-    match feed_of(alloc, plan, bytes) {
+    match read_feed(alloc, plan, bytes) {
         Ok(posts) => Ok(posts),
-        Err(Refusal::NotBuilt) => Err(LoadFault::Feed),
-        Err(Refusal::NoMemory) => Err(LoadFault::NoMemory),
+        Err(FeedFault::Bad { row, cause }) => {
+            Err(Stop::Refused(Refusal::Feed { feed, row, cause }))
+        }
+        Err(FeedFault::NoMemory) => Err(Stop::NoMemory),
     }
 }
 
-/// Fetches a feed and reads its posts.
-pub fn load_feed<I: Inputs>(
+// Fetches the feed of this number and reads its posts.
+fn load_feed<I: Inputs>(
     alloc: Global,
     inputs: &mut I,
-    name: &Word,
     plan: &Plan,
-) -> Result<Posts, LoadFault>
-    requires first { IsFirstPlan plan.now }
-    ensures told { Tells (I.tells inputs.old) (I.tells inputs.new) (λ before now. LoadsFeed before now name.now plan.now result) }
+    feed: u32,
+    name: &Word,
+) -> Result<Posts, Stop>
+    requires typed { IsTyped plan.now }
+    requires few { feed ≤ 16 }
+    ensures told { Tells (I.tells inputs.old) (I.tells inputs.new) (λ before now. LoadsFeed before now plan.now feed name.now result) }
     ensures cause { LoadCause (I.faults inputs.old) (I.faults inputs.new) result }
-    ensures first { IfOk result (AreFirstPosts plan.now) }
+    ensures fits { IfOk result (AllByRecursion (PostFits plan.now)) }
 {
     match inputs.fetch(alloc, name.as_str(), MAX_FILE) {
-        Ok(file) => read_posts(alloc, plan, file.bytes()),
-        Err(fault) => Err(LoadFault::from(fault)),
+        Ok(file) => read_posts(alloc, plan, feed, file.bytes()),
+        Err(fault) => Err(fetch_stop(feed + 1, fault)),
     }
+}
+
+/// Fetches feeds in order and reads their posts, up to the first that gives none.
+pub fn load_feeds<I: Inputs>(
+    alloc: Global,
+    inputs: &mut I,
+    plan: &Plan,
+    names: &[&Word],
+) -> Result<FeedList, Stop>
+    requires typed { IsTyped plan.now }
+    requires few { length names.now ≤ 16 }
+    ensures told { Tells (I.tells inputs.old) (I.tells inputs.new) (λ before now. LoadsFeeds before now plan.now (words_in names.now) result) }
+    ensures cause { LoadCause (I.faults inputs.old) (I.faults inputs.new) result }
+    ensures fits { IfOk result (AllByRecursion (AllByRecursion (PostFits plan.now))) }
+    ensures count { IfOk result (λ feeds. length feeds ≡ length names.now) }
+{
+    let mut feeds = FeedList::new(alloc);
+    for name in names {
+        let number = feeds.len() as u32 + 1;
+        match load_feed(alloc, inputs, plan, number, name) {
+            Ok(posts) => feeds.push(posts)?,
+            Err(stop) => return Err(stop),
+        }
+    }
+    Ok(feeds)
 }

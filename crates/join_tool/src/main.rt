@@ -1,14 +1,21 @@
-//! Runs a script of one actor with join patterns on a feed and prints the log of the run, or checks a script and prints its plan.
+//! Runs a script of actors with join patterns on feeds and prints the log of the run, checks a script and prints its plan, lists
+//! the definitions of a script that can never fire, or checks a log against its script.
 #![tactic(auto)]
 
 mod command;
 mod files;
 mod gate;
+mod law;
+mod lint_text;
 mod load;
 mod output;
+mod replay;
 mod reply;
 mod run;
+#[cfg(test)]
+mod run_tests;
 mod status;
+mod stop;
 #[cfg(test)]
 mod tests;
 mod top;

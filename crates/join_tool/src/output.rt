@@ -1,22 +1,27 @@
 //! What is written, and how it is written.
-ghost use Rattle.std.specs.Prelude.{◌≡◌, ◌∷◌, [], ◌++◌, ◌<◌, IfOk, codes};
-ghost use Rattle.std.specs.Fmt.{decimal};
-ghost use Rattle.first_form.specs.FirstForm.{AreFirstPosts, IsFirstPlan};
-ghost use Rattle.join_tool.specs.Output.{IsLog, IsOutput, cause_name, line, script_refusal};
-ghost use Rattle.plan_text.specs.PlanText.{plan_text};
-ghost use Rattle.join_tool.specs.Replying.{IsReplyStatus, IsRunnableReply, verdict_of};
-ghost use Rattle.join_tool.specs.Verdict.{default_limits};
-ghost use Rattle.join_tool.specs.Writing.{Writes};
+ghost use Rattle.std.specs.Prelude.{◌≡◌, ◌<◌, IfOk, codes};
+ghost use Rattle.std.specs.List.{list_any};
 ghost use Rattle.join_base.specs.Outside.{WriteCause};
+ghost use Rattle.plan_text.specs.PlanText.{plan_text};
+ghost use Rattle.script_types.specs.Typed.{IsTyped};
+ghost use Rattle.join_tool.specs.LintText.{lint_text};
+ghost use Rattle.join_tool.specs.Loading.{refused_as};
+ghost use Rattle.join_tool.specs.Output.{IsLog, IsOutput, IsSettled, accepted_line, cause_name, feed_line, line, log_cause_name, log_line, met_limit, row_cause_name, run_status, script_line, too_long_line};
+ghost use Rattle.join_tool.specs.Replying.{AreRunParts, IsRunnable, verdict_of};
+ghost use Rattle.join_tool.specs.Writing.{Writes};
 
+use crate::lint_text::print_findings;
 use crate::reply::Reply;
-use crate::run::run_feed;
+use crate::run::run_feeds;
 use crate::status::Status;
+use crate::stop::{LogCause, Refusal};
 use arrival_log::print_log;
-use join_base::{Bytes, Failed, NoMemory, Posts, Sink};
+use fair_semantics::{ActorRun, Ending, Limits, Run};
+use join_base::{Bytes, Failed, FeedList, NoMemory, Sink};
 use plan_text::print_plan;
 use script_reader::ScriptCause;
 use script_types::Plan;
+use sensor_feed::FeedCause;
 use std::alloc::Global;
 
 // These bytes.
@@ -28,27 +33,22 @@ fn text_of(alloc: Global, text: &[u8]) -> Result<Bytes, NoMemory>
     Ok(bytes)
 }
 
+/// The line for words that are no command.
+pub fn usage_line(alloc: Global) -> Result<Bytes, NoMemory>
+    ensures { IfOk result (λ bytes. bytes ≡ line (codes "refused usage")) }
+{
+    text_of(alloc, b"refused usage\n")
+}
+
 // The line for a file that is too long.
 fn too_long_line(alloc: Global, file: u32) -> Result<Bytes, NoMemory>
-    ensures { IfOk result (λ bytes. bytes ≡ line (codes "refused file " ++ decimal file ++ codes " too long")) }
+    ensures { IfOk result (λ bytes. bytes ≡ too_long_line file) }
 {
     let mut bytes = Bytes::new(alloc);
     bytes.push_all(b"refused file ")?;
     let digits = file.to_string(alloc)?;
     bytes.push_all(digits.as_bytes())?;
     bytes.push_all(b" too long\n")?;
-    Ok(bytes)
-}
-
-// The log of a plan over its feed.
-fn log_of(alloc: Global, plan: &Plan, posts: &Posts) -> Result<Bytes, NoMemory>
-    requires plan { IsFirstPlan plan.now }
-    requires posts { AreFirstPosts plan.now posts.now }
-    ensures { IfOk result (λ bytes. IsLog plan.now default_limits (posts.now ∷ []) Status.Done bytes) }
-{
-    let run = run_feed(alloc, plan, posts)?;
-    let mut bytes = Bytes::new(alloc);
-    print_log(alloc, plan, &run, &mut bytes)?;
     Ok(bytes)
 }
 
@@ -74,8 +74,8 @@ fn cause_name(cause: ScriptCause) -> &'static [u8]
 }
 
 // The line for a script with a fault.
-fn refused_line(alloc: Global, place: u64, cause: ScriptCause) -> Result<Bytes, NoMemory>
-    ensures { IfOk result (λ bytes. bytes ≡ script_refusal place cause) }
+fn script_line(alloc: Global, place: u64, cause: ScriptCause) -> Result<Bytes, NoMemory>
+    ensures { IfOk result (λ bytes. bytes ≡ script_line place cause) }
 {
     let mut bytes = Bytes::new(alloc);
     bytes.push_all(b"refused script ")?;
@@ -87,6 +87,140 @@ fn refused_line(alloc: Global, place: u64, cause: ScriptCause) -> Result<Bytes, 
     Ok(bytes)
 }
 
+// The name of a record's cause.
+fn row_cause_name(cause: FeedCause) -> &'static [u8]
+    ensures { result.now ≡ row_cause_name cause }
+{
+    match cause {
+        FeedCause::UnknownActor => b"UnknownActor",
+        FeedCause::UnknownMessage => b"UnknownMessage",
+        FeedCause::WrongCount => b"WrongCount",
+        FeedCause::BadInt => b"BadInt",
+        FeedCause::NotText => b"NotText",
+        FeedCause::TooLong => b"TooLong",
+    }
+}
+
+// The line for a feed with a record in fault.
+fn feed_line(alloc: Global, feed: u32, row: u64, cause: FeedCause) -> Result<Bytes, NoMemory>
+    ensures { IfOk result (λ bytes. bytes ≡ feed_line feed row cause) }
+{
+    let mut bytes = Bytes::new(alloc);
+    bytes.push_all(b"refused feed ")?;
+    let digits = feed.to_string(alloc)?;
+    bytes.push_all(digits.as_bytes())?;
+    bytes.push_all(b" row ")?;
+    let digits = row.to_string(alloc)?;
+    bytes.push_all(digits.as_bytes())?;
+    bytes.push_all(b" ")?;
+    bytes.push_all(row_cause_name(cause))?;
+    bytes.push_all(b"\n")?;
+    Ok(bytes)
+}
+
+// The name of the cause of a log.
+fn log_cause_name(cause: LogCause) -> &'static [u8]
+    ensures { result.now ≡ log_cause_name cause }
+{
+    match cause {
+        LogCause::Bad => b"LogFault",
+        LogCause::Differs => b"Differs",
+    }
+}
+
+// The line for a log with a line in fault.
+fn log_line(alloc: Global, line: u64, cause: LogCause) -> Result<Bytes, NoMemory>
+    ensures { IfOk result (λ bytes. bytes ≡ log_line line cause) }
+{
+    let mut bytes = Bytes::new(alloc);
+    bytes.push_all(b"refused log line ")?;
+    let digits = line.to_string(alloc)?;
+    bytes.push_all(digits.as_bytes())?;
+    bytes.push_all(b" ")?;
+    bytes.push_all(log_cause_name(cause))?;
+    bytes.push_all(b"\n")?;
+    Ok(bytes)
+}
+
+// The line for a log that is accepted.
+fn accepted_line(alloc: Global, arrivals: u64) -> Result<Bytes, NoMemory>
+    ensures { IfOk result (λ bytes. bytes ≡ accepted_line arrivals) }
+{
+    let mut bytes = Bytes::new(alloc);
+    bytes.push_all(b"accepted ")?;
+    let digits = arrivals.to_string(alloc)?;
+    bytes.push_all(digits.as_bytes())?;
+    bytes.push_all(b"\n")?;
+    Ok(bytes)
+}
+
+/// The status of a refusal, and the line that is written for it.
+pub fn refused_output(alloc: Global, refusal: Refusal) -> Result<(Status, Bytes), NoMemory>
+    ensures output { IfOk result (λ p. IsOutput (refused_as refusal) p.0 p.1) }
+    ensures settled { IfOk result (λ p. IsSettled p.0) }
+{
+    match refusal {
+        Refusal::TooLong(file) => Ok((Status::TooLong, too_long_line(alloc, file)?)),
+        Refusal::Script { place, cause } => {
+            Ok((Status::ScriptRefused, script_line(alloc, place, cause)?))
+        }
+        Refusal::Feed { feed, row, cause } => {
+            Ok((Status::FeedRefused, feed_line(alloc, feed, row, cause)?))
+        }
+        Refusal::Log { line, cause } => Ok((Status::LogRefused, log_line(alloc, line, cause)?)),
+    }
+}
+
+fn met_limit(ending: Ending) -> bool
+    ensures { result ≡ met_limit ending }
+{
+    match ending {
+        Ending::Running | Ending::Stopped => false,
+        Ending::Jammed | Ending::Spent => true,
+    }
+}
+
+fn actor_met_limit(actor: &ActorRun) -> bool
+    ensures { result ≡ met_limit actor.now.ending }
+{
+    met_limit(actor.ending)
+}
+
+fn any_met_limit(actors: &[ActorRun]) -> bool
+    ensures { result ≡ list_any (λ actor. met_limit actor.ending) actors.now }
+{
+    actors.iter().any(actor_met_limit)
+}
+
+// `Limits` where an actor was jammed or spent, and else `Done`.
+fn run_status(run: &Run) -> Status
+    ensures status { result ≡ run_status run.now }
+    ensures settled { IsSettled result }
+{
+    if any_met_limit(run.actors.as_slice()) {
+        Status::Limits
+    } else {
+        Status::Done
+    }
+}
+
+// The status and the log of a plan over its feeds.
+fn run_output(
+    alloc: Global,
+    plan: &Plan,
+    limits: Limits,
+    feeds: FeedList,
+) -> Result<(Status, Bytes), NoMemory>
+    requires parts { AreRunParts plan.now limits feeds }
+    ensures log { IfOk result (λ p. IsLog plan.now limits feeds p.0 p.1) }
+    ensures settled { IfOk result (λ p. IsSettled p.0) }
+{
+    let run = run_feeds(alloc, plan, limits, feeds)?;
+    let mut bytes = Bytes::new(alloc);
+    print_log(alloc, plan, &run, &mut bytes)?;
+    Ok((run_status(&run), bytes))
+}
+
 // The text of a plan.
 fn text_of_plan(alloc: Global, plan: &Plan) -> Result<Bytes, NoMemory>
     ensures { IfOk result (λ bytes. bytes ≡ plan_text plan.now) }
@@ -96,33 +230,35 @@ fn text_of_plan(alloc: Global, plan: &Plan) -> Result<Bytes, NoMemory>
     Ok(bytes)
 }
 
+// The report of a plan's findings.
+fn text_of_findings(alloc: Global, plan: &Plan) -> Result<Bytes, NoMemory>
+    requires typed { IsTyped plan.now }
+    ensures { IfOk result (λ bytes. bytes ≡ lint_text plan.now) }
+{
+    let mut bytes = Bytes::new(alloc);
+    print_findings(alloc, plan, &mut bytes)?;
+    Ok(bytes)
+}
+
 /// The status of a reply, and what is written for it.
-pub fn output_of(alloc: Global, reply: &Reply) -> Result<(Status, Bytes), NoMemory>
-    requires runnable { IsRunnableReply reply.now }
-    ensures output { IfOk result (λ p. IsOutput (verdict_of reply.now) p.0 p.1) }
-    ensures status { IfOk result (λ p. IsReplyStatus reply.now p.0) }
+pub fn output_of(alloc: Global, reply: Reply) -> Result<(Status, Bytes), NoMemory>
+    requires runnable { IsRunnable reply }
+    ensures output { IfOk result (λ p. IsOutput (verdict_of reply) p.0 p.1) }
+    ensures settled { IfOk result (λ p. IsSettled p.0) }
 {
     match reply {
-        Reply::Usage => Ok((Status::Usage, text_of(alloc, b"refused usage\n")?)),
-        Reply::TooLong(file) => Ok((Status::TooLong, too_long_line(alloc, *file)?)),
-        Reply::ScriptRefused { place, cause } => Ok((
-            Status::ScriptRefused,
-            refused_line(alloc, *place, *cause)?,
-        )),
-        Reply::NotBuilt => Ok((
-            Status::ScriptRefused,
-            text_of(alloc, b"refused script NotBuilt\n")?,
-        )),
-        Reply::FeedRefused => Ok((
-            Status::FeedRefused,
-            text_of(alloc, b"refused feed NotBuilt\n")?,
-        )),
-        Reply::Check(plan) => Ok((Status::Done, text_of_plan(alloc, plan)?)),
-        Reply::Run(plan, posts) => Ok((Status::Done, log_of(alloc, plan, posts)?)),
+        Reply::Check(plan) => Ok((Status::Done, text_of_plan(alloc, &plan)?)),
+        Reply::Lint(plan) => Ok((Status::Done, text_of_findings(alloc, &plan)?)),
+        Reply::Run {
+            plan,
+            limits,
+            feeds,
+        } => run_output(alloc, &plan, limits, feeds),
+        Reply::Accepted(arrivals) => Ok((Status::Done, accepted_line(alloc, arrivals)?)),
     }
 }
 
-/// Writes the bytes to the sink, as many at a time as it takes.
+/// Writes the bytes to the sink, as many at a time as it takes, in at most one write for each byte. A write that fails ends it.
 pub fn write_all<S: Sink>(out: &mut S, bytes: &[u8]) -> Result<(), Failed>
     ensures told { Writes (S.taken out.old) (S.taken out.new) bytes.now result }
     ensures cause { WriteCause (S.faults out.old) (S.faults out.new) result }

@@ -1,122 +1,130 @@
-//! What words and files come to.
-ghost use Rattle.std.specs.Prelude.{◌≡◌, ◌≢◌, Ok, IfOk};
-ghost use Rattle.join_tool.specs.Loading.{Tells};
-ghost use Rattle.join_tool.specs.Replying.{CommandReplies, Replies, ReplyCause, IsRunnableReply, IsUsageReply, fault_reply};
-ghost use Rattle.join_tool.specs.Command.{Check, Run};
+//! What a command and its files come to.
+ghost use Rattle.std.specs.Prelude.{◌≡◌, IfOk};
+ghost use Rattle.command_words.specs.Command.{Check, Lint, Replay, Run};
+ghost use Rattle.command_words.specs.Ranges.{IsInRange, RunIsInRange};
+ghost use Rattle.command_words.specs.Views.{command_in, run_in};
+ghost use Rattle.join_tool.specs.Command.{IsBuilt};
+ghost use Rattle.join_tool.specs.Loading.{LoadCause, Tells};
+ghost use Rattle.join_tool.specs.Replying.{IsRunnable, Replies};
+ghost use Rattle.join_tool.specs.Verdict.{limits_of};
 
-use crate::command::{Request, command_of};
-use crate::load::{LoadFault, load_feed, load_script};
-use first_form::can_run;
-use join_base::{Inputs, NoMemory, Posts, Word, WordList};
-use script_reader::ScriptCause;
+use crate::load::{load_feeds, load_script};
+use crate::replay::load_log;
+use crate::stop::Stop;
+use command_words::{Request, RunOptions, RunWords};
+use fair_semantics::Limits;
+use join_base::{FeedList, Inputs, Word};
 use script_types::Plan;
 use std::alloc::Global;
 
-/// The first refusal in the order in which the files are fetched, or what is to be printed or run.
+/// What is to be printed, looked at or run.
 #[derive(Drop)]
 pub enum Reply {
-    Usage,
-    /// The file of this number among the words is too long; the script is the first.
-    TooLong(u32),
-    /// The script has this fault.
-    ScriptRefused { place: u64, cause: ScriptCause },
-    /// The script's plan can't run yet.
-    NotBuilt,
-    FeedRefused,
     /// The plan of a script that is checked.
     Check(Plan),
-    /// A plan that runs, with the posts of its feed.
-    Run(Plan, Posts),
+    /// The plan of a script whose findings are listed.
+    Lint(Plan),
+    /// A plan that runs within limits, with the posts of its feeds.
+    Run {
+        plan: Plan,
+        limits: Limits,
+        feeds: FeedList,
+    },
+    /// The number of arrivals of a log that is accepted.
+    Accepted(u64),
 }
 
-/// Why there is no reply.
-#[derive(Clone, Copy, PartialEq, Eq, Debug)]
-pub enum Unanswered {
-    /// A file could not be read.
-    ReadFault,
-    NoMemory,
-}
-
-impl From<NoMemory> for Unanswered {
-    ghost use Rattle.std.specs.Prelude.{◌≡◌};
-    ghost use Rattle.join_tool.specs.declared.reply.Unanswered.TheVariants.{NoMemory};
-
-    ghost from_gives = { λ _ e. e ≡ NoMemory };
-
-    fn from(_: NoMemory) -> Unanswered {
-        Unanswered::NoMemory
+fn limits_of(options: RunOptions) -> Limits
+    ensures { result ≡ limits_of options }
+{
+    Limits {
+        arrivals: options.arrivals,
+        partials: u64::from(options.partials),
     }
 }
 
-// What the file of this number comes to, where it gave nothing.
-fn fault_reply(fault: LoadFault, file: u32) -> Result<Reply, Unanswered>
-    ensures reply { result ≡ fault_reply fault file }
-    ensures command { result ≢ Ok Reply.Usage }
-    ensures runnable { IfOk result IsRunnableReply }
+// What `run SCRIPT FEED..` comes to.
+fn run_reply<I: Inputs>(alloc: Global, inputs: &mut I, run: &RunWords<'_>) -> Result<Reply, Stop>
+    requires in_range { RunIsInRange (run_in run.now) }
+    ensures told { Tells (I.tells inputs.old) (I.tells inputs.new) (λ before now. Replies (Run (run_in run.now)) before now result) }
+    ensures cause { LoadCause (I.faults inputs.old) (I.faults inputs.new) result }
+    ensures runnable { IfOk result IsRunnable }
 {
-    match fault {
-        LoadFault::Failed => Err(Unanswered::ReadFault),
-        LoadFault::TooLong => Ok(Reply::TooLong(file)),
-        LoadFault::Script { place, cause } => Ok(Reply::ScriptRefused { place, cause }),
-        LoadFault::Feed => Ok(Reply::FeedRefused),
-        LoadFault::NoMemory => Err(Unanswered::NoMemory),
-    }
-}
-
-// What `run SCRIPT FEED` comes to.
-fn run_reply<I: Inputs>(
-    alloc: Global,
-    inputs: &mut I,
-    script: &Word,
-    feed: &Word,
-) -> Result<Reply, Unanswered>
-    ensures told { Tells (I.tells inputs.old) (I.tells inputs.new) (λ before now. CommandReplies (Run script.now feed.now) before now result) }
-    ensures cause { ReplyCause (I.faults inputs.old) (I.faults inputs.new) result }
-    ensures runnable { IfOk result IsRunnableReply }
-    ensures command { result ≢ Ok Reply.Usage }
-{
-    match load_script(alloc, inputs, script) {
-        Err(fault) => fault_reply(fault, 1),
-        Ok(plan) => {
-            if !can_run(&plan) {
-                return Ok(Reply::NotBuilt);
-            }
-            match load_feed(alloc, inputs, feed, &plan) {
-                Err(fault) => fault_reply(fault, 2),
-                Ok(posts) => Ok(Reply::Run(plan, posts)),
-            }
-        }
+    match load_script(alloc, inputs, run.script) {
+        Err(stop) => Err(stop),
+        Ok(plan) => match load_feeds(alloc, inputs, &plan, run.feeds.as_slice()) {
+            Err(stop) => Err(stop),
+            Ok(feeds) => Ok(Reply::Run {
+                plan,
+                limits: limits_of(run.options),
+                feeds,
+            }),
+        },
     }
 }
 
 // What `check SCRIPT` comes to.
-fn check_reply<I: Inputs>(alloc: Global, inputs: &mut I, script: &Word) -> Result<Reply, Unanswered>
-    ensures told { Tells (I.tells inputs.old) (I.tells inputs.new) (λ before now. CommandReplies (Check script.now) before now result) }
-    ensures cause { ReplyCause (I.faults inputs.old) (I.faults inputs.new) result }
-    ensures runnable { IfOk result IsRunnableReply }
-    ensures command { result ≢ Ok Reply.Usage }
+fn check_reply<I: Inputs>(alloc: Global, inputs: &mut I, script: &Word) -> Result<Reply, Stop>
+    ensures told { Tells (I.tells inputs.old) (I.tells inputs.new) (λ before now. Replies (Check script.now) before now result) }
+    ensures cause { LoadCause (I.faults inputs.old) (I.faults inputs.new) result }
+    ensures runnable { IfOk result IsRunnable }
 {
     match load_script(alloc, inputs, script) {
-        Err(fault) => fault_reply(fault, 1),
+        Err(stop) => Err(stop),
         Ok(plan) => Ok(Reply::Check(plan)),
     }
 }
 
-/// What the words and the files come to. Only names that the command gives are fetched, in their order, and none
+// What `lint SCRIPT` comes to.
+fn lint_reply<I: Inputs>(alloc: Global, inputs: &mut I, script: &Word) -> Result<Reply, Stop>
+    ensures told { Tells (I.tells inputs.old) (I.tells inputs.new) (λ before now. Replies (Lint script.now) before now result) }
+    ensures cause { LoadCause (I.faults inputs.old) (I.faults inputs.new) result }
+    ensures runnable { IfOk result IsRunnable }
+{
+    match load_script(alloc, inputs, script) {
+        Err(stop) => Err(stop),
+        Ok(plan) => Ok(Reply::Lint(plan)),
+    }
+}
+
+// What `replay SCRIPT LOG` comes to.
+fn replay_reply<I: Inputs>(
+    alloc: Global,
+    inputs: &mut I,
+    script: &Word,
+    log: &Word,
+) -> Result<Reply, Stop>
+    ensures told { Tells (I.tells inputs.old) (I.tells inputs.new) (λ before now. Replies (Replay script.now log.now) before now result) }
+    ensures cause { LoadCause (I.faults inputs.old) (I.faults inputs.new) result }
+    ensures runnable { IfOk result IsRunnable }
+{
+    match load_script(alloc, inputs, script) {
+        Err(stop) => Err(stop),
+        Ok(plan) => match load_log(alloc, inputs, &plan, log) {
+            Err(stop) => Err(stop),
+            Ok(arrivals) => Ok(Reply::Accepted(arrivals)),
+        },
+    }
+}
+
+/// What a command and its files come to. Only names that the command gives are fetched, in their order, and none
 /// behind the first refusal.
 pub fn reply_of<I: Inputs>(
     alloc: Global,
-    words: &WordList,
+    command: &Request<'_>,
     inputs: &mut I,
-) -> Result<Reply, Unanswered>
-    ensures told { Tells (I.tells inputs.old) (I.tells inputs.new) (λ before now. Replies words.now before now result) }
-    ensures cause { ReplyCause (I.faults inputs.old) (I.faults inputs.new) result }
-    ensures runnable { IfOk result IsRunnableReply }
-    ensures usage { IsUsageReply words.now result }
+) -> Result<Reply, Stop>
+    requires built { IsBuilt (command_in command.now) }
+    requires in_range { IsInRange (command_in command.now) }
+    ensures told { Tells (I.tells inputs.old) (I.tells inputs.new) (λ before now. Replies (command_in command.now) before now result) }
+    ensures cause { LoadCause (I.faults inputs.old) (I.faults inputs.new) result }
+    ensures runnable { IfOk result IsRunnable }
 {
-    match command_of(words) {
-        None => Ok(Reply::Usage),
-        Some(Request::Run { script, feed }) => run_reply(alloc, inputs, script, feed),
-        Some(Request::Check { script }) => check_reply(alloc, inputs, script),
+    match command {
+        Request::Run(run) => run_reply(alloc, inputs, run),
+        Request::Check { script } => check_reply(alloc, inputs, script),
+        Request::Lint { script } => lint_reply(alloc, inputs, script),
+        Request::Replay { script, log } => replay_reply(alloc, inputs, script, log),
+        Request::Load { .. } | Request::Watch { .. } | Request::Ask(_) => unreachable!(),
     }
 }

@@ -1,67 +1,47 @@
-//! One actor on one feed.
-ghost use Rattle.std.specs.Prelude.{◌≡◌, ◌≤◌, ◌<◌, ◌∷◌, [], length, IfOk, OnOk};
-ghost use Rattle.std.specs.List.{AllByRecursion};
-ghost use Rattle.first_form.specs.FirstForm.{AreFirstPosts, IsFirstPlan};
-ghost use Rattle.actor_turn.specs.Fair.{fair_run, setting_of};
-ghost use Rattle.actor_turn.specs.Fits.{RuleFits};
-ghost use Rattle.actor_turn.specs.Linked.{IsLinked};
-ghost use Rattle.join_tool.specs.Verdict.{default_limits};
-ghost use Rattle.join_tool.specs.Output.{run_status};
-ghost use Rattle.join_tool.specs.Sent.{sent_of};
+//! Running a plan on its feeds.
+ghost use Rattle.std.specs.Prelude.{◌≡◌, ◌<◌, IfOk};
+ghost use Rattle.fair_semantics.specs.Linked.{IsLinked};
+ghost use Rattle.join_tool.specs.Replying.{AreRunParts};
 
-use crate::status::Status;
-use actor_turn::{Actor, ActorRun, Ending, Limits, Run};
-use join_base::{Items, NoMemory, Posts, Source, Steps};
+use actor_system::System;
+use fair_semantics::{Limits, Run};
+use join_base::{FeedList, NoMemory, Steps};
 use script_types::Plan;
 use std::alloc::Global;
 use std::marker::Brand;
 use std::sync::ledger::{Blank, Ledger};
 
-/// The limits of a run without options.
-pub const DEFAULT_LIMITS: Limits = Limits {
-    arrivals: 50_000,
-    partials: 65_536,
-};
-
-// The run of the only actor, which takes each post in turn.
-fn run_actor<L: Ledger>(
+// The run of the system, once nothing waits.
+fn run_system<L: Ledger>(
     alloc: Global,
     plan: &Plan,
-    posts: &Posts,
+    limits: Limits,
+    feeds: FeedList,
     blank: Blank,
-) -> Result<ActorRun, NoMemory>
-    requires plan { IsFirstPlan plan.now }
-    requires posts { AreFirstPosts plan.now posts.now }
+) -> Result<Run, NoMemory>
+    requires parts { AreRunParts plan.now limits feeds }
     requires name { blank.name ≡ L.name }
-    requires parts { blank.parts ≡ L.parts }
+    requires blank_parts { blank.parts ≡ L.parts }
     requires some { 0 < L.parts }
-    ensures run { IfOk result (λ run. run ≡ fair_run plan.now 0 default_limits 1 (sent_of posts.now)) }
-    ensures running { IfOk result (λ run. run.ending ≡ Ending.Running) }
-    ensures texts { OnOk result (AllByRecursion RuleFits (setting_of plan.now 0 default_limits).rules) }
+    ensures linked { IfOk result (IsLinked plan.now limits feeds) }
+    ensures version { IfOk result (λ run. run.version ≡ 2) }
 {
     let mut steps = Steps::<L>::new(blank);
-    let mut actor = Actor::new(alloc, plan, 0, DEFAULT_LIMITS, 1)?;
-    for (_, message) in posts.as_slice() {
-        actor.arrive(alloc, Source::Feed(1), message, 0, &mut steps)?;
-    }
-    Ok(actor.into_run())
+    let mut system = System::new(alloc, plan, limits, feeds)?;
+    system.run_to_end(alloc, &mut steps)?;
+    Ok(system.finish())
 }
 
-/// The run of a plan of the first form over one feed.
-pub fn run_feed(alloc: Global, plan: &Plan, posts: &Posts) -> Result<Run, NoMemory>
-    requires plan { IsFirstPlan plan.now }
-    requires posts { AreFirstPosts plan.now posts.now }
-    ensures linked { IfOk result (IsLinked plan.now default_limits (posts.now ∷ [])) }
+/// The run of the plan on its feeds, within the limits, over all actors.
+pub fn run_feeds(
+    alloc: Global,
+    plan: &Plan,
+    limits: Limits,
+    feeds: FeedList,
+) -> Result<Run, NoMemory>
+    requires parts { AreRunParts plan.now limits feeds }
+    ensures linked { IfOk result (IsLinked plan.now limits feeds) }
     ensures version { IfOk result (λ run. run.version ≡ 2) }
-    ensures status { IfOk result (λ run. run_status run ≡ Status.Done) }
 {
-    let run = run_actor::<Brand>(alloc, plan, posts, Blank::new(1))?;
-    let mut actors = Items::new(alloc);
-    actors.push(run)?;
-    Ok(Run {
-        version: 2,
-        limits: DEFAULT_LIMITS,
-        feeds: 1,
-        actors,
-    })
+    run_system::<Brand>(alloc, plan, limits, feeds, Blank::new(1))
 }

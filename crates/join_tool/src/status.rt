@@ -15,7 +15,7 @@ pub enum Status {
     ScriptRefused,
     /// The feed can't be read.
     FeedRefused,
-    /// The log can't be accepted. No command answers it yet.
+    /// The log can't be accepted.
     LogRefused,
     /// A file could not be read. Nothing was written.
     ReadFault,

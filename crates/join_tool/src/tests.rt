@@ -1,4 +1,5 @@
-use crate::files::{FileInputs, OutSink};
+//! The program over inputs and a sink in memory, and its two ends over files and a writer.
+use crate::files::{FileInputs, MAX_TRIES, OutSink, read_up_to};
 use crate::gate::FreeGate;
 use crate::output::write_all;
 use crate::status::Status;
@@ -6,6 +7,7 @@ use crate::top::join_main;
 use join_base::{Bytes, FetchFault, Inputs, MemoryInputs, MemorySink, Word, WordList};
 use std::alloc::Global;
 use std::fs;
+use std::io::{self, ErrorKind, Read};
 use std::process::Abort;
 use std::test::Fail;
 
@@ -18,19 +20,16 @@ const FEED: &[u8] = b"m,a,1\nm,b,2\n";
 const LOG: &[u8] =
     b"joinlog 2 arrivals 50000 partials 65536 feeds 1\nactor m\n1 at 1 from feed 1 a(1)\n2 at 2 from feed 1 b(2)\nfire rule 1 take 1,2\nprint \"hit 12\"\nend running left - partials 1\n";
 
-// The same script with a guard.
-const GUARDED: &[u8] =
-    b"message a(x: int) message b(x: int) actor m { when a(x) & b(y) if x == y { print \"hit \" x y; } }";
-
-// A script whose plan does not run yet.
-const POSTING: &[u8] = b"message a(x: int) actor m { when a(x) { post m a(x); } }";
-
 // How each log of the actor m begins.
 const HEAD: &[u8] = b"joinlog 2 arrivals 50000 partials 65536 feeds 1\nactor m\n";
 
 const RUN: &[&str] = &["run", "s", "f"];
 
 const CHECK: &[&str] = &["check", "s"];
+
+const LINT: &[&str] = &["lint", "s"];
+
+const REPLAY: &[&str] = &["replay", "s", "f"];
 
 // The front of most scripts with a fault, 28 bytes.
 const INT: &[u8] = b"message a(x: int) actor m { ";
@@ -96,19 +95,11 @@ fn answers(
     gives(rt, alloc, words, inputs, &mut out, status, output)
 }
 
+// A script and a feed with the log of their run, behind its first two lines.
 #[test]
-fn two_messages_are_joined(rt: HostRuntime) -> Result<(), Fail> {
+fn scripts_run_on_their_feeds(rt: HostRuntime) -> Result<(), Fail> {
     let alloc = rt.alloc();
-    let mut inputs = inputs_of(alloc, SCRIPT, FEED)?;
-    answers(&rt, alloc, RUN, &mut inputs, Status::Done, LOG)?;
-    assert_eq!(rt; Status::Done.number(), 0);
-    Ok(())
-}
-
-#[test]
-fn of_all_matches_the_oldest_is_taken(rt: HostRuntime) -> Result<(), Fail> {
-    let alloc = rt.alloc();
-    let cases: [(&[u8], &[u8], &[u8]); 7] = [
+    let cases: [(&[u8], &[u8], &[u8]); 8] = [
         (SCRIPT, b"", b"end running left - partials 1\n"),
         (
             SCRIPT,
@@ -116,282 +107,155 @@ fn of_all_matches_the_oldest_is_taken(rt: HostRuntime) -> Result<(), Fail> {
             b"1 at 1 from feed 1 a(1)\n2 at 2 from feed 1 a(2)\n3 at 3 from feed 1 b(9)\nfire rule 1 take 1,3\nprint \"hit 19\"\nend running left 2 partials 2\n",
         ),
         (
-            b"message a(x: int) message b(x: int) actor m { when a(x) & a(y) { print x y; } }",
-            b"m,a,1\nm,a,2\n",
-            b"1 at 1 from feed 1 a(1)\n2 at 2 from feed 1 a(2)\nfire rule 1 take 1,2\nprint \"12\"\nend running left - partials 1\n",
-        ),
-        (
             b"message a(x: int) message b(x: int) message c(x: int) actor m { when a(x) & b(y) { } when c(x) & b(y) { } }",
             b"m,c,1\nm,a,2\nm,b,3\n",
             b"1 at 1 from feed 1 c(1)\n2 at 2 from feed 1 a(2)\n3 at 3 from feed 1 b(3)\nfire rule 2 take 1,3\nend running left 2 partials 3\n",
         ),
         (
-            b"message a(x: int) message b(x: int) actor m { when b(y) { } when a(x) & b(y) { } }",
-            b"m,a,1\nm,b,2\n",
-            b"1 at 1 from feed 1 a(1)\n2 at 2 from feed 1 b(2)\nfire rule 2 take 1,2\nend running left - partials 2\n",
-        ),
-        (
-            b"message a(x: int) message b(x: int) actor m { when a(x) & b(y) { } when a(x) & b(y) { } }",
-            b"m,a,1\nm,b,2\n",
-            b"1 at 1 from feed 1 a(1)\n2 at 2 from feed 1 b(2)\nfire rule 1 take 1,2\nend running left - partials 2\n",
-        ),
-        (
-            b"message a(x: int) actor m { }",
-            b"m,a,1\n",
-            b"1 at 1 from feed 1 a(1)\nend running left 1 partials 0\n",
-        ),
-    ];
-    for (script, feed, rest) in cases {
-        let mut inputs = inputs_of(alloc, script, feed)?;
-        let mut log = bytes_of(alloc, HEAD)?;
-        log.push_all(rest)?;
-        answers(&rt, alloc, RUN, &mut inputs, Status::Done, log.bytes())?;
-    }
-    Ok(())
-}
-
-// The log of a script and a feed, behind the first two lines.
-fn logs(
-    rt: &impl Abort,
-    alloc: Global,
-    script: &[u8],
-    feed: &[u8],
-    rest: &[u8],
-) -> Result<(), Fail> {
-    let mut inputs = inputs_of(alloc, script, feed)?;
-    let log = joined(alloc, &[HEAD, rest])?;
-    answers(rt, alloc, RUN, &mut inputs, Status::Done, log.bytes())
-}
-
-#[test]
-fn a_guard_decides_which_messages_are_joined(rt: HostRuntime) -> Result<(), Fail> {
-    let twice: &[u8] =
-        b"message a(x: int) message b(x: int) actor m { when a(x) & a(y) if x > y { print x y; } }";
-    let cases: [(&[u8], &[u8], &[u8]); 6] = [
-        (
-            GUARDED,
+            b"message a(x: int) message b(x: int) actor m { when a(x) & b(y) if x == y { print \"hit \" x y; } }",
             b"m,a,1\nm,a,2\nm,b,2\n",
             b"1 at 1 from feed 1 a(1)\n2 at 2 from feed 1 a(2)\n3 at 3 from feed 1 b(2)\nfire rule 1 take 2,3\nprint \"hit 22\"\nend running left 1 partials 2\n",
         ),
         (
-            twice,
+            b"message a(x: int) actor m { when a(x) & a(y) if x > y { print x y; } }",
             b"m,a,1\nm,a,2\n",
             b"1 at 1 from feed 1 a(1)\n2 at 2 from feed 1 a(2)\nfire rule 1 take 2,1\nprint \"21\"\nend running left - partials 1\n",
         ),
-        (
-            twice,
-            b"m,a,1\n",
-            b"1 at 1 from feed 1 a(1)\nend running left 1 partials 3\n",
-        ),
-        // A conjunct over one pattern cuts a partial match, and one without a variable stops complete matches alone.
-        (
-            b"message a(x: int) message b(x: int) actor m { when a(x) & b(y) if x == 1 && x == y { } }",
-            b"m,a,1\nm,a,2\nm,b,7\n",
-            b"1 at 1 from feed 1 a(1)\n2 at 2 from feed 1 a(2)\n3 at 3 from feed 1 b(7)\nend running left 1,2,3 partials 3\n",
-        ),
-        (
-            b"message a(x: int) actor m { when a(x) & a(y) if 1 == 2 { } }",
-            b"m,a,1\nm,a,2\n",
-            b"1 at 1 from feed 1 a(1)\n2 at 2 from feed 1 a(2)\nend running left 1,2 partials 5\n",
-        ),
-        (
-            b"message a(x: int) message b(x: int) actor m { when a(x) & b(y) if !x == y || (x > 5 || y > 5) { } }",
-            b"m,a,3\nm,b,3\nm,b,4\n",
-            b"1 at 1 from feed 1 a(3)\n2 at 2 from feed 1 b(3)\n3 at 3 from feed 1 b(4)\nfire rule 1 take 1,3\nend running left 2 partials 2\n",
-        ),
-    ];
-    for (script, feed, rest) in cases {
-        logs(&rt, rt.alloc(), script, feed, rest)?;
-    }
-    Ok(())
-}
-
-#[test]
-fn bodies_print_texts_and_exact_sums(rt: HostRuntime) -> Result<(), Fail> {
-    let cases: [(&[u8], &[u8], &[u8]); 4] = [
         (
             b"message say(s: text) message a(x: int) actor m { when say(s) & a(x) if s == \"go\" || x > 5 { print s (x + x - 1); } }",
             b"m,say,no\nm,a,3\nm,a,6\n",
             b"1 at 1 from feed 1 say(\"no\")\n2 at 2 from feed 1 a(3)\n3 at 3 from feed 1 a(6)\nfire rule 1 take 1,3\nprint \"no11\"\nend running left 2 partials 2\n",
         ),
         (
-            b"message n(v: int) actor m { when n(v) { print (v + 1) \" \" (-v) \" \" v; } }",
-            b"m,n,9223372036854775807\nm,n,-9223372036854775808\n",
-            b"1 at 1 from feed 1 n(9223372036854775807)\nfire rule 1 take 1\nprint \"9223372036854775808 -9223372036854775807 9223372036854775807\"\n2 at 2 from feed 1 n(-9223372036854775808)\nfire rule 1 take 2\nprint \"-9223372036854775807 9223372036854775808 -9223372036854775808\"\nend running left - partials 1\n",
-        ),
-        (
-            b"message n(v: int) actor m { when n(v) & n(w) if v + w == 9223372036854775807 + 9223372036854775807 { } when n(v) & n(w) if v - w < 0 - 9223372036854775807 - 9223372036854775807 { } }",
-            b"m,n,-9223372036854775808\nm,n,9223372036854775807\nm,n,9223372036854775807\nm,n,9223372036854775807\n",
-            b"1 at 1 from feed 1 n(-9223372036854775808)\n2 at 2 from feed 1 n(9223372036854775807)\nfire rule 2 take 1,2\n3 at 3 from feed 1 n(9223372036854775807)\n4 at 4 from feed 1 n(9223372036854775807)\nfire rule 1 take 3,4\nend running left - partials 2\n",
-        ),
-        (
-            b"message say(s: text) actor m { when say(s) & say(t) if s != t { print s \"|\" t; } }",
-            b"m,say,\nm,say,\nm,say,a b\n",
-            b"1 at 1 from feed 1 say(\"\")\n2 at 2 from feed 1 say(\"\")\n3 at 3 from feed 1 say(\"a b\")\nfire rule 1 take 1,3\nprint \"|a b\"\nend running left 2 partials 3\n",
-        ),
-    ];
-    for (script, feed, rest) in cases {
-        logs(&rt, rt.alloc(), script, feed, rest)?;
-    }
-    Ok(())
-}
-
-#[test]
-fn a_window_sees_the_latest_arrivals_alone(rt: HostRuntime) -> Result<(), Fail> {
-    let cases: [(&[u8], &[u8], &[u8]); 3] = [
-        (
             b"message a(x: int) message b(x: int) actor m { when a(x) & b(y) within 2 { } }",
             b"m,a,1\nm,a,2\nm,b,3\n",
             b"1 at 1 from feed 1 a(1)\n2 at 2 from feed 1 a(2)\n3 at 3 from feed 1 b(3)\nfire rule 1 take 2,3\nend running left 1 partials 1\n",
-        ),
-        (
-            b"message a(x: int) message b(x: int) actor m { when a(x) & b(y) within 1 { } }",
-            b"m,a,1\nm,b,2\n",
-            b"1 at 1 from feed 1 a(1)\n2 at 2 from feed 1 b(2)\nend running left 1,2 partials 2\n",
-        ),
-        (
-            b"message a(x: int) message b(x: int) message c(x: int) actor m { when a(x) & b(y) within 2 { } when a(x) & b(y) within 3 { } }",
-            b"m,a,1\nm,c,2\nm,b,3\n",
-            b"1 at 1 from feed 1 a(1)\n2 at 2 from feed 1 c(2)\n3 at 3 from feed 1 b(3)\nfire rule 2 take 1,3\nend running left 2 partials 2\n",
-        ),
-    ];
-    for (script, feed, rest) in cases {
-        logs(&rt, rt.alloc(), script, feed, rest)?;
-    }
-    Ok(())
-}
-
-#[test]
-fn a_reply_is_in_the_log(rt: HostRuntime) -> Result<(), Fail> {
-    let cases: [(&[u8], &[u8], &[u8]); 3] = [
-        (
-            b"message q(x: int) actor m { when q(x) { reply 1 x + 1; } }",
-            b"m,q,4\n",
-            b"1 at 1 from feed 1 q(4)\nfire rule 1 take 1\nreply 1 5\nend running left - partials 1\n",
         ),
         (
             b"message q(x: int) message n(x: int) actor m { when n(x) & q(y) { reply 2 x + y; } }",
             b"m,q,9223372036854775807\nm,n,1\n",
             b"1 at 1 from feed 1 q(9223372036854775807)\n2 at 2 from feed 1 n(1)\nfire rule 1 take 2,1\nreply 1 9223372036854775807\nend running left - partials 1\n",
         ),
-        (
-            b"message say(s: text) actor m { when say(s) { print s; reply 1 s; } }",
-            b"m,say,a b\n",
-            b"1 at 1 from feed 1 say(\"a b\")\nfire rule 1 take 1\nprint \"a b\"\nreply 1 \"a b\"\nend running left - partials 1\n",
-        ),
     ];
     for (script, feed, rest) in cases {
-        logs(&rt, rt.alloc(), script, feed, rest)?;
+        let mut inputs = inputs_of(alloc, script, feed)?;
+        let log = joined(alloc, &[HEAD, rest])?;
+        answers(&rt, alloc, RUN, &mut inputs, Status::Done, log.bytes())?;
     }
+    assert_eq!(rt; Status::Done.number(), 0);
     Ok(())
-}
-
-// A script with texts, and a text of 120 bytes.
-const SAY: &[u8] = b"message say(s: text) actor m { when say(s) { } }";
-
-const LONGEST: &[u8] =
-    b"kkkkkkkkkkkkkkkkkkkkkkkkkkkkkkkkkkkkkkkkkkkkkkkkkkkkkkkkkkkkkkkkkkkkkkkkkkkkkkkkkkkkkkkkkkkkkkkkkkkkkkkkkkkkkkkkkkkkkkkk";
-
-#[test]
-fn texts_of_a_feed_have_at_most_120_bytes(rt: HostRuntime) -> Result<(), Fail> {
-    let alloc = rt.alloc();
-    let feed = joined(alloc, &[b"m,say,", LONGEST, b"\n"])?;
-    let end: &[u8] = b"\")\nfire rule 1 take 1\nend running left - partials 1\n";
-    let log = joined(alloc, &[b"1 at 1 from feed 1 say(\"", LONGEST, end])?;
-    logs(&rt, alloc, SAY, feed.bytes(), log.bytes())?;
-    let longer = joined(alloc, &[b"m,say,", LONGEST, b"k\n"])?;
-    let feeds: [&[u8]; 5] = [
-        longer.bytes(),
-        b"m,say,a\"b\n",
-        b"m,say,a\rb\n",
-        b"m,say,\xFF\n",
-        b"m,say\n",
-    ];
-    for feed in feeds {
-        let mut inputs = inputs_of(alloc, SAY, feed)?;
-        let refused: &[u8] = b"refused feed NotBuilt\n";
-        answers(&rt, alloc, RUN, &mut inputs, Status::FeedRefused, refused)?;
-    }
-    Ok(())
-}
-
-#[test]
-fn words_that_are_no_command_are_refused(rt: HostRuntime) -> Result<(), Fail> {
-    let alloc = rt.alloc();
-    let cases: [&[&str]; 12] = [
-        &[],
-        &["check"],
-        &["check", "-x"],
-        &["check", "--", "s"],
-        &["run"],
-        &["run", "s"],
-        &["run", "s", "f", "f"],
-        &["run", "-x", "s"],
-        &["run", "s", "--"],
-        &["run", "-x", "s", "f"],
-        &["help"],
-        &["check", "s", "f"],
-    ];
-    for words in cases {
-        let mut inputs = inputs_of(alloc, SCRIPT, FEED)?;
-        answers(
-            &rt,
-            alloc,
-            words,
-            &mut inputs,
-            Status::Usage,
-            b"refused usage\n",
-        )?;
-    }
-    assert_eq!(rt; Status::Usage.number(), 2);
-    let mut inputs = inputs_of(alloc, SCRIPT, b"")?;
-    inputs.put(alloc, "-", bytes_of(alloc, FEED)?)?;
-    answers(
-        &rt,
-        alloc,
-        &["run", "s", "-"],
-        &mut inputs,
-        Status::Done,
-        LOG,
-    )
-}
-
-// Runs `check` on a script, and expects this status and output.
-fn checks(
-    rt: &impl Abort,
-    alloc: Global,
-    script: &[u8],
-    status: Status,
-    output: &[u8],
-) -> Result<(), Fail> {
-    let mut inputs = inputs_of(alloc, script, b"")?;
-    answers(rt, alloc, CHECK, &mut inputs, status, output)
 }
 
 #[test]
 fn a_script_is_checked(rt: HostRuntime) -> Result<(), Fail> {
+    let alloc = rt.alloc();
     let plan: &[u8] =
-        b"message a(x: int)\nmessage b(x: int)\nactor m {\n  when a(x) & b(y) if x == y {\n    print \"hit \" x y;\n  }\n}\n";
-    checks(&rt, rt.alloc(), GUARDED, Status::Done, plan)
+        b"message a(x: int)\nmessage b(x: int)\nactor m {\n  when a(x) & b(y) {\n    print \"hit \" x y;\n  }\n}\n";
+    let mut inputs = inputs_of(alloc, SCRIPT, b"")?;
+    answers(&rt, alloc, CHECK, &mut inputs, Status::Done, plan)
 }
 
+// Two kinds, in front of the actor.
+const KINDS_AB: &[u8] = b"message a(x: int) message b(x: int) actor m { ";
+
+// Each actor of two kinds with the report on its definitions.
 #[test]
-fn windows_and_replies_are_checked(rt: HostRuntime) -> Result<(), Fail> {
-    let windowed: &[u8] =
-        b"message a(x: int) message b(x: int) actor m { when a(x) & b(y) within 2 if x == y { } }";
-    let plan: &[u8] =
-        b"message a(x: int)\nmessage b(x: int)\nactor m {\n  when a(x) & b(y) within 2 if x == y {\n  }\n}\n";
-    checks(&rt, rt.alloc(), windowed, Status::Done, plan)?;
-    let replying: &[u8] = b"message q(x: int) actor m { when q(x) { reply 1 x + 1; } }";
-    let plan: &[u8] = b"message q(x: int)\nactor m {\n  when q(x) {\n    reply 1 x + 1;\n  }\n}\n";
-    checks(&rt, rt.alloc(), replying, Status::Done, plan)
+fn definitions_that_never_fire_are_listed(rt: HostRuntime) -> Result<(), Fail> {
+    let alloc = rt.alloc();
+    let cases: [(&[u8], &[u8]); 5] = [
+        (b"when a(x) & b(y) { print \"hit \" x y; } }", b"lint 0\n"),
+        (
+            b"when a(x) & b(y) { } when a(x) & b(y) { } }",
+            b"shadowed m rule 2 by 1\nlint 1\n",
+        ),
+        (b"when a(x) { print \"bye\"; stop; } }", b"idle b\nlint 1\n"),
+        (
+            b"when a(x) & b(y) within 1 { } }",
+            b"narrow m rule 1\nidle a\nidle b\nlint 3\n",
+        ),
+        (
+            b"when a(x) & b(y) if x > 3 { } when a(x) & b(y) if x > 5 && y < 2 { } when a(x) if x < 1 && 1 < x { } }",
+            b"shadowed m rule 2 by 1\ndead m rule 3\nlint 2\n",
+        ),
+    ];
+    for (rest, report) in cases {
+        let script = joined(alloc, &[KINDS_AB, rest])?;
+        let mut inputs = inputs_of(alloc, script.bytes(), b"")?;
+        answers(&rt, alloc, LINT, &mut inputs, Status::Done, report)?;
+        // It was the one fetch.
+        inputs.fail(2)?;
+        answers(&rt, alloc, LINT, &mut inputs, Status::ReadFault, b"")?;
+    }
+    Ok(())
 }
 
-// Each script with the fault that both commands answer.
+// What a log behind its first two lines is refused with, or how many arrivals it has.
+#[test]
+fn logs_are_accepted_or_refused_at_a_line(rt: HostRuntime) -> Result<(), Fail> {
+    let alloc = rt.alloc();
+    let arrivals: &[u8] = b"1 at 1 from feed 1 a(1)\n2 at 2 from feed 1 b(2)\n";
+    let zero: &[u8] = b"01 at 1 from feed 1 a(1)\n2 at 2 from feed 1 b(2)\n";
+    let cases: [(&[u8], &[u8], Status, &[u8]); 7] = [
+        (
+            arrivals,
+            b"fire rule 1 take 1,2\nprint \"hit 12\"\nend running left - partials 1\n",
+            Status::Done,
+            b"accepted 2\n",
+        ),
+        (
+            arrivals,
+            b"fire rule 1 take 1,2\nprint \"hit 13\"\nend running left - partials 1\n",
+            Status::LogRefused,
+            b"refused log line 6 Differs\n",
+        ),
+        (
+            arrivals,
+            b"fire rule 1 take 2,1\nprint \"hit 12\"\nend running left - partials 1\n",
+            Status::LogRefused,
+            b"refused log line 5 Differs\n",
+        ),
+        (
+            arrivals,
+            b"fire rule 1 take 1,2\nprint \"hit 12\"\nend running left - partials 2\n",
+            Status::LogRefused,
+            b"refused log line 7 Differs\n",
+        ),
+        (
+            arrivals,
+            b"fire rule 1 take 1,2\nprint \"hit 12\"\nend running left - partials 1\nactor m\n",
+            Status::LogRefused,
+            b"refused log line 8 LogFault\n",
+        ),
+        (
+            zero,
+            b"fire rule 1 take 1,2\nprint \"hit 12\"\nend running left - partials 1\n",
+            Status::LogRefused,
+            b"refused log line 3 LogFault\n",
+        ),
+        (
+            arrivals,
+            b"",
+            Status::LogRefused,
+            b"refused log line 5 LogFault\n",
+        ),
+    ];
+    for (front, rest, status, output) in cases {
+        let log = joined(alloc, &[HEAD, front, rest])?;
+        let mut inputs = inputs_of(alloc, SCRIPT, log.bytes())?;
+        answers(&rt, alloc, REPLAY, &mut inputs, status, output)?;
+        // It made two fetches.
+        inputs.fail(4)?;
+        answers(&rt, alloc, REPLAY, &mut inputs, Status::ReadFault, b"")?;
+    }
+    assert_eq!(rt; Status::LogRefused.number(), 5);
+    Ok(())
+}
+
+// Each script with the fault that all commands answer.
 #[test]
 fn scripts_with_a_fault_are_refused_at_its_place(rt: HostRuntime) -> Result<(), Fail> {
     let alloc = rt.alloc();
-    let cases: [(&[u8], &[u8], &[u8]); 18] = [
+    let cases: [(&[u8], &[u8], &[u8]); 22] = [
         (b"", b"", b"0 BadSyntax"),
         (b"message a(x: int)", b"", b"17 BadSyntax"),
         (b"message ", &[255], b"8 NotText"),
@@ -425,13 +289,17 @@ fn scripts_with_a_fault_are_refused_at_its_place(rt: HostRuntime) -> Result<(), 
             b"a(x) & b(x) { } }",
             b"60 TwiceDeclared",
         ),
+        (&SCRIPT[..5], b"", b"0 BadSyntax"),
+        (&SCRIPT[..15], b"", b"13 BadSyntax"),
+        (&SCRIPT[..57], b"", b"57 BadSyntax"),
+        (&SCRIPT[..74], b"", b"71 BadToken"),
         // A fault of reading hides each fault of typing.
         (INT, b"when b(x) { } } }", b"44 BadSyntax"),
     ];
     for (front, rest, fault) in cases {
         let script = joined(alloc, &[front, rest])?;
         let refused = joined(alloc, &[b"refused script ", fault, b"\n"])?;
-        for words in [CHECK, RUN] {
+        for words in [CHECK, LINT, REPLAY, RUN] {
             let mut inputs = inputs_of(alloc, script.bytes(), FEED)?;
             answers(
                 &rt,
@@ -447,121 +315,167 @@ fn scripts_with_a_fault_are_refused_at_its_place(rt: HostRuntime) -> Result<(), 
     Ok(())
 }
 
-#[test]
-fn a_script_that_is_cut_is_refused(rt: HostRuntime) -> Result<(), Fail> {
-    let alloc = rt.alloc();
-    let cases: [(usize, &[u8]); 6] = [
-        (5, b"0 BadSyntax"),
-        (15, b"13 BadSyntax"),
-        (36, b"36 BadSyntax"),
-        (57, b"57 BadSyntax"),
-        (74, b"71 BadToken"),
-        (85, b"85 BadSyntax"),
-    ];
-    for (length, fault) in cases {
-        let refused = joined(alloc, &[b"refused script ", fault, b"\n"])?;
-        let script = &SCRIPT[..length];
-        checks(&rt, alloc, script, Status::ScriptRefused, refused.bytes())?;
-    }
-    Ok(())
-}
+// The front of each row is the actor m and a comma, but where the actor is told.
+const KINDS: &[u8] = b"message a(x: int) message say(s: text) actor m { when say(s) { print s; } }";
+
+const LONGEST: &[u8] =
+    b"kkkkkkkkkkkkkkkkkkkkkkkkkkkkkkkkkkkkkkkkkkkkkkkkkkkkkkkkkkkkkkkkkkkkkkkkkkkkkkkkkkkkkkkkkkkkkkkkkkkkkkkkkkkkkkkkkkkkkkkk";
 
 #[test]
-fn plans_that_cannot_run_yet_are_refused(rt: HostRuntime) -> Result<(), Fail> {
+fn rows_in_fault_are_refused(rt: HostRuntime) -> Result<(), Fail> {
     let alloc = rt.alloc();
-    let rests: [&[u8]; 4] = [
-        b"} actor n { }",
-        b"when a(x) & a(y) & a(z) { } }",
-        b"when a(x) { print x; } when a(x) { post m a(x); } }",
-        b"when a(x) { stop; } }",
+    let longer = joined(alloc, &[b"m,say,", LONGEST, b"k"])?;
+    let cases: [(&[u8], &[u8]); 14] = [
+        (b"x,a,1", b"1 UnknownActor"),
+        (b"m", b"1 WrongCount"),
+        (b"m,z,1", b"1 UnknownMessage"),
+        (b"m,a", b"1 WrongCount"),
+        (b"m,a,1,2", b"1 WrongCount"),
+        (b"m,a,9223372036854775808", b"1 BadInt"),
+        (b"m,a,1.5", b"1 BadInt"),
+        (b"m,a,+1", b"1 BadInt"),
+        (b"m,a,", b"1 BadInt"),
+        (longer.bytes(), b"1 TooLong"),
+        (b"m,say,\xFF", b"1 NotText"),
+        (b"m,a,1\nm,z,1\nx,a,1\n", b"2 UnknownMessage"),
+        (b"m,a,1\r\nm,say,\"k\nk\"\nm,a,\n", b"3 BadInt"),
+        (b"x,z", b"1 UnknownActor"),
     ];
-    for rest in rests {
-        let script = joined(alloc, &[INT, rest])?;
-        let mut inputs = inputs_of(alloc, script.bytes(), FEED)?;
-        let refused: &[u8] = b"refused script NotBuilt\n";
-        answers(&rt, alloc, RUN, &mut inputs, Status::ScriptRefused, refused)?;
-    }
-    Ok(())
-}
-
-// The front of the scripts that the rows of feeds are for.
-const KINDS: &[u8] = b"message a(x: int) message b(x: int, y: int) message e() actor m { }";
-
-#[test]
-fn feeds_that_are_not_of_the_form_are_refused(rt: HostRuntime) -> Result<(), Fail> {
-    let alloc = rt.alloc();
-    let feeds: [&[u8]; 20] = [
-        b"m,a\n",
-        b"m,a,\n",
-        b"m,a,1.5\n",
-        b"m,a,+1\n",
-        b"m,a,-\n",
-        b"m,a, 1\n",
-        b"m,a,9223372036854775808\n",
-        b"m,a,-9223372036854775809\n",
-        b"m,a,1,2\n",
-        b"m,a,1,\n",
-        b"m,e,\n",
-        b"m,a,1\r\n",
-        b"m,e\r\n",
-        b"m,a,1",
-        b"m,a,1\nm,a,2",
-        b"m,a,1\n\n",
-        b"n,a,1\n",
-        b"m,c,1\n",
-        b"m\n",
-        b"\n",
-    ];
-    for feed in feeds {
+    for (feed, row) in cases {
         let mut inputs = inputs_of(alloc, KINDS, feed)?;
-        let refused: &[u8] = b"refused feed NotBuilt\n";
-        answers(&rt, alloc, RUN, &mut inputs, Status::FeedRefused, refused)?;
+        let first = joined(alloc, &[b"refused feed 1 row ", row, b"\n"])?;
+        answers(
+            &rt,
+            alloc,
+            RUN,
+            &mut inputs,
+            Status::FeedRefused,
+            first.bytes(),
+        )?;
+        inputs.put(alloc, "g", bytes_of(alloc, b"m,a,7")?)?;
+        let second = joined(alloc, &[b"refused feed 2 row ", row, b"\n"])?;
+        let words = ["run", "s", "g", "f", "f"].as_slice();
+        answers(
+            &rt,
+            alloc,
+            words,
+            &mut inputs,
+            Status::FeedRefused,
+            second.bytes(),
+        )?;
     }
     assert_eq!(rt; Status::FeedRefused.number(), 4);
     Ok(())
 }
 
 #[test]
-fn values_of_a_feed_are_read(rt: HostRuntime) -> Result<(), Fail> {
+fn rows_are_read(rt: HostRuntime) -> Result<(), Fail> {
     let alloc = rt.alloc();
+    let longest = joined(alloc, &[b"m,say,", LONGEST])?;
+    let printed = joined(
+        alloc,
+        &[
+            b"say(\"",
+            LONGEST,
+            b"\")\nfire rule 1 take 1\nprint \"",
+            LONGEST,
+            b"\"\nend running left - partials 1\n",
+        ],
+    )?;
     let cases: [(&[u8], &[u8]); 5] = [
-        (b"m,b,7,-3\n", b"b(7,-3)"),
-        (b"m,e\n", b"e()"),
-        (b"m,a,007\n", b"a(7)"),
-        (b"m,a,-0\n", b"a(0)"),
-        (b"m,a,-9223372036854775808\n", b"a(-9223372036854775808)"),
+        (
+            b"m,a,-9223372036854775808\r\n",
+            b"a(-9223372036854775808)\nend running left 1 partials 1\n",
+        ),
+        (b"m,a,007", b"a(7)\nend running left 1 partials 1\n"),
+        (
+            b"m,say,\"a \"\"b\"\"\"\n",
+            b"say(\"a \\\"b\\\"\")\nfire rule 1 take 1\nprint \"a \\\"b\\\"\"\nend running left - partials 1\n",
+        ),
+        (
+            b"m,\"say\",\"a,b\"\n",
+            b"say(\"a,b\")\nfire rule 1 take 1\nprint \"a,b\"\nend running left - partials 1\n",
+        ),
+        (longest.bytes(), printed.bytes()),
     ];
-    for (feed, message) in cases {
+    for (feed, rest) in cases {
         let mut inputs = inputs_of(alloc, KINDS, feed)?;
-        let end: &[u8] = b"\nend running left 1 partials 0\n";
-        let log = joined(alloc, &[HEAD, b"1 at 1 from feed 1 ", message, end])?;
+        let log = joined(alloc, &[HEAD, b"1 at 1 from feed 1 ", rest])?;
         answers(&rt, alloc, RUN, &mut inputs, Status::Done, log.bytes())?;
     }
     Ok(())
 }
 
-// A feed of so many rows.
-fn rows(alloc: Global, count: usize) -> Result<Bytes, Fail> {
-    let mut feed = Bytes::new(alloc);
-    for _ in 0..count {
-        feed.push_all(b"m,e\n")?;
-    }
-    Ok(feed)
-}
-
 #[test]
-fn a_feed_has_at_most_a_thousand_rows(rt: HostRuntime) -> Result<(), Fail> {
+fn words_are_a_command_or_are_refused(rt: HostRuntime) -> Result<(), Fail> {
     let alloc = rt.alloc();
-    let mut inputs = inputs_of(alloc, KINDS, b"")?;
-    inputs.put(alloc, "most", rows(alloc, 1000)?)?;
-    inputs.put(alloc, "more", rows(alloc, 1001)?)?;
-    let mut out = MemorySink::new(alloc, 100_000, 4096)?;
-    let words = words_of(alloc, &["run", "s", "most"])?;
-    let status = join_main(&rt, alloc, &words, &mut inputs, &mut out, &FreeGate);
-    assert_eq!(rt; status, Status::Done);
-    let words = ["run", "s", "more"].as_slice();
-    let refused: &[u8] = b"refused feed NotBuilt\n";
-    answers(&rt, alloc, words, &mut inputs, Status::FeedRefused, refused)
+    let mut inputs = inputs_of(alloc, SCRIPT, FEED)?;
+    let refused: [&[&str]; 18] = [
+        &[],
+        &["run"],
+        &["run", "s"],
+        &["run", "--arrivals", "0", "s", "f"],
+        &["run", "--arrivals", "1000001", "s", "f"],
+        &["run", "--arrivals", "+5", "s", "f"],
+        &["run", "--arrivals", "2000", "--arrivals", "2000", "s", "f"],
+        &["run", "--arrival", "2000", "s", "f"],
+        &["run", "s", "f", "--partials"],
+        &["run", "--workers", "4", "s", "f"],
+        &["run", "-x", "s", "f"],
+        &[
+            "run", "s", "f", "f", "f", "f", "f", "f", "f", "f", "f", "f", "f", "f", "f", "f", "f",
+            "f", "f",
+        ],
+        &["help"],
+        &["check", "s", "f"],
+        &["lint", "s", "f"],
+        &["check", "--arrivals", "2000", "s"],
+        &["replay", "s"],
+        &["load", "3"],
+    ];
+    for words in refused {
+        answers(
+            &rt,
+            alloc,
+            words,
+            &mut inputs,
+            Status::Usage,
+            b"refused usage\n",
+        )?;
+    }
+    assert_eq!(rt; Status::Usage.number(), 2);
+    inputs.put(alloc, "-", bytes_of(alloc, FEED)?)?;
+    inputs.put(alloc, "--partials", bytes_of(alloc, FEED)?)?;
+    let log = joined(
+        alloc,
+        &[b"joinlog 2 arrivals 2000 partials 40000", &LOG[39..]],
+    )?;
+    let taken: [&[&str]; 4] = [
+        &["run", "--arrivals", "2000", "s", "f", "--partials=40000"],
+        &["run", "--partials=040000", "s", "--arrivals", "2000", "-"],
+        &[
+            "run",
+            "--arrivals=2000",
+            "--partials",
+            "40000",
+            "--",
+            "s",
+            "f",
+        ],
+        &[
+            "run",
+            "--arrivals=2000",
+            "--partials",
+            "40000",
+            "--",
+            "s",
+            "--partials",
+        ],
+    ];
+    for words in taken {
+        answers(&rt, alloc, words, &mut inputs, Status::Done, log.bytes())?;
+    }
+    Ok(())
 }
 
 #[test]
@@ -575,6 +489,11 @@ fn a_file_of_one_byte_too_many_is_too_long(rt: HostRuntime) -> Result<(), Fail> 
     inputs.put(alloc, "most", Bytes::from_vec(most))?;
     inputs.put(alloc, "long", long)?;
     let cases: [(&[&str], Status, &[u8]); 6] = [
+        (
+            &["replay", "s", "long"],
+            Status::LogRefused,
+            b"refused log line 1 LogFault\n",
+        ),
         (
             &["check", "long"],
             Status::TooLong,
@@ -591,19 +510,14 @@ fn a_file_of_one_byte_too_many_is_too_long(rt: HostRuntime) -> Result<(), Fail> 
             b"refused file 1 too long\n",
         ),
         (
-            &["run", "s", "long"],
+            &["run", "s", "f", "long", "most"],
             Status::TooLong,
-            b"refused file 2 too long\n",
+            b"refused file 3 too long\n",
         ),
         (
             &["run", "most", "f"],
             Status::ScriptRefused,
             b"refused script 16777216 BadSyntax\n",
-        ),
-        (
-            &["run", "s", "most"],
-            Status::FeedRefused,
-            b"refused feed NotBuilt\n",
         ),
     ];
     for (words, status, output) in cases {
@@ -614,52 +528,53 @@ fn a_file_of_one_byte_too_many_is_too_long(rt: HostRuntime) -> Result<(), Fail> 
 }
 
 #[test]
-fn a_fetch_that_fails_leaves_nothing_written(rt: HostRuntime) -> Result<(), Fail> {
+fn each_fetch_may_fail(rt: HostRuntime) -> Result<(), Fail> {
     let alloc = rt.alloc();
-    for call in 1..3 {
+    let words: &[&str] = &["run", "s", "f", "f"];
+    for call in 1..4 {
         let mut inputs = inputs_of(alloc, SCRIPT, FEED)?;
         inputs.fail(call)?;
-        answers(&rt, alloc, RUN, &mut inputs, Status::ReadFault, b"")?;
+        answers(&rt, alloc, words, &mut inputs, Status::ReadFault, b"")?;
     }
+    // The fourth fetch is that of the second call.
     let mut inputs = inputs_of(alloc, SCRIPT, FEED)?;
     inputs.fail(3)?;
     answers(&rt, alloc, RUN, &mut inputs, Status::Done, LOG)?;
-    let mut inputs = inputs_of(alloc, SCRIPT, FEED)?;
-    answers(
-        &rt,
-        alloc,
-        &["run", "s", "g"],
-        &mut inputs,
-        Status::ReadFault,
-        b"",
-    )?;
-    let mut inputs = inputs_of(alloc, SCRIPT, FEED)?;
-    inputs.fail(1)?;
     answers(&rt, alloc, CHECK, &mut inputs, Status::ReadFault, b"")?;
     assert_eq!(rt; Status::ReadFault.number(), 6);
-    Ok(())
+    let mut inputs = inputs_of(alloc, SCRIPT, FEED)?;
+    let words: &[&str] = &["run", "s", "g"];
+    answers(&rt, alloc, words, &mut inputs, Status::ReadFault, b"")
 }
 
 // The fetch that is to fail is the next one still, so none was made behind the refusal.
 #[test]
 fn nothing_is_fetched_behind_a_refusal(rt: HostRuntime) -> Result<(), Fail> {
     let alloc = rt.alloc();
-    let mut inputs = inputs_of(alloc, SCRIPT, FEED)?;
-    inputs.fail(1)?;
-    answers(
-        &rt,
-        alloc,
-        &["run", "s"],
-        &mut inputs,
-        Status::Usage,
-        b"refused usage\n",
-    )?;
-    answers(&rt, alloc, RUN, &mut inputs, Status::ReadFault, b"")?;
-    let mut inputs = inputs_of(alloc, POSTING, FEED)?;
-    inputs.fail(2)?;
-    let refused: &[u8] = b"refused script NotBuilt\n";
-    answers(&rt, alloc, RUN, &mut inputs, Status::ScriptRefused, refused)?;
-    answers(&rt, alloc, RUN, &mut inputs, Status::ReadFault, b"")
+    let cases: [(u64, &[u8], &[&str], Status, &[u8]); 3] = [
+        (1, FEED, &["run", "s"], Status::Usage, b"refused usage\n"),
+        (
+            2,
+            FEED,
+            &["run", "f", "f"],
+            Status::ScriptRefused,
+            b"refused script 0 BadSyntax\n",
+        ),
+        (
+            3,
+            b"n,a,1",
+            &["run", "s", "f", "g"],
+            Status::FeedRefused,
+            b"refused feed 1 row 1 UnknownActor\n",
+        ),
+    ];
+    for (call, feed, words, status, output) in cases {
+        let mut inputs = inputs_of(alloc, SCRIPT, feed)?;
+        inputs.fail(call)?;
+        answers(&rt, alloc, words, &mut inputs, status, output)?;
+        answers(&rt, alloc, CHECK, &mut inputs, Status::ReadFault, b"")?;
+    }
+    Ok(())
 }
 
 #[test]
@@ -741,6 +656,7 @@ fn a_thousand_rows_make_five_hundred_pairs(rt: HostRuntime) -> Result<(), Fail> 
     Ok(())
 }
 
+// What a fetch answers for each name of the machine.
 #[test]
 fn files_are_read(rt: HostRuntime) -> Result<(), Fail> {
     let alloc = rt.alloc();
@@ -750,13 +666,67 @@ fn files_are_read(rt: HostRuntime) -> Result<(), Fail> {
     let whole = inputs.fetch(alloc, name, 12);
     let short = inputs.fetch(alloc, name, 11);
     fs::remove_file(&rt, name)?;
-    let missing = inputs.fetch(alloc, name, 12);
     match whole {
         Ok(bytes) => assert_eq!(rt; bytes.bytes(), FEED),
         Err(_) => assert!(rt; false),
     }
     assert_eq!(rt; short.err(), Some(FetchFault::TooLong));
-    assert_eq!(rt; missing.err(), Some(FetchFault::Failed));
+    // The file that is gone, a folder, a file whose bytes can't be read, and a device without an end.
+    let cases = [
+        (name, FetchFault::Failed),
+        (".", FetchFault::Failed),
+        ("/proc/self/mem", FetchFault::Failed),
+        ("/dev/zero", FetchFault::TooLong),
+    ];
+    for (name, fault) in cases {
+        let answer = inputs.fetch(alloc, name, 100_000);
+        assert_eq!(rt; answer.err(), Some(fault));
+    }
+    Ok(())
+}
+
+// A reader that is interrupted so many times in front of each answer, and then gives a byte while there are some.
+#[derive(Drop)]
+struct Interrupted {
+    times: u32,
+    left: u32,
+    bytes: u32,
+}
+
+impl Read for Interrupted {
+    fn read(&mut self, buffer: &mut [u8]) -> io::Result<usize> {
+        if self.left > 0 {
+            self.left -= 1;
+            return Err(io::Error::from(ErrorKind::Interrupted));
+        }
+        self.left = self.times;
+        if self.bytes == 0 || buffer.is_empty() {
+            return Ok(0);
+        }
+        self.bytes -= 1;
+        buffer[0] = b'k';
+        Ok(1)
+    }
+}
+
+#[test]
+fn interrupted_reads_are_made_again(rt: HostRuntime) -> Result<(), Fail> {
+    let alloc = rt.alloc();
+    let few = Interrupted {
+        times: MAX_TRIES - 1,
+        left: 0,
+        bytes: 3,
+    };
+    match read_up_to(alloc, few, 3) {
+        Ok(bytes) => assert_eq!(rt; bytes.bytes(), b"kkk".as_slice()),
+        Err(_) => assert!(rt; false),
+    }
+    let many = Interrupted {
+        times: MAX_TRIES,
+        left: 0,
+        bytes: 3,
+    };
+    assert_eq!(rt; read_up_to(alloc, many, 3).err(), Some(FetchFault::Failed));
     Ok(())
 }
 

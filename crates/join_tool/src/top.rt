@@ -1,15 +1,67 @@
 //! The top call.
 ghost use Rattle.std.specs.Prelude.{◌≡◌, ◌≢◌, ◌⊎◌, None, Err, IfOk};
-ghost use Rattle.join_tool.specs.Command.{command_of};
+ghost use Rattle.command_words.specs.Ranges.{IsInRange};
+ghost use Rattle.command_words.specs.Views.{command_in};
+ghost use Rattle.join_tool.specs.Command.{IsBuilt, command_of};
 ghost use Rattle.join_tool.specs.Loading.{Tells};
-ghost use Rattle.join_tool.specs.Top.{AnswersWhereTold, CompletesWhereTold, FetchesInOrder, HasCauses, IsBuilt, IsSettled, PrepareCause, Prepares, RefusesWords, TestsWords};
+ghost use Rattle.join_tool.specs.Output.{IsSettled};
+ghost use Rattle.join_tool.specs.Top.{AnswersWhereTold, CompletesWhereTold, CountsFault, FetchesInOrder, IsAnswered, PrepareCause, Prepares, PreparesCommand, RefusesWords, TestsWords};
 
+use crate::command::command_of;
 use crate::gate::Gate;
-use crate::output::{output_of, write_all};
-use crate::reply::{Unanswered, reply_of};
+use crate::law::one_verdict;
+use crate::output::{output_of, refused_output, usage_line, write_all};
+use crate::reply::reply_of;
 use crate::status::Status;
-use join_base::{Bytes, Inputs, Sink, WordList};
+use crate::stop::Stop;
+use command_words::Request;
+use join_base::{Bytes, Inputs, NoMemory, Sink, WordList};
 use std::alloc::Global;
+
+/// Why nothing is to be written.
+#[derive(Clone, Copy, PartialEq, Eq, Debug)]
+pub enum Unanswered {
+    /// A file could not be read.
+    ReadFault,
+    NoMemory,
+}
+
+impl From<NoMemory> for Unanswered {
+    ghost use Rattle.std.specs.Prelude.{◌≡◌};
+    ghost use Rattle.join_tool.specs.declared.top.Unanswered.TheVariants.{NoMemory};
+
+    ghost from_gives = { λ _ e. e ≡ NoMemory };
+
+    fn from(_: NoMemory) -> Unanswered {
+        Unanswered::NoMemory
+    }
+}
+
+// What is to be written for a command and its files.
+fn prepare_command<I: Inputs>(
+    alloc: Global,
+    command: &Request<'_>,
+    inputs: &mut I,
+) -> Result<(Status, Bytes), Unanswered>
+    requires built { IsBuilt (command_in command.now) }
+    requires in_range { IsInRange (command_in command.now) }
+    ensures told { Tells (I.tells inputs.old) (I.tells inputs.new) (λ before now. PreparesCommand (command_in command.now) before now result) }
+    ensures cause { PrepareCause (I.faults inputs.old) (I.faults inputs.new) result }
+    ensures settled { IfOk result (λ p. IsSettled p.0) }
+{
+    match reply_of(alloc, command, inputs) {
+        Ok(reply) => match output_of(alloc, reply) {
+            Ok(output) => Ok(output),
+            Err(_) => Err(Unanswered::NoMemory),
+        },
+        Err(Stop::Refused(refusal)) => match refused_output(alloc, refusal) {
+            Ok(output) => Ok(output),
+            Err(_) => Err(Unanswered::NoMemory),
+        },
+        Err(Stop::ReadFault) => Err(Unanswered::ReadFault),
+        Err(Stop::NoMemory) => Err(Unanswered::NoMemory),
+    }
+}
 
 // What is to be written for the words and the files.
 fn prepare<I: Inputs>(
@@ -18,29 +70,32 @@ fn prepare<I: Inputs>(
     inputs: &mut I,
 ) -> Result<(Status, Bytes), Unanswered>
     ensures told { Tells (I.tells inputs.old) (I.tells inputs.new) (λ before now. Prepares words.now before now result) }
-    ensures fetches { Tells (I.tells inputs.old) (I.tells inputs.new) (λ before now. FetchesInOrder words.now before now) }
     ensures cause { PrepareCause (I.faults inputs.old) (I.faults inputs.new) result }
-    ensures settled { IfOk result (λ p. IsSettled p.0) }
+    ensures answered { IfOk result (λ p. IsAnswered p.0) }
     ensures words { IfOk result (λ p. TestsWords words.now p.0) }
     ensures read { command_of words.now ≡ None → result ≢ Err Unanswered.ReadFault }
 {
-    match reply_of(alloc, words, inputs) {
-        Ok(reply) => match output_of(alloc, &reply) {
-            Ok(output) => Ok(output),
+    match command_of(alloc, words) {
+        Ok(Some(command)) => prepare_command(alloc, &command, inputs),
+        Ok(None) => match usage_line(alloc) {
+            Ok(line) => Ok((Status::Usage, line)),
             Err(_) => Err(Unanswered::NoMemory),
         },
-        Err(fault) => Err(fault),
+        Err(_) => Err(Unanswered::NoMemory),
     }
 }
 
-/// Carries out the command that the words are; `words` leaves out the program's name. `run SCRIPT FEED` fetches the script
-/// and then the feed, runs the one actor of the script on the posts of the feed, and writes the log of that run.
-/// `check SCRIPT` fetches the script, and writes its plan.
+/// Carries out the command that the words are; `words` leaves out the program's name. `run SCRIPT FEED..` fetches the script
+/// and then 1 to 16 feeds in order, runs the script on the posts of the feeds within the limits that `--arrivals` and
+/// `--partials` give, and writes the log of that run. `check SCRIPT` fetches the script, and writes its plan. `lint SCRIPT`
+/// fetches the script, and writes a line for each definition that can never fire and for each kind that no other one takes,
+/// and then their number. `replay SCRIPT LOG` fetches the script and then the log, and writes how many arrivals the log has.
 ///
 /// The first refusal ends the call: `Usage` where the words are no command, `TooLong` where a file has more than
-/// 16,777,216 bytes, `ScriptRefused` where the script has a fault or its plan can't run yet, and `FeedRefused` where the
-/// feed is not of the form that runs so far; each writes one line. After `ReadFault` and `NoMemory` nothing was written,
-/// and after `WriteFault` a beginning of the output. The gate is not entered yet.
+/// 16,777,216 bytes, or a log more than 268,435,456, `ScriptRefused` where the script has a fault, `FeedRefused` where a feed
+/// has a record in fault, and `LogRefused` where a line of the log is in fault; each writes one line. `Limits` comes in place of `Done` exactly where an actor of the run was jammed or spent, and the log is written in both
+/// cases. After `ReadFault` and `NoMemory` nothing was written, and after `WriteFault` a beginning of the
+/// output. The gate is not entered yet.
 pub fn join_main<R, I: Inputs, S: Sink, G: Gate>(
     _rt: &R,
     alloc: Global,
@@ -50,27 +105,27 @@ pub fn join_main<R, I: Inputs, S: Sink, G: Gate>(
     _gate: &G,
 ) -> Status
     // The status and the bytes written are those of the verdict on the words and the files. For a run they are the log
-    // of a run that is linked to the posts of the feed, and for a check the text of the script's plan.
+    // of a run that is linked to the posts of the feeds, for a check the text of the script's plan, for a lint that of its
+    // findings, and for a replay the number of arrivals of the log, which is that of a run no line of which is in fault.
     ensures answer { AnswersWhereTold words.now (I.tells inputs.old) (S.taken out.old) (I.tells inputs.new) (S.taken out.new) result }
 
     // Inputs that tell were asked only for names that the order fetches, whatever the sink tells.
     ensures fetches { Tells (I.tells inputs.old) (I.tells inputs.new) (λ before now. FetchesInOrder words.now before now) }
 
-    // A fault is answered only where its count rose in this call.
-    ensures causes { HasCauses (I.faults inputs.old) (I.faults inputs.new) (S.faults out.old) (S.faults out.new) result }
+    // Each count of faults rises where its fault is answered, and is as before at every other answer.
+    ensures reads { CountsFault Status.ReadFault result (I.faults inputs.old) (I.faults inputs.new) }
+    ensures writes { CountsFault Status.WriteFault result (S.faults out.old) (S.faults out.new) }
 
-    // Good words and files are run or checked, unless there is a fault or no memory.
+    // Where no fault was counted, the status is that of the verdict that the words and the files have, or there was no memory.
     ensures complete { CompletesWhereTold words.now (I.tells inputs.old) (I.faults inputs.old) (I.faults inputs.new) (S.faults out.old) (S.faults out.new) result }
 
     ensures words_refused { RefusesWords words.now result }
     ensures usage_only { result ≡ Status.Usage → command_of words.now ≡ None }
     // The sink was not touched.
     ensures silent { (result ≡ Status.ReadFault) ⊎ (result ≡ Status.NoMemory) → out.new ≡ out.old }
-    ensures built { IsBuilt result }
 {
-    // A script spells one tree, which has one plan: it costs nothing, and completeness rests on it.
-    script_reader::one_answer();
-    script_check::one_answer();
+    // It costs nothing, and completeness rests on it.
+    one_verdict();
     match prepare(alloc, words, inputs) {
         Ok((status, output)) => match write_all(out, output.bytes()) {
             Ok(()) => status,

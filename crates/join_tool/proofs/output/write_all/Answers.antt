@@ -20,5 +20,5 @@ pieces-preserved g c =
     record {
       within = within;
       told = subst P (ap (λ (s : List ℕ). take c.pieces.done c.args.bytes.now ++ take c.in-Ok.count s) piece ∙ front_more c.args.bytes.now c.pieces.done c.in-Ok.count within) more;
-      later = omega (arith, c.pieces.invariant.later, c.in-Ok.ensures.cause.later);
+      quiet = c.in-Ok.ensures.cause ∙ c.pieces.invariant.quiet;
     }

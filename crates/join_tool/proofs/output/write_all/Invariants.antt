@@ -1,4 +1,4 @@
-use Rattle.std.proofs.Common.{◌-◌, ◌≤◌, length, take}
+use Rattle.std.proofs.Common.{◌≡◌, ◌-◌, ◌≤◌, length, take}
 use Rattle.join_tool.proofs.WriteLemmas.{Took}
 use Rattle.join_tool.proofs.output.write_all.Given as goal
 
@@ -6,7 +6,7 @@ abbrev pub invariant-pieces : goal.invariant-pieces
 invariant-pieces g l = record {
   within : l.done ≤ length l.bytes;
   told : Took (g.S.Sink.taken l.initial.out) (g.S.Sink.taken l.out) (take l.done l.bytes);
-  later : g.S.Sink.faults l.initial.out ≤ g.S.Sink.faults l.out;
+  quiet : g.S.Sink.faults l.out ≡ g.S.Sink.faults l.initial.out;
 }
 
 abbrev pub decreases-pieces : goal.decreases-pieces

@@ -1,23 +1,16 @@
-use Rattle.std.proofs.Common.{◌≡◌, true, false}
-use Rattle.first_form.specs.Runs.{can_run}
-use Rattle.join_tool.proofs.ReplyLemmas.{script_stopped, not_built, feed_stopped, all_loaded}
+use Rattle.command_words.specs.Views.{run_in}
+use Rattle.join_tool.proofs.ReplyLemmas.{run_feeds_stopped, run_replied, run_script_stopped}
 use Rattle.join_tool.proofs.reply.run_reply.Goals as goal
 
 pub returns-in-Err-clause-told : goal.returns-in-Err-clause-told
-returns-in-Err-clause-told g c =
-    rw c.fault_reply.ensures.reply (script_stopped c.args.script.now c.args.feed.now (g.I.Inputs.tells c.args.inputs.now) (g.I.Inputs.tells c.load_script.new.inputs) c.in-Err.fault c.in-Err.ensures.told)
+returns-in-Err-clause-told g c = run_script_stopped (run_in c.args.run.now) (g.I.Inputs.tells c.args.inputs.now) (g.I.Inputs.tells c.load_script.new.inputs) c.in-Err.stop c.in-Err.ensures.told
 
-pub returns-then-not-can_run-clause-told : goal.returns-then-not-can_run-clause-told
-returns-then-not-can_run-clause-told g c =
-    let stops : can_run c.in-Ok.plan ≡ false = cc in
-    not_built c.args.script.now c.args.feed.now c.in-Ok.plan (g.I.Inputs.tells c.args.inputs.now) (g.I.Inputs.tells c.load_script.new.inputs) c.in-Ok.ensures.told stops
+pub returns-in-Err-load_feeds-clause-told : goal.returns-in-Err-load_feeds-clause-told
+returns-in-Err-load_feeds-clause-told g c =
+    run_feeds_stopped (run_in c.args.run.now) c.in-Ok.plan (g.I.Inputs.tells c.args.inputs.now) (g.I.Inputs.tells c.load_script.new.inputs) (g.I.Inputs.tells c.load_feeds.new.inputs) c.in-Err-load_feeds.stop
+    c.in-Ok.ensures.told (rw c.as_slice.ensures.value at c.in-Err-load_feeds.ensures.told)
 
-pub returns-in-Err-load_feed-clause-told : goal.returns-in-Err-load_feed-clause-told
-returns-in-Err-load_feed-clause-told g c =
-    let runs : can_run c.in-Ok.plan ≡ true = cc in
-    rw c.fault_reply-in-Err-load_feed.ensures.reply (feed_stopped c.args.script.now c.args.feed.now c.in-Ok.plan runs (g.I.Inputs.tells c.args.inputs.now) (g.I.Inputs.tells c.load_script.new.inputs) (g.I.Inputs.tells c.load_feed.new.inputs) c.in-Err-load_feed.fault c.in-Ok.ensures.told c.in-Err-load_feed.ensures.told)
-
-pub returns-in-Ok-load_feed-clause-told : goal.returns-in-Ok-load_feed-clause-told
-returns-in-Ok-load_feed-clause-told g c =
-    let runs : can_run c.in-Ok.plan ≡ true = cc in
-    all_loaded c.args.script.now c.args.feed.now c.in-Ok.plan runs (g.I.Inputs.tells c.args.inputs.now) (g.I.Inputs.tells c.load_script.new.inputs) (g.I.Inputs.tells c.load_feed.new.inputs) c.in-Ok-load_feed.posts c.in-Ok.ensures.told c.in-Ok-load_feed.ensures.told
+pub returns-in-Ok-load_feeds-clause-told : goal.returns-in-Ok-load_feeds-clause-told
+returns-in-Ok-load_feeds-clause-told g c =
+    rw c.limits_of.ensures (run_replied (run_in c.args.run.now) c.in-Ok.plan (g.I.Inputs.tells c.args.inputs.now) (g.I.Inputs.tells c.load_script.new.inputs) (g.I.Inputs.tells c.load_feeds.new.inputs) c.in-Ok-load_feeds.feeds
+    c.in-Ok.ensures.told (rw c.as_slice.ensures.value at c.in-Ok-load_feeds.ensures.told))

@@ -1,10 +1,5 @@
-use Rattle.join_tool.proofs.TopLemmas.{all_written, command_completes, write_failed}
+use Rattle.join_tool.proofs.TopLemmas.{all_written, nothing_written, write_failed}
 use Rattle.join_tool.proofs.top.join_main.Goals as goal
-
-pub returns-in-Ok-write_all-clause-complete : goal.returns-in-Ok-write_all-clause-complete
-returns-in-Ok-write_all-clause-complete g c =
-    command_completes (record { tree = c.one_answer.ensures.tree; unread = c.one_answer.ensures.both; unchecked = c.one_answer-2.ensures.both }) c.args.words.now (g.I.Inputs.tells c.args.inputs.now) (g.I.Inputs.tells c.prepare.new.inputs) c.in-Ok.status c.in-Ok.output
-    (g.I.Inputs.faults c.args.inputs.now) (g.I.Inputs.faults c.prepare.new.inputs) (g.S.Sink.faults c.args.out.now) (g.S.Sink.faults c.write_all.new.out) c.in-Ok.ensures.told
 
 pub returns-in-Ok-clause-answer : goal.returns-in-Ok-clause-answer
 returns-in-Ok-clause-answer g c =
@@ -14,4 +9,7 @@ returns-in-Ok-clause-answer g c =
 pub returns-in-Ok-write_all-clause-answer : goal.returns-in-Ok-write_all-clause-answer
 returns-in-Ok-write_all-clause-answer g c =
     all_written c.args.words.now (g.I.Inputs.tells c.args.inputs.now) (g.I.Inputs.tells c.prepare.new.inputs) (g.S.Sink.taken c.args.out.now) (g.S.Sink.taken c.write_all.new.out) c.in-Ok.status c.in-Ok.output
-    tt c.in-Ok.ensures.settled c.in-Ok.ensures.told (rw c.bytes.ensures.same at c.in-Ok-write_all.ensures.told)
+    tt c.in-Ok.ensures.answered c.in-Ok.ensures.told (rw c.bytes.ensures.same at c.in-Ok-write_all.ensures.told)
+
+pub returns-clause-answer : goal.returns-clause-answer
+returns-clause-answer g c = nothing_written c.args.words.now (g.I.Inputs.tells c.args.inputs.now) (g.I.Inputs.tells c.prepare.new.inputs) (g.S.Sink.taken c.args.out.now) c.in-Err-NoMemory.field-0 c.in-Err-NoMemory.ensures.told
