@@ -1,3 +1,6 @@
-pub mod Commas
+-- what is claimed: the text of a run
 pub mod LogText
+-- what private functions append
+pub mod Commas
+-- the runs that tests print
 pub mod Samples

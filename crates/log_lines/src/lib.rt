@@ -1,4 +1,12 @@
 //! The lines of a log, read one by one.
+//!
+//! - `read_head` gives the first line of a log, and `read_line` any line behind it, or they say that the text is none.
+//! - `cut` gives what stands in front of the first byte of a value, and what stands behind it.
+//! - `one_line` says that no text is two lines.
+//!
+//! A contract says by `IsHead` and `IsLine` (specs/Forms) which line a text is: the line is within its bounds, and the
+//! text is its text. Where a line may stand in a log is a matter of `log_reader`. There are no tests here; those of
+//! `log_reader` read lines of each form.
 #![tactic(auto)]
 
 mod fault;

@@ -1,5 +1,8 @@
-pub mod Draft
-pub mod Places
+-- what is claimed: the run whose log bytes are, and the line at fault
 pub mod Log
+pub mod Places
+-- what private functions compute
+pub mod Draft
 pub mod Advance
+-- the plan of the tests
 pub mod Samples

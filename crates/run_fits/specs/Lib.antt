@@ -1,1 +1,2 @@
+-- what is claimed: the law
 pub mod FitsLaw

@@ -1,1 +1,2 @@
+-- what is claimed: systems that a schedule reaches, and the law
 pub mod Reached
