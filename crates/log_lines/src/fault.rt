@@ -1,13 +1,16 @@
 //! Why a line was not read.
 use join_base::NoMemory;
 use std::alloc::{AllocError, AllocFailed};
+use thiserror::Error;
 
 /// Why a line, or a part of one, was not read.
-#[derive(Clone, Copy, PartialEq, Eq, Debug)]
+#[derive(Clone, Copy, PartialEq, Eq, Debug, Error)]
 pub enum LineFault {
     /// The bytes are not of the form.
+    #[error("no line of a log")]
     NoLine,
     /// There was no memory. Nothing is said of the bytes.
+    #[error("out of memory")]
     NoMemory,
 }
 

@@ -243,3 +243,11 @@ fn ends_of_logs(rt: HostRuntime) -> Result<(), Fail> {
     }
     Ok(())
 }
+
+#[test]
+fn a_fault_says_the_line(rt: HostRuntime) -> Result<(), Fail> {
+    let fault = LogFault::Bad { line: 3 };
+    let text = format!(in rt.alloc(); "{fault}")?;
+    assert!(rt; text.as_str() == "line 3 may not stand there");
+    Ok(())
+}

@@ -188,6 +188,17 @@ fn a_text_has_at_most_120_bytes(rt: HostRuntime) -> Result<(), Fail> {
 }
 
 #[test]
+fn a_fault_says_the_record_and_its_cause(rt: HostRuntime) -> Result<(), Fail> {
+    let fault = FeedFault::Bad {
+        row: 3,
+        cause: FeedCause::BadInt,
+    };
+    let text = format!(in rt.alloc(); "{fault}")?;
+    assert!(rt; text.as_str() == "record 3: no integer of 64 bits");
+    Ok(())
+}
+
+#[test]
 fn a_feed_has_posts_or_a_first_fault(_rt: HostRuntime) {
     feed_law();
 }
