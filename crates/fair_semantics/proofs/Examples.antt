@@ -36,7 +36,7 @@ use Rattle.fair_semantics.specs.Fair.{Sent, fair_run}
 use Rattle.fair_semantics.specs.Linked.{given, rests_in_order}
 use Rattle.fair_semantics.specs.Schedule.{System, after_schedule, system_at_first}
 
-abbrev message : ℕ → ℕ → Message
+abbrev pub message : ℕ → ℕ → Message
 message kind x = record { kind = kind; fields = Int (pos x) ∷ [] }
 
 abbrev one_int : List ℕ → Kind
@@ -60,10 +60,10 @@ three_kinds = one_int (codes "a") ∷ one_int (codes "b") ∷ one_int (codes "c"
 abbrev one_actor : List Kind → List Rule → Plan
 one_actor kinds rules = record { kinds = kinds; actors = record { name = codes "m"; rules = rules } ∷ [] }
 
-abbrev usual : Limits
+abbrev pub usual : Limits
 usual = record { arrivals = 50000; partials = 65536 }
 
-abbrev fed : Message → Sent
+abbrev pub fed : Message → Sent
 fed m = (Feed 1, record { message = m; stamp = 0 })
 
 -- what a run shows beside its messages
@@ -86,7 +86,7 @@ prints line = effect.Print line ∷ []
 abbrev hit : List Statement
 hit = Print (item.Words (words.Fixed (codes "hit ")) ∷ item.Plain (place 0) ∷ item.Plain (place 1) ∷ []) ∷ []
 
-abbrev hits : Plan
+abbrev pub hits : Plan
 hits = one_actor two_kinds (rule (0 ∷ 1 ∷ []) [] hit ∷ [])
 
 a_and_b : shown (fair_run hits 0 usual 1 (fed (message 0 1) ∷ fed (message 1 2) ∷ []))
