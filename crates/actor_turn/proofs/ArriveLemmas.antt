@@ -5,6 +5,7 @@ use Rattle.std.specs.List.{AllByRecursion}
 use Rattle.std.specs.List.Sorted.{IsStrictlyIncreasing}
 use Rattle.std.proofs.lemmas.Bool.Decides.{nat_tests}
 use Rattle.std.proofs.lemmas.List.{length-map, map-append}
+use Rattle.std.proofs.lemmas.Bool.{or_parts, not-false}
 use Rattle.join_base.specs.Stamps.{greatest_stamp}
 use Rattle.join_base.specs.Taken.{without}
 use Rattle.join_base.specs.declared.message.Message.{Message}
@@ -37,14 +38,6 @@ use Rattle.actor_turn.proofs.OfferedLemmas.{can_offer_all, cleared_count, cleare
 use Rattle.actor_turn.proofs.PartsLemmas.{entries_count, entries_latest, entries_letters, recorded_is}
 use Rattle.actor_turn.proofs.SteadyLemmas.{choice_is, ended_steady, fired_steady, kept_count, kept_steady, live_recorded, step_is}
 use Rattle.actor_turn.proofs.ToldLemmas.{MayFire, choice_may, definitions_suit}
-
-or_false : (a b : Bool) → (a || b) ≡ false → (a ≡ false) × (b ≡ false)
-or_false true b e = absurd cc
-or_false false b e = (refl, e)
-
-not_false : (a : Bool) → not a ≡ false → a ≡ true
-not_false true e = refl
-not_false false e = absurd cc
 
 le_false : (a b : ℕ) → nat_le a b ≡ false → b < a
 le_false a b e = grind (arith, nat_tests)
@@ -117,14 +110,14 @@ module _ (actors : ℕ) (setting : Setting) (m : Mail) (firings : List (Option F
 
   pub taken_in : is_refused setting state message stamp ≡ false → IsTakenIn
   taken_in e =
-      let first = or_false (nat_le setting.limits.arrivals (length state.entries)) _ e in
-      let second = or_false (not (fits setting.sorts message)) (nat_le greatest_stamp (max (latest_stamp state.entries) stamp)) first.1 in
+      let first = or_parts (nat_le setting.limits.arrivals (length state.entries)) _ e in
+      let second = or_parts (not (fits setting.sorts message)) (nat_le greatest_stamp (max (latest_stamp state.entries) stamp)) first.1 in
       let room = le_false setting.limits.arrivals (length state.entries) first.0 in
       let low = le_false greatest_stamp (max (latest_stamp state.entries) stamp) second.1 in
       let same : latest_stamp state.entries ≡ latest m.arrivals = entries_latest 1 0 m.arrivals firings rest.fired in
       let count = entry_count in
       let most = told.limits.arrivals.1 in
-      record { few = omega arith; fit = not_false (fits setting.sorts message) second.0; latest_low = omega arith; came_low = omega arith }
+      record { few = omega arith; fit = not-false (fits setting.sorts message) second.0; latest_low = omega arith; came_low = omega arith }
 
   module _ (taken : is_refused setting state message stamp ≡ false) where
     fitting : AllByRecursion (λ x. fits setting.sorts x ≡ true) (letters_more letters message)

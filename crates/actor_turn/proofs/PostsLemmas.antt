@@ -13,6 +13,7 @@ use Rattle.fair_semantics.specs.declared.run.Firing.{Firing}
 use Rattle.fair_semantics.specs.declared.run.Entry.{Entry}
 use Rattle.fair_semantics.specs.Linked.{effect_for, entry_posts, firing_effects}
 use Rattle.fair_semantics.specs.Step.{Setting, State}
+use Rattle.tree_law.proofs.LoopLemmas.{all_last}
 use Rattle.actor_turn.specs.Held.{Held, first_of, posts_behind, posts_for, with_first, without_first}
 use Rattle.actor_turn.specs.Outbox.{Queue, is_lent_after}
 use Rattle.actor_turn.specs.Sent.{HasRoom, delivered, post_of, sent_by}
@@ -68,10 +69,6 @@ posts_kept boxes i d now e = map-set_same (λ (o : Queue). o.posts) boxes i now 
 
 pub lent_kept : (boxes : List Queue) (i : ℕ) (d now : Queue) → now.lent ≡ (get_or boxes i d).lent → map (λ o. o.lent) (slice_set boxes i now) ≡ map (λ o. o.lent) boxes
 lent_kept boxes i d now e = map-set_same (λ (o : Queue). o.lent) boxes i now d e
-
-all_last : {X : Type 0} (P : X → Type 0) (xs : List X) (x : X) → AllByRecursion P xs → P x → AllByRecursion P (xs ++ x ∷ [])
-all_last P [] x h k = (k, tt)
-all_last P (y ∷ xs) x h k = (h.0, all_last P xs x h.1 k)
 
 -- one more box has room
 pub room_more : (count : ℕ) (boxes : List Queue) (i : ℕ) (now : Queue) → i < length boxes → AllByRecursion (HasRoom count) (take i boxes) → HasRoom count now → AllByRecursion (HasRoom count) (take (i + 1) (slice_set boxes i now))

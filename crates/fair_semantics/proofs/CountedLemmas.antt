@@ -49,7 +49,7 @@ set_other (x ∷ xs) (suc j) (suc k) n h = set_other xs j k n (λ e. h (ap suc e
 abbrev raised_where : Bool → ℕ → ℕ
 raised_where b count = if b then raised count else count
 
-same_number : (a b : ℕ) → (a == b) ≡ true → a ≡ b
+pub same_number : (a b : ℕ) → (a == b) ≡ true → a ≡ b
 same_number a b e = grind (arith, nat_tests)
 
 other_number : (a b : ℕ) → (a == b) ≡ false → a ≡ b → ⊥

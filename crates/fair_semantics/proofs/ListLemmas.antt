@@ -1,8 +1,9 @@
 -- A fact that holds of each item of a list.
-use Rattle.std.proofs.Common.{◌≡◌, ◌∙◌, ℕ, zero, suc, ◌+◌, ◌<◌, ◌≤◌, sym, List, [], ◌∷◌, ◌++◌, take, get_or, length, slice_get, map, replicate, Some, refl, subst, arith}
+use Rattle.std.proofs.Common.{◌≡◌, ◌∙◌, inl, inr, ℕ, zero, suc, ◌+◌, ◌<◌, ◌≤◌, sym, List, [], ◌∷◌, ◌++◌, take, get_or, length, slice_get, map, replicate, Some, refl, subst, arith}
 use Rattle.std.specs.Prelude.{All}
 use Rattle.std.specs.List.{AllByRecursion}
 use Rattle.std.proofs.lemmas.List.{take_more, take_all}
+use Rattle.pattern_core.specs.Members.{IsIn}
 pub use Rattle.guard_eval.proofs.ReadyLemmas.{each_at}
 
 -- a fact that follows from another for each item
@@ -22,6 +23,19 @@ each_map P Q f h (x ∷ xs) a = (h x a.0, each_map P Q f h xs a.1)
 pub each_append : {X : Type 0} (P : X → Type 0) (xs ys : List X) → AllByRecursion P xs → AllByRecursion P ys → AllByRecursion P (xs ++ ys)
 each_append P [] ys a b = b
 each_append P (x ∷ xs) ys a b = (a.0, each_append P xs ys a.1 b)
+
+pub each_left : {X : Type 0} (P : X → Type 0) (xs ys : List X) → AllByRecursion P (xs ++ ys) → AllByRecursion P xs
+each_left P [] ys h = tt
+each_left P (x ∷ xs) ys h = (h.0, each_left P xs ys h.1)
+
+pub each_right : {X : Type 0} (P : X → Type 0) (xs ys : List X) → AllByRecursion P (xs ++ ys) → AllByRecursion P ys
+each_right P [] ys h = h
+each_right P (x ∷ xs) ys h = each_right P xs ys h.1
+
+pub each_in : {X : Type 0} (P : X → Type 0) (xs : List X) → AllByRecursion P xs → (x : X) → IsIn x xs → P x
+each_in P [] h x i = absurd i
+each_in P (y ∷ xs) h x (inl is) = let here = h.0 in subst (λ z. P z) is here
+each_in P (y ∷ xs) h x (inr i) = each_in P xs h.1 x i
 
 pub each_replicate : {X : Type 0} (P : X → Type 0) (n : ℕ) (x : X) → P x → AllByRecursion P (replicate n x)
 each_replicate P zero x h = tt

@@ -1,6 +1,7 @@
 -- Chains of fair steps: one that records each message, and what an ended or refusing actor changes.
 use Rattle.std.proofs.Common.{◌≡◌, ◌∙◌, ◌⊎◌, inl, inr, ◌+◌, ◌<◌, List, [], ◌∷◌, ◌++◌, length, length-append, Bool, true, false, Option, None, Some, refl, ap, sym, subst, arith}
 use Rattle.std.specs.Prelude.{if◌then◌else◌, nat_lt, ◌||◌}
+pub use Rattle.std.proofs.lemmas.Bool.{or_parts}
 use Rattle.pattern_core.specs.declared.candidate.Candidate.{Candidate}
 use Rattle.pattern_core.specs.Matches.{partial_count}
 use Rattle.pattern_core.specs.Choice.{choice}
@@ -22,10 +23,6 @@ pub record OnlyLate (before after : State) : Type 0 where
   pub entries : after.entries ≡ before.entries
   pub live : after.live ≡ before.live
   pub ending : after.ending ≡ before.ending
-
-pub or_parts : (a b : Bool) → (a || b) ≡ false → (a ≡ false) × (b ≡ false)
-or_parts false b e = (refl, e)
-or_parts true b e = absurd cc
 
 pub or_none : (a b : Bool) → a ≡ false → b ≡ false → (a || b) ≡ false
 or_none a b p q = λ i. p i || q i

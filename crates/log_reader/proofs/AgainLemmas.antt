@@ -13,6 +13,7 @@ use Rattle.fair_semantics.specs.declared.run.ActorRun.{ActorRun}
 use Rattle.fair_semantics.specs.declared.run.Entry.{Entry}
 use Rattle.fair_semantics.specs.declared.run.Run.{Run}
 use Rattle.fair_semantics.specs.Fits.{ActorRunFits, EffectFits, EntryFits, FiringFits, LateFits, RunFits, source_place}
+use Rattle.fair_semantics.proofs.ListLemmas.{each_append}
 use Rattle.log_lines.specs.declared.line.Arrival.{Arrival}
 use Rattle.log_lines.specs.declared.line.Head.{Head}
 use Rattle.log_lines.specs.declared.line.LogLine.{LogLine}
@@ -26,7 +27,7 @@ use Rattle.log_reader.specs.declared.draft.Open.TheVariants.{Heading, Entries, A
 use Rattle.log_reader.specs.Draft.{follows, is_open, open_entry, step, takes_entries}
 use Rattle.log_reader.proofs.RunLines.{arrival_of, effect_log, end_log, entry_log, firing_log, head_of_run, late_log, section_log, sections_log}
 use Rattle.log_reader.proofs.ShownLemmas.{draft_at}
-use Rattle.log_reader.proofs.SoundLemmas.{each_append, places}
+use Rattle.log_reader.proofs.SoundLemmas.{places}
 
 -- one line after the other
 abbrev pub steps : Draft → List LogLine → Option Draft

@@ -2,7 +2,7 @@
 use Rattle.std.proofs.Common.{◌≡◌, ◌∙◌, ℕ, suc, ◌+◌, ◌≤◌, ◌==◌, nat_lt, Bool, true, false, List, [], ◌∷◌, ◌++◌, length, map, None, Some, refl, sym, ap, subst, append_assoc, append-nil, length-append, arith}
 use Rattle.std.specs.Prelude.{not, ◌&&◌, if◌then◌else◌, Err}
 use Rattle.std.specs.List.{AllByRecursion}
-use Rattle.std.proofs.lemmas.Bool.{and_parts, ltb-false}
+use Rattle.std.proofs.lemmas.Bool.{and_parts, ltb-false, not-true}
 use Rattle.std.proofs.lemmas.Option.{same_Some}
 use Rattle.std.proofs.lemmas.List.Concat.{flat_map-append}
 use Rattle.script_types.specs.declared.plan.Plan.{Plan}
@@ -186,15 +186,11 @@ not_open (Arrived x) is = absurd cc
 not_open (Fired x f) is = absurd cc
 not_open (Lates last) is = absurd cc
 
-not_true : (b : Bool) → not b ≡ true → b ≡ false
-not_true true is = absurd cc
-not_true false is = refl
-
 pub reads_all : (plan : Plan) (bytes rest : List ℕ) (number : ℕ) (draft : Draft) → Reads plan bytes rest number draft → rest ≡ [] → is_done plan draft ≡ true → IsLogOf plan bytes (run_of draft)
 reads_all plan bytes rest number draft reads empty done =
     let parts = and_parts (not (is_open draft.reached)) (length draft.actors == length plan.actors) done in
     let same = is_one (length draft.actors) (length plan.actors) parts.1 in
-    let at : draft.reached ≡ Heading = not_open draft.reached (not_true (is_open draft.reached) parts.0) in
+    let at : draft.reached ≡ Heading = not_open draft.reached (not-true (is_open draft.reached) parts.0) in
     let sound = reads.sound in
     let head = draft.head in
     let lines : shown draft ≡ sections_log 0 draft.actors =

@@ -14,6 +14,7 @@ use Rattle.fair_semantics.specs.declared.run.Firing.{Firing}
 use Rattle.fair_semantics.specs.declared.run.ActorRun.{ActorRun}
 use Rattle.fair_semantics.specs.declared.run.Entry.{Entry}
 use Rattle.fair_semantics.specs.Fits.{ActorRunFits, EffectFits, EntryFits, FiringFits, LateFits, source_place}
+use Rattle.fair_semantics.proofs.ListLemmas.{each_append}
 use Rattle.log_lines.specs.declared.line.Arrival.{Arrival}
 use Rattle.log_lines.specs.declared.line.Head.{Head}
 use Rattle.log_lines.specs.declared.line.LogLine.{LogLine}
@@ -26,10 +27,6 @@ use Rattle.log_reader.specs.declared.draft.Open.{Open}
 use Rattle.log_reader.specs.declared.draft.Open.TheVariants.{Heading, Entries, Arrived, Fired, Lates}
 use Rattle.log_reader.specs.Draft.{follows, held, is_open, open_entry, step, with_effect}
 use Rattle.log_reader.proofs.ShownLemmas.{Clean, arrived_draft, draft_at, ended_run, late_draft}
-
-pub each_append : {X : Type 0} (P : X → Type 0) (xs ys : List X) → AllByRecursion P xs → AllByRecursion P ys → AllByRecursion P (xs ++ ys)
-each_append P [] ys a b = b
-each_append P (x ∷ xs) ys a b = (a.0, each_append P xs ys a.1 b)
 
 each_front : {X : Type 0} (P : X → Type 0) (xs ys : List X) → AllByRecursion P (xs ++ ys) → AllByRecursion P xs
 each_front P [] ys a = tt

@@ -57,6 +57,10 @@ all_in P [] x h m = absurd m
 all_in {X} P (y ∷ xs) x h (inl e) = subst P e h.0
 all_in P (y ∷ xs) x h (inr m) = all_in P xs x h.1 m
 
+pub all_members : {X : Type 0} (P : X → Type 0) (xs : List X) → ((x : X) → IsIn x xs → P x) → AllByRecursion P xs
+all_members P [] h = tt
+all_members P (x ∷ xs) h = (h x (inl refl), all_members P xs (λ y m. h y (inr m)))
+
 module _ (o : Offered) (slots : Assignment) where
   begins_match : (s : Step) (route : Route) (c : Candidate) → LeadsOn o slots (s ∷ route) → IsIn c (matches_at o (filled slots (s ∷ route))) → Begins slots s.number c
   begins_match s route c lead m =

@@ -15,6 +15,7 @@ use Rattle.match_tree.specs.Below.{AreBelow}
 use Rattle.match_tree.specs.Offering.{CanOffer}
 use Rattle.match_tree.specs.Tree.{Tree, Reserve, offer_to, seen_paths, is_path_seen, extensions, SameMembers, IsReserved}
 use Rattle.match_tree.proofs.SlotsLemmas.{below_further}
+use Rattle.match_tree.proofs.FirstLemmas.{all_in, all_members}
 use Rattle.match_tree.proofs.MatchLemmas.{suits_with, agrees_with}
 
 below_next : (n : ℕ) (slots : Assignment) → AreBelow n slots → AreBelow (n + 1) slots
@@ -44,27 +45,18 @@ can_grown t u letters n p slots same within can m =
       below = below_further slots p n (n + 1) (below_next n slots can.below) (omega arith);
     })
 
-one_in : {X : Type 0} (P : X → Type 0) (x : X) (xs : List X) → AllByRecursion P xs → IsIn x xs → P x
-one_in P x [] h m = absurd m
-one_in P x (y ∷ xs) h (inl e) = subst P e h.0
-one_in P x (y ∷ xs) h (inr m) = one_in P x xs h.1 m
-
-all_of : {X : Type 0} (P : X → Type 0) (xs : List X) → ((x : X) → IsIn x xs → P x) → AllByRecursion P xs
-all_of P [] h = tt
-all_of P (x ∷ xs) h = (h x (inl refl), all_of P xs (λ y m. h y (inr m)))
-
 -- the paths that are kept where the number completes no match
 pub kept_can : (t before after : Tree) (letters : List Message) (n : ℕ) (q : Assignment → Bool) (reserve : Option Reserve) → n < length letters → AllByRecursion (CanOffer (offer_to t letters n)) t.paths → IsReserved (offer_to t letters n) t.paths reserve
     → before.paths ≡ filter q t.paths → MatchOption reserve ⊥ (λ r. (r.best ≡ None) × SameMembers after.paths (before.paths ++ r.aside)) → after.definition ≡ t.definition
     → AllByRecursion (CanOffer (offer_to after letters (n + 1))) after.paths
 kept_can t before after letters n q None within can reserved left gains same = absurd gains
-kept_can t before after letters n q (Some r) within can reserved left gains same = all_of (CanOffer (offer_to after letters (n + 1))) after.paths one
+kept_can t before after letters n q (Some r) within can reserved left gains same = all_members (CanOffer (offer_to after letters (n + 1))) after.paths one
   where
     o : Offered
     o = offer_to t letters n
 
     at : (x : Assignment) → IsIn x t.paths → CanOffer o x
-    at x m = one_in (CanOffer o) x t.paths can m
+    at x m = all_in (CanOffer o) t.paths x can m
 
     new : (x : Assignment) → IsIn x (extensions o (seen_paths o t.paths)) → CanOffer (offer_to after letters (n + 1)) x
     new x m =
@@ -82,12 +74,12 @@ kept_can t before after letters n q (Some r) within can reserved left gains same
 -- the paths that are left where a match fires
 pub left_can : (t after : Tree) (letters : List Message) (n : ℕ) (p q : Assignment → Bool) → n < length letters → AllByRecursion (CanOffer (offer_to t letters n)) t.paths → after.paths ≡ filter p (filter q t.paths) → after.definition ≡ t.definition
     → AllByRecursion (CanOffer (offer_to after letters (n + 1))) after.paths
-left_can t after letters n p q within can left same = all_of (CanOffer (offer_to after letters (n + 1))) after.paths one
+left_can t after letters n p q within can left same = all_members (CanOffer (offer_to after letters (n + 1))) after.paths one
   where
     one : (x : Assignment) → IsIn x after.paths → CanOffer (offer_to after letters (n + 1)) x
     one x m =
         let first = (IsIn-filter_from p x (filter q t.paths) (subst (λ xs. IsIn x xs) left m)).0 in
-        can_next t after letters n x same within (one_in (CanOffer (offer_to t letters n)) x t.paths can (IsIn-filter_from q x t.paths first).0)
+        can_next t after letters n x same within (all_in (CanOffer (offer_to t letters n)) t.paths x can (IsIn-filter_from q x t.paths first).0)
 
 pub sees_itself : (window : Option ℕ) (n : ℕ) → SeesLatest window → 1 ≤ n → oldest_seen window n ≤ n
 sees_itself None n sees some = some

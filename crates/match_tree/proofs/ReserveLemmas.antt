@@ -23,6 +23,7 @@ use Rattle.match_tree.specs.Tries.{tried, tries, tries_behind}
 use Rattle.match_tree.specs.Tree.{Tree, empty_of, offer_to, SameMembers, is_path_seen, seen_paths, extensions, completions, IsReserved}
 use Rattle.match_tree.specs.Kept.{IsKept, SeesAdded, paths_of, reserve_of, tree_of}
 use Rattle.match_tree.specs.declared.pending.Pending.{Pending}
+use Rattle.match_tree.proofs.FirstLemmas.{all_in, all_members}
 use Rattle.match_tree.proofs.KeptLemmas.{parts_count, same_map, settled_none, and_true, and_assoc, and_comm}
 
 lead_from : (o : Offered) (slots : Assignment) (routes : List Route) → AreOpen slots routes → AllByRecursion (CanOffer o) (map (filled slots) routes) → LeadOn o slots routes
@@ -111,11 +112,6 @@ all_new : (o : Offered) (slots : Assignment) (routes : List Route) → AllByRecu
 all_new o slots [] = tt
 all_new o slots (r ∷ routes) = all_joined (λ q. lacks (o.number ∷ []) q ≡ false) (map (λ p. r ++ step p o.number ∷ []) (growing o (filled slots r))) (new_routes o slots routes) (all_ends o.number r (growing o (filled slots r))) (all_new o slots routes)
 
-one_in : {X : Type 0} (P : X → Type 0) (x : X) (xs : List X) → AllByRecursion P xs → IsIn x xs → P x
-one_in P x [] h m = absurd m
-one_in P x (y ∷ xs) h (inl e) = subst P e h.0
-one_in P x (y ∷ xs) h (inr m) = one_in P x xs h.1 m
-
 -- the added routes are those that the number adds behind the empty path and behind the seen routes
 same_added : (o : Offered) (slots : Assignment) (before now : List Route) → Lasts o.number before now → Grows o slots (growing o slots) before now
     → SameMembers (filter (λ r. not (lacks (o.number ∷ []) r)) now) (new_routes o slots ([] ∷ seen o before))
@@ -130,7 +126,7 @@ same_added o slots before now lasts grows = record {
         ]
       ];
   back = λ r m.
-      let taken = one_in (λ q. lacks (o.number ∷ []) q ≡ false) r (here ++ later) (all_new o slots ([] ∷ seen o before)) m in
+      let taken = all_in (λ q. lacks (o.number ∷ []) q ≡ false) (here ++ later) r (all_new o slots ([] ∷ seen o before)) m in
       IsIn-filter (λ q. not (lacks (o.number ∷ []) q)) r now (ap not taken)
       (elim (IsIn-append_cases r here later m) [
         | inl begun ↦ grows.begins r begun
@@ -195,15 +191,11 @@ seen_filter oldest (r ∷ routes) = by (is_seen oldest r) refl (seen_filter olde
     by true e later = (e, later)
     by false e later = later
 
-all_members : {X : Type 0} (P : X → Type 0) (xs : List X) → ((x : X) → IsIn x xs → P x) → AllByRecursion P xs
-all_members P [] h = tt
-all_members P (x ∷ xs) h = (h x (inl refl), all_members P xs (λ y m. h y (inr m)))
-
 seen_added : (o : Offered) (slots : Assignment) (before now : List Route) → nat_le o.oldest o.number ≡ true → Lasts o.number before now → Grows o slots (growing o slots) before now
     → AllByRecursion (λ r. is_seen o.oldest r ≡ true) (filter (λ r. not (lacks (o.number ∷ []) r)) now)
 seen_added o slots before now e lasts grows =
     all_members (λ r. is_seen o.oldest r ≡ true) (filter (λ r. not (lacks (o.number ∷ []) r)) now)
-    (λ r m. one_in (λ q. is_seen o.oldest q ≡ true) r (new_routes o slots ([] ∷ seen o before)) (seen_new o slots ([] ∷ seen o before) e (refl, seen_filter o.oldest before)) ((same_added o slots before now lasts grows).to r m))
+    (λ r m. all_in (λ q. is_seen o.oldest q ≡ true) (new_routes o slots ([] ∷ seen o before)) r (seen_new o slots ([] ∷ seen o before) e (refl, seen_filter o.oldest before)) ((same_added o slots before now lasts grows).to r m))
 
 lasts_alike : (n : ℕ) (before now : List Route) → Lasts n before now → now ≡ before → AllByRecursion (λ r. lacks (n ∷ []) r ≡ true) now
 lasts_alike n before now lasts same = subst (AllByRecursion (λ r. lacks (n ∷ []) r ≡ true)) (lasts ∙ sym same) (lack_filter now)

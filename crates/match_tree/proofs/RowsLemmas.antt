@@ -17,6 +17,7 @@ use Rattle.pattern_core.proofs.BestLemmas.{least-append}
 use Rattle.pattern_core.proofs.MembersLemmas.{IsIn-filter, IsIn-filter_from}
 use Rattle.match_tree.specs.Routes.{Route, Branch, step, node_routes, row_routes, rows_routes, lacks, is_one_of}
 use Rattle.std.specs.declared.alloc.Global.{Global}
+use Rattle.std.proofs.Math.Bool.{or-true}
 use Rattle.match_tree.specs.declared.node.Node.{Node}
 use Rattle.match_tree.specs.Rows.{rows_of}
 use Rattle.match_tree.specs.Offers.{Offered, places, may_take, leaves_one_free, matches_at, seen, new_matches, takers, growing}
@@ -214,14 +215,10 @@ one_of_in (x ∷ ps) p h = by (p == x) refl h (one_of_in ps p)
     by true e k later = inl (grind (arith, nat_tests))
     by false e k later = inr (later k)
 
-or_true : (b : Bool) → (b || true) ≡ true
-or_true true = refl
-or_true false = refl
-
 in_one_of : (ps : List ℕ) (p : ℕ) → IsIn p ps → is_one_of ps p ≡ true
 in_one_of [] p m = absurd m
 in_one_of (x ∷ ps) p (inl e) = let same : (p == x) ≡ true = grind (arith, nat_tests) in λ i. same i || is_one_of ps p
-in_one_of (x ∷ ps) p (inr m) = (λ i. (p == x) || in_one_of ps p m i) ∙ or_true (p == x)
+in_one_of (x ∷ ps) p (inr m) = (λ i. (p == x) || in_one_of ps p m i) ∙ or-true (p == x)
 
 in_places : {X : Type 0} (p k : ℕ) (xs : List X) → k ≤ p → p < k + length xs → IsIn p (places k xs)
 in_places p k [] l h = absurd (omega arith)

@@ -4,6 +4,7 @@ use Rattle.std.specs.Prelude.{◌==◌, ◌||◌, if◌then◌else◌}
 use Rattle.std.specs.List.{AllByRecursion, list_any}
 use Rattle.std.proofs.lemmas.Bool.Decides.{nat_tests}
 use Rattle.std.proofs.lemmas.List.{length-map}
+use Rattle.std.proofs.Math.Bool.{or-true}
 use Rattle.pattern_core.specs.Matches.{partial_count}
 use Rattle.pattern_core.specs.Suits.{IsRecorded}
 use Rattle.pattern_core.specs.Window.{SeesLatest}
@@ -27,14 +28,10 @@ use Rattle.run_fits.proofs.SoundLemmas.{EntrySound, IsSound, all_sound, opening_
 
 -- ---- the rules of an actor of a well typed plan
 
-or_true : (a : Bool) → (a || true) ≡ true
-or_true true = refl
-or_true false = refl
-
 -- what follows where one of them passes follows from each
 any_each : {X : Type 0} (test : X → Bool) (P : Type 0) (xs : List X) → (list_any test xs ≡ true → P) → AllByRecursion (λ x. test x ≡ true → P) xs
 any_each test P [] h = tt
-any_each {X} test P (x ∷ xs) h = (λ e. h (ap (λ (b : Bool). b || list_any test xs) e), any_each test P xs (λ e. h (ap (λ (b : Bool). test x || b) e ∙ or_true (test x))))
+any_each {X} test P (x ∷ xs) h = (λ e. h (ap (λ (b : Bool). b || list_any test xs) e), any_each test P xs (λ e. h (ap (λ (b : Bool). test x || b) e ∙ or-true (test x))))
 
 sees_of : (window : Option ℕ) → IsTypedWindow window → SeesLatest window
 sees_of None h = tt

@@ -7,6 +7,7 @@ use Rattle.std.proofs.lemmas.Bool.Decides.{nat_tests}
 use Rattle.std.proofs.lemmas.List.{length-map, length-set, map-append}
 use Rattle.std.proofs.lemmas.List.Elements.{All-push, All-filter}
 use Rattle.std.proofs.lemmas.List.Kept.{IsStrictlyIncreasing-filter}
+use Rattle.std.proofs.lemmas.Bool.{or_parts}
 use Rattle.join_base.specs.Late.{Late, late_more, raised}
 use Rattle.join_base.specs.Stamps.{greatest_stamp}
 use Rattle.join_base.specs.Taken.{contains_number, without}
@@ -40,10 +41,6 @@ use Rattle.fair_semantics.proofs.ListLemmas.{each_append, each_map, each_replica
 use Rattle.fair_semantics.proofs.StepLemmas.{number_of_newest}
 use Rattle.run_fits.specs.FitsLaw.{SentFits}
 use Rattle.run_fits.proofs.RestLemmas.{CanRest, IsResting, cleared_count, cleared_rests, fired_fewer, fired_rests, none_chosen, takes_newest}
-
-or_parts : (a b : Bool) → (a || b) ≡ false → (a ≡ false) × (b ≡ false)
-or_parts true b e = absurd cc
-or_parts false b e = (refl, e)
 
 below : (n m : ℕ) → nat_le n m ≡ false → m < n
 below n m e = grind (arith, nat_tests)

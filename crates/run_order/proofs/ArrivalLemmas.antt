@@ -9,7 +9,8 @@ use Rattle.join_base.specs.declared.message.Stamped.{Stamped}
 use Rattle.fair_semantics.specs.declared.run.Entry.{Entry}
 use Rattle.fair_semantics.specs.Fair.{Sent}
 use Rattle.fair_semantics.specs.Linked.{arrived_after}
-use Rattle.run_order.proofs.EventLemmas.{Event, for_actor, if_to, pair_of, same_number, sent_to}
+use Rattle.fair_semantics.proofs.CountedLemmas.{same_number}
+use Rattle.run_order.proofs.EventLemmas.{Event, for_actor, if_to, pair_of, sent_to}
 use Rattle.run_order.proofs.GivenLemmas.{carried}
 
 pub arrived_after-append : (posts : Source → List Stamped) (before xs ys : List Entry) → arrived_after posts before (xs ++ ys) ≡ arrived_after posts before xs ++ arrived_after posts (before ++ xs) ys

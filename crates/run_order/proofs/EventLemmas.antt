@@ -15,6 +15,8 @@ use Rattle.fair_semantics.specs.Step.{Setting, State, fair_step, opening}
 use Rattle.fair_semantics.specs.Fair.{Sent, after_all, setting_of}
 use Rattle.fair_semantics.specs.Linked.{entry_posts, feed_posts, same_source}
 use Rattle.fair_semantics.specs.Schedule.{System, system_at_first, waiting_at_first}
+use Rattle.fair_semantics.proofs.CountedLemmas.{same_number}
+use Rattle.fair_semantics.proofs.FairLemmas.{after_all-append}
 pub use Rattle.run_order.specs.Sorted.{for_actor, if_to}
 
 -- an actor, and what it is given
@@ -35,9 +37,6 @@ sent_from source sent = filter_map (if_from source) sent
 
 -- ---- tests
 
-pub same_number : (a b : ℕ) → (a == b) ≡ true → a ≡ b
-same_number a b e = (Decides-eqb a b).0 e
-
 pub same_source_is : (s t : Source) → same_source s t ≡ true → s ≡ t
 same_source_is (Feed j) (Feed k) e = ap (λ (n : ℕ). Feed n) (same_number j k e)
 same_source_is (Feed j) (Actor b) e = absurd cc
@@ -54,10 +53,6 @@ same_source_swap (Actor a) (Feed k) = refl
 same_source_swap (Actor a) (Actor b) = number_swap a b
 
 -- ---- lists
-
-pub after_all-append : (setting : Setting) (state : State) (xs ys : List Sent) → after_all setting state (xs ++ ys) ≡ after_all setting (after_all setting state xs) ys
-after_all-append setting state [] ys = refl
-after_all-append setting state (x ∷ xs) ys = after_all-append setting (fair_step setting state x.0 x.1.message x.1.stamp).0 xs ys
 
 -- what stands behind the first ones begins with this one
 pub record Begins (post : Stamped) (posts : List Stamped) : Type 0 where

@@ -2,12 +2,8 @@
 use Rattle.std.proofs.Common.{◌≡◌, ◌⊎◌, inl, inr, ℕ, zero, suc, ◌<◌, List, [], ◌∷◌, ◌++◌, length, get_or, Option, None, Some, slice_get, length-append, refl, ap, subst, arith}
 use Rattle.std.specs.List.{AllByRecursion}
 use Rattle.pattern_core.specs.Members.{IsIn}
+pub use Rattle.fair_semantics.proofs.ListLemmas.{each_in}
 use Rattle.fair_semantics.proofs.StampLemmas.{found_in}
-
-pub each_in : {X : Type 0} (P : X → Type 0) (xs : List X) → AllByRecursion P xs → (x : X) → IsIn x xs → P x
-each_in P [] h x i = absurd i
-each_in P (y ∷ xs) h x (inl is) = let here = h.0 in subst (λ z. P z) is here
-each_in P (y ∷ xs) h x (inr i) = each_in P xs h.1 x i
 
 pub in_each : {X : Type 0} (P : X → Type 0) (xs : List X) → ((x : X) → IsIn x xs → P x) → AllByRecursion P xs
 in_each P [] h = tt

@@ -11,10 +11,11 @@ use Rattle.fair_semantics.specs.declared.run.ActorRun.{ActorRun}
 use Rattle.fair_semantics.specs.Linked.{numbers_from}
 use Rattle.fair_semantics.specs.StampLaw.{arrivals_of}
 use Rattle.fair_semantics.proofs.ListLemmas.{each_append, each_from}
+use Rattle.fair_semantics.proofs.CountedLemmas.{same_number}
 pub use Rattle.run_order.specs.Sorted.{entries_in}
 use Rattle.run_order.specs.Sorted.{ComesFirst}
 use Rattle.run_order.specs.Order.{by_stamp, of_each, with_stamp}
-use Rattle.run_order.proofs.EventLemmas.{for_actor, if_to, same_number}
+use Rattle.run_order.proofs.EventLemmas.{for_actor, if_to}
 use Rattle.run_order.proofs.SourceLemmas.{is_itself, not_equal}
 use Rattle.run_order.proofs.RecordLemmas.{AreRising}
 use Rattle.run_order.proofs.ListLemmas.{at_place}

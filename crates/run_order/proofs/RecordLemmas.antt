@@ -6,7 +6,7 @@ use Rattle.fair_semantics.specs.declared.run.Entry.{Entry}
 use Rattle.fair_semantics.specs.Step.{Arrival, Setting, State, arrival_step, definitions_of, entry_with, fair_step, is_refused, is_running, late_step, letters_with, live_with, running_step, spent_step, step_by}
 use Rattle.fair_semantics.specs.Fair.{Sent, after_all}
 use Rattle.fair_semantics.proofs.ChainLemmas.{Records, adds, arrival_of, keeps_ended, recorded_by}
-use Rattle.run_order.proofs.EventLemmas.{after_all-append}
+use Rattle.fair_semantics.proofs.FairLemmas.{after_all-append}
 use Rattle.run_order.proofs.ListLemmas.{nothing_more}
 
 module _ (setting : Setting) where

@@ -19,7 +19,8 @@ use Rattle.fair_semantics.specs.Fair.{Sent, setting_of}
 use Rattle.fair_semantics.specs.Linked.{entry_posts, same_source}
 use Rattle.fair_semantics.specs.Schedule.{System, after_schedule, left_waiting, newly_waiting, posts_made, scheduled_step, state_after, taking}
 use Rattle.fair_semantics.proofs.ChainLemmas.{adds}
-use Rattle.run_order.proofs.EventLemmas.{Begins, Event, IsSystemAt, Waits, begins_behind, if_from, made, moves, pair_of, same_number, same_source_is, same_source_swap, sent_from, sent_later, sent_to, state_at, stays}
+use Rattle.fair_semantics.proofs.CountedLemmas.{same_number}
+use Rattle.run_order.proofs.EventLemmas.{Begins, Event, IsSystemAt, Waits, begins_behind, if_from, made, moves, pair_of, same_source_is, same_source_swap, sent_from, sent_later, sent_to, state_at, stays}
 
 -- what a step added to the entries stands behind those before
 pub drop_added : (setting : Setting) (state : State) (sent : Sent) (target : ℕ) → flat_map (entry_posts target) (fair_step setting state sent.0 sent.1.message sent.1.stamp).0.entries ≡ flat_map (entry_posts target) state.entries ++ posts_made state (fair_step setting state sent.0 sent.1.message sent.1.stamp).0 target

@@ -17,8 +17,8 @@ use Rattle.fair_semantics.specs.Step.{Setting, State, is_refused, is_running, op
 use Rattle.fair_semantics.specs.Fair.{Sent, after_all}
 use Rattle.fair_semantics.specs.Linked.{arrived, count_of, given_by, messages_of, rest_of, rests_by, rests_in_order, same_source, sources, taken_from}
 use Rattle.fair_semantics.proofs.KeptLemmas.{late_list_zero}
-use Rattle.fair_semantics.proofs.ListLemmas.{each_replicate, each_append}
-use Rattle.run_order.proofs.EventLemmas.{after_all-append, if_from, same_source_is, sent_from}
+use Rattle.fair_semantics.proofs.ListLemmas.{each_replicate, each_append, each_right}
+use Rattle.run_order.proofs.EventLemmas.{if_from, same_source_is, sent_from}
 use Rattle.run_order.proofs.GivenLemmas.{arrived_all}
 use Rattle.run_order.proofs.RestLemmas.{all_from, one_apart, one_left_over, order_same}
 use Rattle.run_order.proofs.SourceLemmas.{OneOf, actor_among, feed_among}
@@ -30,6 +30,7 @@ use Rattle.fair_semantics.proofs.LateLemmas.{actor_count, feed_count}
 use Rattle.fair_semantics.proofs.RestLemmas.{each_in, each_in_order, each_of_all, none_in}
 use Rattle.fair_semantics.proofs.NumberLemmas.{equal_at, zero_at}
 use Rattle.fair_semantics.proofs.NumberLemmas.{among_sources, first_of}
+use Rattle.fair_semantics.proofs.FairLemmas.{after_all-append}
 use Rattle.schedule_law.proofs.BehindLemmas.{AreRecords, Left, Refuses, Split, arrived_are, behind_entries, behind_late, ended_state, left, none_behind, spent_of, spent_state, split, taken_are, taken_count_from, with_late}
 use Rattle.schedule_law.proofs.LeadLemmas.{RefusesFirst, refuses_first}
 
@@ -47,10 +48,6 @@ pub one_is_in : (source : Source) (xs : List Source) → OneOf source xs → IsI
 one_is_in source [] one = absurd one
 one_is_in source (x ∷ xs) (inl h) = inl (same_source_is x source h.0)
 one_is_in source (x ∷ xs) (inr h) = inr (one_is_in source xs h.1)
-
-each_right : {X : Type 0} (P : X → Type 0) (xs ys : List X) → AllByRecursion P (xs ++ ys) → AllByRecursion P ys
-each_right P [] ys each = each
-each_right P (x ∷ xs) ys each = each_right P xs ys each.1
 
 each_stamped : (P : Sent → Type 0) (source : Source) (posts : List Stamped) → ((post : Stamped) → P (source, post)) → AllByRecursion P (map (λ post. (source, post)) posts)
 each_stamped P source [] h = tt

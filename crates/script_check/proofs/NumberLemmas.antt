@@ -2,7 +2,7 @@
 use Rattle.std.proofs.Common.{◌≡◌, ◌⊎◌, inl, inr, ℕ, ℤ, ◌-◌, ◌≤◌, Bool, true, false, not, ◌&&◌, ◌||◌, ◌==◌, List, [], ◌∷◌, ◌++◌, map, refl, arith}
 use Rattle.std.specs.Prelude.{nat_le, unsigned_abs}
 use Rattle.std.specs.List.{AllByRecursion, IsDistinct, filter_map, list_any}
-use Rattle.std.proofs.lemmas.Bool.{leb-true}
+use Rattle.std.proofs.lemmas.Bool.{leb-true, not-true, and_parts}
 use Rattle.std.proofs.lemmas.Bool.Decides.{nat_tests}
 use Rattle.script_grammar.specs.declared.fault.ScriptCause.{ScriptCause}
 use Rattle.script_grammar.specs.declared.fault.ScriptCause.TheVariants.{BadReply, BadWindow}
@@ -30,20 +30,12 @@ tested : (b : Bool) (cause : ScriptCause) (place : ℕ) → fault_if (not b) cau
 tested true cause place none = refl
 tested false cause place none = absurd cc
 
-both_true : (a b : Bool) → (a && b) ≡ true → (a ≡ true) × (b ≡ true)
-both_true true b is = (refl, is)
-both_true false b is = absurd cc
-
-not_true : (b : Bool) → not b ≡ true → b ≡ false
-not_true true is = absurd cc
-not_true false is = refl
-
 -- ---- windows
 
 pub window_fits : (number : ℕ × ℤ) → fault_if (not (is_window (unsigned_abs number.1))) BadWindow number.0 ≡ [] → (1 ≤ unsigned_abs number.1) × (unsigned_abs number.1 ≤ 1000000)
 window_fits number none =
     let n = unsigned_abs number.1 in
-    let both = both_true (nat_le 1 n) (nat_le n 1000000) (tested (is_window n) BadWindow number.0 none) in
+    let both = and_parts (nat_le 1 n) (nat_le n 1000000) (tested (is_window n) BadWindow number.0 none) in
     (leb-true 1 n both.0, leb-true n 1000000 both.1)
 
 -- ---- replies
@@ -63,9 +55,9 @@ record Allowed (patterns : ℕ) (earlier : List ℕ) (number : ℕ) : Type 0 whe
 allowed : (patterns : ℕ) (earlier : List ℕ) (number place : ℕ) → fault_if (not (may_reply patterns earlier number)) BadReply place ≡ [] → Allowed patterns earlier number
 allowed patterns earlier number place none =
     let is_named = list_any (λ other. number == other) earlier in
-    let one = both_true (nat_le 1 number) (nat_le number patterns && not is_named) (tested (may_reply patterns earlier number) BadReply place none) in
-    let two = both_true (nat_le number patterns) (not is_named) one.1 in
-    record { some = leb-true 1 number one.0; few = leb-true number patterns two.0; new = not_true is_named two.1 }
+    let one = and_parts (nat_le 1 number) (nat_le number patterns && not is_named) (tested (may_reply patterns earlier number) BadReply place none) in
+    let two = and_parts (nat_le number patterns) (not is_named) one.1 in
+    record { some = leb-true 1 number one.0; few = leb-true number patterns two.0; new = not-true is_named two.1 }
 
 pub numbers_fit : (patterns : ℕ) (earlier : List ℕ) (body : List StatementDecl) → reply_faults patterns earlier body ≡ [] → AllByRecursion (NumberFits patterns) body
 numbers_fit patterns earlier [] none = tt

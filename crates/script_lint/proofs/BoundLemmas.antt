@@ -7,6 +7,7 @@ use Rattle.std.specs.Ordering.{int_eq}
 use Rattle.std.specs.List.{AllByRecursion}
 use Rattle.std.proofs.lemmas.Bool.Decides.{Decides-int_eq, Decides-like, nat_tests, same_from_decides}
 use Rattle.std.proofs.lemmas.Int.{ints}
+use Rattle.std.proofs.lemmas.Bool.{or_parts}
 use Rattle.join_base.specs.declared.message.Value.{Value}
 use Rattle.join_base.specs.declared.message.Value.TheVariants.{Int, Words}
 use Rattle.join_base.specs.declared.message.Message.{Message}
@@ -24,14 +25,12 @@ use Rattle.guard_eval.specs.declared.term.Operand.TheVariants as operand
 use Rattle.guard_eval.specs.Meaning.{Assignment, Need, compares, field_of, has_some, int_of, int_relation, is_true, leaf_needs, leaf_value, letter_at, letter_of, needs_of, number_at, operand_needs, signed_value, term_needs, term_value, value_at, words_needs, words_relation, words_value}
 use Rattle.guard_eval.proofs.ExtendLemmas.{both_true}
 use Rattle.pattern_core.specs.Matches.{makes_all_true}
+use Rattle.fair_semantics.proofs.CountedLemmas.{same_number}
 use Rattle.script_lint.specs.declared.bounds.Bound.{Bound}
 use Rattle.script_lint.specs.declared.bounds.Interval.{Interval}
 use Rattle.script_lint.specs.Bounds.{bound_between, bound_by, bound_of, bound_of_atom, cut, cut_by, cut_by_all, field_of_leaf, fixed_sum, holds_throughout, interval_of, is_bounding, is_empty, is_same_place, lone_field, mirrored, only_atom, over, under, whole}
 use Rattle.script_lint.specs.Law.{HasValuesInRange, InRange}
 use Rattle.script_lint.proofs.ListLemmas.{or_false, some_at}
-
-same_number : (a b : ℕ) → (a == b) ≡ true → a ≡ b
-same_number a b h = grind (arith, nat_tests)
 
 pub is_same_place-tells : (a b : Place) → is_same_place a b ≡ true → a ≡ b
 is_same_place-tells a b h =
@@ -136,10 +135,6 @@ throughout i Greater n v h w = above_all i.above n v h w.above
 throughout i GreaterEqual n v h w = from_all i.above n v h w.above
 
 -- ---- terms without a variable
-
-pub or_parts : (a b : Bool) → (a || b) ≡ false → (a ≡ false) × (b ≡ false)
-or_parts true b e = absurd cc
-or_parts false b e = (refl, e)
 
 has_some-append : (xs ys : List Need) → has_some (xs ++ ys) ≡ (has_some xs || has_some ys)
 has_some-append [] ys = refl

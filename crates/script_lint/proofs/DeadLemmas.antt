@@ -4,6 +4,7 @@ use Rattle.std.specs.Option.{option_and_then}
 use Rattle.std.specs.List.{AllByRecursion}
 use Rattle.std.specs.Str.{bytes_eq}
 use Rattle.std.proofs.lemmas.Slice.Eq.{bytes_eq-Decides}
+use Rattle.std.proofs.lemmas.Bool.{not-true}
 use Rattle.join_base.specs.declared.message.Message.{Message}
 use Rattle.join_base.specs.declared.message.Relation.TheVariants.{Equal, NotEqual, Less, LessEqual, Greater, GreaterEqual}
 use Rattle.guard_eval.specs.Condition.{Condition, Never, Compares, Negated, Grouped, Either}
@@ -22,10 +23,6 @@ use Rattle.script_lint.specs.Findings.{Fixing, fixes_otherwise, fixing_by, fixin
 use Rattle.script_lint.specs.Law.{HasValuesInRange}
 use Rattle.script_lint.proofs.BoundLemmas.{constant, empty_has_none, in_interval, is_same_place-tells, only_is}
 use Rattle.script_lint.proofs.ListLemmas.{all_at, any_in, or_cases}
-
-pub not_true : (b : Bool) → not b ≡ true → b ≡ false
-not_true true e = absurd cc
-not_true false e = refl
 
 pub not_both : (b : Bool) → b ≡ true → b ≡ false → ⊥
 not_both true e f = absurd cc
@@ -78,7 +75,7 @@ module _ (letters : List Message) (slots : Assignment) where
     not_false : (c : Condition) → IsIn c conjuncts → is_always_false c ≡ true → ⊥
     not_false c m e =
         let parts = both_true (is_constant c) (not (is_true [] [] c)) e in
-        not_both (is_true letters slots c) (true_at c m) (constant letters slots c (not_true (has_some (needs_of c)) parts.0) ∙ not_true (is_true [] [] c) parts.1)
+        not_both (is_true letters slots c) (true_at c m) (constant letters slots c (not-true (has_some (needs_of c)) parts.0) ∙ not-true (is_true [] [] c) parts.1)
 
     not_emptied : (o : Option Bound) → is_emptied conjuncts o ≡ true → ⊥
     not_emptied None e = absurd cc
@@ -93,7 +90,7 @@ module _ (letters : List Message) (slots : Assignment) where
             let parts = both_true (is_same_place f.0 g.0) (not (bytes_eq f.1 g.1)) e in
             let place = is_same_place-tells f.0 g.0 parts.0 in
             let same : f.1 ≡ g.1 = sym says ∙ ap (λ (p : Place). words_of (value_at letters slots p)) place ∙ fixing_says other g i (true_at other m) in
-            not_both (bytes_eq f.1 g.1) ((bytes_eq-Decides f.1 g.1).1 same) (not_true (bytes_eq f.1 g.1) parts.1)
+            not_both (bytes_eq f.1 g.1) ((bytes_eq-Decides f.1 g.1).1 same) (not-true (bytes_eq f.1 g.1) parts.1)
 
     not_contradicted : (c : Condition) → IsIn c conjuncts → is_contradicted conjuncts (fixing_of c) ≡ true → ⊥
     not_contradicted c m e = by (fixing_of c) refl e

@@ -6,6 +6,7 @@ use Rattle.std.specs.List.{AllByRecursion}
 use Rattle.std.specs.Ordering.{is_gt}
 use Rattle.std.proofs.lemmas.Bool.Decides.{nat_tests}
 use Rattle.std.proofs.lemmas.List.{append-nil}
+use Rattle.std.proofs.lemmas.Bool.{or_parts}
 use Rattle.join_base.specs.Taken.{contains_number}
 use Rattle.join_base.specs.declared.message.Message.{Message}
 use Rattle.guard_eval.specs.Meaning.{letter_at}
@@ -28,14 +29,13 @@ use Rattle.fair_semantics.specs.declared.run.Firing.{Firing}
 use Rattle.fair_semantics.specs.declared.run.Limits.{Limits}
 use Rattle.fair_semantics.specs.Fair.{Sent, fair, rules_of, setting_of}
 use Rattle.fair_semantics.specs.Step.{definitions_of, letters_of, opening}
+use Rattle.fair_semantics.proofs.ListLemmas.{each_in, each_left}
 use Rattle.script_lint.specs.declared.finding.Finding.{Finding}
 use Rattle.script_lint.specs.declared.finding.Finding.TheVariants.{Dead, Narrow, Shadowed, Idle}
 use Rattle.script_lint.specs.Findings.{finding_of, findings, findings_behind, findings_from, first_shadow, idle_from, is_dead, is_narrow, kinds_behind, kinds_from, kinds_of, listed}
 use Rattle.script_lint.specs.Law.{AreInRange, FindingsNeverFire, HasValuesInRange, IdleKindsAreNeverTaken, IsAbout}
-use Rattle.script_lint.proofs.BoundLemmas.{or_parts}
 use Rattle.script_lint.proofs.DeadLemmas.{dead_is_false, not_both}
 use Rattle.script_lint.proofs.FiredLemmas.{Fired, all_sound}
-use Rattle.script_lint.proofs.ListLemmas.{each_in}
 use Rattle.script_lint.proofs.NarrowLemmas.{narrow_has_none}
 use Rattle.script_lint.proofs.ShadowLemmas.{also_matches, later_is_greater, shadow_of}
 
@@ -258,11 +258,7 @@ fired_of plan actor limits feeds sent values entry m firing e =
     let sound = all_sound (setting_of plan actor limits) sent (opening feeds (length plan.actors)) (record { firings = tt; values = tt }) values in
     let Each : Entry → Type 0 = λ x. IfSome x.firing (Fired rules (letters_of entries)) in
     let P : Option Firing → Type 0 = λ o. IfSome o (Fired rules (letters_of entries)) in
-    (subst P e (each_in Each entries entry m sound.firings), sound.values)
-
-each_left : {X : Type 0} (P : X → Type 0) (xs ys : List X) → AllByRecursion P (xs ++ ys) → AllByRecursion P xs
-each_left P [] ys h = tt
-each_left P (x ∷ xs) ys h = (h.0, each_left P xs ys h.1)
+    (subst P e (each_in Each entries sound.firings entry m), sound.values)
 
 -- what fired, and the rule whose definition it is
 record Chosen (rules : List Rule) (letters : List Message) (firing : Firing) : Type 0 where

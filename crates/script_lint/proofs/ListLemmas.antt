@@ -34,11 +34,6 @@ all_from p q f (x ∷ xs) h =
     let later = all_from p q f xs parts.1 in
     λ i. here i && later i
 
-pub each_in : {X : Type 0} (P : X → Type 0) (xs : List X) (x : X) → IsIn x xs → AllByRecursion P xs → P x
-each_in P [] x m h = absurd m
-each_in {X} P (y ∷ xs) x (inl e) h = let Q : X → Type 0 = λ z. P z in subst Q e h.0
-each_in P (y ∷ xs) x (inr m) h = each_in P xs x m h.1
-
 pub some_at : {X : Type 0} (P : X → Type 0) (xs : List X) (i : ℕ) → AllByRecursion P xs → IfSome (slice_get xs i) P
 some_at P [] i h = tt
 some_at P (x ∷ xs) zero h = h.0

@@ -5,6 +5,7 @@ use Rattle.std.specs.List.{AllByRecursion, IsDistinct, list_any}
 use Rattle.std.proofs.lemmas.Bool.Decides.{nat_tests}
 use Rattle.std.proofs.lemmas.List.{length-map}
 use Rattle.std.proofs.lemmas.Map.Steps.{length-le_from_distinct_below}
+use Rattle.std.proofs.lemmas.Bool.{or_parts}
 use Rattle.join_base.specs.declared.message.Message.{Message}
 use Rattle.guard_eval.specs.Meaning.{letter_at}
 use Rattle.pattern_core.specs.declared.definition.Definition.{Definition}
@@ -14,9 +15,10 @@ use Rattle.pattern_core.specs.Matches.{holds_number, is_of_kind}
 use Rattle.pattern_core.specs.Window.{is_seen, seen_of}
 use Rattle.pattern_core.proofs.MembersLemmas.{IsIn-filter_from, IsIn-map_from}
 use Rattle.fair_semantics.proofs.FitsLemmas.{length-Assigns}
+use Rattle.fair_semantics.proofs.ListLemmas.{each_in}
+use Rattle.fair_semantics.proofs.CountedLemmas.{same_number}
 use Rattle.script_lint.specs.Findings.{is_less_than, is_narrow}
-use Rattle.script_lint.proofs.BoundLemmas.{or_parts}
-use Rattle.script_lint.proofs.ListLemmas.{any_in, each_in}
+use Rattle.script_lint.proofs.ListLemmas.{any_in}
 
 slice_get-within : {X : Type 0} (xs : List X) (i : ℕ) (x : X) → slice_get xs i ≡ Some x → i < length xs
 slice_get-within [] i x e = absurd cc
@@ -77,14 +79,11 @@ module _ (letters : List Message) (live : List ℕ) (d : Definition) (window : �
   distinct (kind ∷ kinds) [] a late = absurd a
   distinct (kind ∷ kinds) (n ∷ taken) a late = (apart_all n late.0.recorded taken late.1 a.0.apart, distinct kinds taken a.1 late.1)
 
-  same_number : (a b : ℕ) → eqb a b ≡ true → a ≡ b
-  same_number a b e = grind (arith, nat_tests)
-
   near : (taken : List ℕ) → AllByRecursion IsLate taken → (q : ℕ) → list_any (eqb q) (map behind taken) ≡ true → q < window
   near taken late q e =
       let found = any_in (eqb q) (map behind taken) e in
       let from = IsIn-map_from behind found.0 taken found.1 in
-      let is_late = each_in IsLate taken from.0 from.1 late in
+      let is_late = each_in IsLate taken late from.0 from.1 in
       let same = same_number q found.0 found.2 in
       let gap : behind from.0 ≡ found.0 = from.2 in
       omega (arith, same, gap, is_late.recorded, is_late.late)

@@ -14,6 +14,7 @@ use Rattle.guard_eval.specs.declared.term.WordsLeaf.TheVariants as words
 use Rattle.guard_eval.specs.declared.term.Operand.{Operand}
 use Rattle.guard_eval.specs.declared.term.Operand.TheVariants as operand
 use Rattle.guard_eval.proofs.ExtendLemmas.{both_true}
+use Rattle.fair_semantics.proofs.CountedLemmas.{same_number}
 use Rattle.script_lint.specs.Same.{is_same, is_same_bool, is_same_leaf, is_same_operand, is_same_relation, is_same_signed, is_same_term, is_same_words, rank}
 use Rattle.script_lint.proofs.BoundLemmas.{is_same_place-tells}
 
@@ -38,9 +39,6 @@ relation_at-rank Less = refl
 relation_at-rank LessEqual = refl
 relation_at-rank Greater = refl
 relation_at-rank GreaterEqual = refl
-
-same_number : (a b : ℕ) → (a == b) ≡ true → a ≡ b
-same_number a b h = grind (arith, nat_tests)
 
 same_relation : (a b : Relation) → is_same_relation a b ≡ true → a ≡ b
 same_relation a b e = sym (relation_at-rank a) ∙ ap relation_at (same_number (rank a) (rank b) e) ∙ relation_at-rank b

@@ -7,6 +7,7 @@ use Rattle.std.specs.declared.cmp.Ordering.TheVariants.{Equal, Greater}
 use Rattle.std.proofs.lemmas.Bool.Decides.{nat_tests}
 use Rattle.std.proofs.lemmas.Cmp.{nat_list_cmp_total, tied_itself}
 use Rattle.std.proofs.lemmas.Slice.Eq.{bytes_eq-Decides}
+use Rattle.std.proofs.lemmas.Bool.{not-true}
 use Rattle.join_base.specs.Numbers.{ascending}
 use Rattle.join_base.specs.declared.message.Message.{Message}
 use Rattle.guard_eval.specs.Condition.{Condition}
@@ -27,7 +28,6 @@ use Rattle.script_lint.specs.Findings.{first_shadow, is_always_true, is_constant
 use Rattle.script_lint.specs.Law.{HasValuesInRange}
 use Rattle.script_lint.specs.Same.{is_same}
 use Rattle.script_lint.proofs.BoundLemmas.{bound_says, constant, in_interval, throughout}
-use Rattle.script_lint.proofs.DeadLemmas.{not_true}
 use Rattle.script_lint.proofs.ListLemmas.{all_at, all_from, any_in, or_cases}
 use Rattle.script_lint.proofs.SameLemmas.{same_condition}
 
@@ -69,7 +69,7 @@ module _ (letters : List Message) (slots : Assignment) (values : AllByRecursion 
   always_holds : (c : Condition) → is_always_true c ≡ true → is_true letters slots c ≡ true
   always_holds c e =
       let parts = both_true (is_constant c) (is_true [] [] c) e in
-      constant letters slots c (not_true (has_some (needs_of c)) parts.0) ∙ parts.1
+      constant letters slots c (not-true (has_some (needs_of c)) parts.0) ∙ parts.1
 
   implied_holds : (c : Condition) → is_implied conjuncts c ≡ true → is_true letters slots c ≡ true
   implied_holds c e =

@@ -3,6 +3,7 @@ use Rattle.std.proofs.Common.{◌≡◌, ◌⊎◌, inl, inr, ◌∙◌, ℕ, ze
 use Rattle.std.specs.Prelude.{◌==◌}
 use Rattle.std.specs.List.{filter, list_all}
 use Rattle.std.proofs.lemmas.Bool.Decides.{nat_tests}
+use Rattle.std.proofs.lemmas.Bool.{or_parts}
 use Rattle.join_base.specs.declared.message.Message.{Message}
 use Rattle.guard_eval.specs.Meaning.{Assignment, letter_at}
 use Rattle.guard_eval.proofs.ExtendLemmas.{both_true}
@@ -18,10 +19,6 @@ use Rattle.tree_law.proofs.EvalLemmas.{AreRecorded}
 pub both_of : (a b : Bool) → a ≡ true → b ≡ true → (a && b) ≡ true
 both_of true b p q = q
 both_of false b p q = p
-
-both_false : (a b : Bool) → (a || b) ≡ false → (a ≡ false) × (b ≡ false)
-both_false true b e = absurd cc
-both_false false b e = (refl, e)
 
 neither : (a b : Bool) → a ≡ false → b ≡ false → (a || b) ≡ false
 neither false b p q = q
@@ -45,17 +42,17 @@ free_not_full (Some k ∷ slots) (suc p) h = free_not_full slots p h
 
 holds_less : (slots : Assignment) (p m k : ℕ) → is_free slots p ≡ true → holds_number (with_number slots p m) k ≡ false → holds_number slots k ≡ false
 holds_less [] p m k free h = refl
-holds_less (None ∷ slots) zero m k free h = (both_false (k == m) (holds_number slots k) h).1
+holds_less (None ∷ slots) zero m k free h = (or_parts (k == m) (holds_number slots k) h).1
 holds_less (Some j ∷ slots) zero m k free h = absurd cc
 holds_less (slot ∷ slots) (suc p) m k free h =
-    let parts = both_false (slot_is k slot) (holds_number (with_number slots p m) k) h in
+    let parts = or_parts (slot_is k slot) (holds_number (with_number slots p m) k) h in
     neither (slot_is k slot) (holds_number slots k) parts.0 (holds_less slots p m k free parts.1)
 
 holds_more : (slots : Assignment) (p m k : ℕ) → holds_number slots k ≡ false → (k == m) ≡ false → holds_number (with_number slots p m) k ≡ false
 holds_more [] p m k h e = h
-holds_more (slot ∷ slots) zero m k h e = neither (k == m) (holds_number slots k) e (both_false (slot_is k slot) (holds_number slots k) h).1
+holds_more (slot ∷ slots) zero m k h e = neither (k == m) (holds_number slots k) e (or_parts (slot_is k slot) (holds_number slots k) h).1
 holds_more (slot ∷ slots) (suc p) m k h e =
-    let parts = both_false (slot_is k slot) (holds_number slots k) h in
+    let parts = or_parts (slot_is k slot) (holds_number slots k) h in
     neither (slot_is k slot) (holds_number (with_number slots p m) k) parts.0 (holds_more slots p m k parts.1 e)
 
 module _ (letters : List Message) where
@@ -129,7 +126,7 @@ module _ (letters : List Message) (xs : List ℕ) (n : ℕ) where
   Assigns-less (kind ∷ kinds) [] h out = h
   Assigns-less (kind ∷ kinds) (None ∷ slots) h out = Assigns-less kinds slots h out
   Assigns-less (kind ∷ kinds) (Some k ∷ slots) h out =
-      let parts = both_false (n == k) (holds_number slots n) out in
+      let parts = or_parts (n == k) (holds_number slots n) out in
       let among : IsIn k xs = elim (IsIn-append_cases k xs (n ∷ []) h.0.is_live) [ inl l ↦ l | inr r ↦ elim r [ inl e ↦ absurd (other n k parts.0 e) | inr f ↦ absurd f ] ] in
       (record { is_live = among; of_kind = h.0.of_kind; apart = h.0.apart }, Assigns-less kinds slots h.1 parts.1)
 
@@ -204,7 +201,7 @@ module _ (letters : List Message) (xs : List ℕ) (n : ℕ) where
   )
   Assigns-further (kind ∷ kinds) (None ∷ slots) (suc p) h free kind_is out = Assigns-further kinds slots p h free kind_is out
   Assigns-further (kind ∷ kinds) (Some k ∷ slots) (suc p) h free kind_is out =
-      let parts = both_false (n == k) (holds_number slots n) out in (
+      let parts = or_parts (n == k) (holds_number slots n) out in (
         record { is_live = IsIn-append_left k xs (n ∷ []) h.0.is_live; of_kind = h.0.of_kind; apart = holds_more slots p n k h.0.apart (turned n k parts.0) },
         Assigns-further kinds slots p h.1 free kind_is parts.1,
       )

@@ -91,7 +91,7 @@ pub record IsReserving (letters : List Message) (number : ℕ) (before now : Lis
 pub reserving_none : (letters : List Message) (number : ℕ) (trees : List Tree) → IsReserving letters number trees trees 0
 reserving_none letters number trees = record { same = refl; done = tt; left = refl; count = refl }
 
-all_last : {X : Type 0} (P : X → Type 0) (xs : List X) (x : X) → AllByRecursion P xs → P x → AllByRecursion P (xs ++ x ∷ [])
+pub all_last : {X : Type 0} (P : X → Type 0) (xs : List X) (x : X) → AllByRecursion P xs → P x → AllByRecursion P (xs ++ x ∷ [])
 all_last P [] x h k = (k, tt)
 all_last P (y ∷ xs) x h k = (h.0, all_last P xs x h.1 k)
 

@@ -15,14 +15,11 @@ use Rattle.pattern_core.proofs.MembersLemmas.{IsIn-filter_from}
 use Rattle.match_tree.specs.Below.{AreBelow}
 use Rattle.match_tree.specs.Offering.{CanOffer}
 use Rattle.match_tree.specs.Tree.{Tree}
+use Rattle.match_tree.proofs.FirstLemmas.{all_members}
 use Rattle.tree_law.specs.Partials.{AreLive, letters_more, number_more, offer_more}
 use Rattle.tree_law.specs.Trees.{Holds}
 use Rattle.tree_law.proofs.EvalLemmas.{letter_at-more, letter_of-more, agreeable-same}
 use Rattle.tree_law.proofs.AssignLemmas.{Assigns-recorded}
-
-all_members : {X : Type 0} (P : X → Type 0) (xs : List X) → ((x : X) → IsIn x xs → P x) → AllByRecursion P xs
-all_members P [] h = tt
-all_members P (x ∷ xs) h = (h x (inl refl), all_members P xs (λ y m. h y (inr m)))
 
 module _ (letters : List Message) (message : Message) (seen : List ℕ) (recorded : (k : ℕ) → IsIn k seen → IsRecorded letters k) where
   more_recorded : (k : ℕ) → IsRecorded letters k → IsRecorded (letters_more letters message) k

@@ -4,6 +4,7 @@ use Rattle.std.specs.Prelude.{if◌then◌else◌, ◌==◌}
 use Rattle.std.specs.Ordering.{is_le}
 use Rattle.std.specs.List.{filter, flat_map}
 use Rattle.std.proofs.lemmas.Bool.Decides.{nat_tests}
+use Rattle.std.proofs.Math.Bool.{or-true}
 use Rattle.join_base.specs.declared.message.Message.{Message}
 use Rattle.guard_eval.specs.Meaning.{Assignment}
 use Rattle.guard_eval.proofs.ExtendLemmas.{both_true}
@@ -75,16 +76,12 @@ none_first (Some x) (Some y) e = by (is_le (key_cmp x y)) e
 itself : (n : ℕ) → (n == n) ≡ true
 itself n = grind (arith, nat_tests)
 
-or_true : (a : Bool) → (a || true) ≡ true
-or_true true = refl
-or_true false = refl
-
 taken_with : (slots : Assignment) (p n : ℕ) → is_free slots p ≡ true → is_one_of (taken_of (with_number slots p n)) n ≡ true
 taken_with [] p n free = absurd cc
 taken_with (None ∷ slots) zero n free = λ i. itself n i || is_one_of (taken_of slots) n
 taken_with (Some k ∷ slots) zero n free = absurd cc
 taken_with (None ∷ slots) (suc p) n free = taken_with slots p n free
-taken_with (Some k ∷ slots) (suc p) n free = ap (λ (b : Bool). (n == k) || b) (taken_with slots p n free) ∙ or_true (n == k)
+taken_with (Some k ∷ slots) (suc p) n free = ap (λ (b : Bool). (n == k) || b) (taken_with slots p n free) ∙ or-true (n == k)
 
 -- each match that a number completes takes it
 completion_takes : (o : Offered) (paths : List Assignment) (c : Candidate) → IsIn c (completions o paths) → is_one_of c.taken o.number ≡ true
