@@ -7,7 +7,7 @@
 //! Contracts see a `Tree`: its paths as assignments, of which none stands twice, and what a reserve has set aside. `reserve_for`
 //! counts its tries: at most those of `tries`. Behind that stand nodes, each with a row of later nodes for each pattern. Rows are
 //! ring buffers in the order of their numbers, so that the oldest node goes at a constant cost, and only the nodes that go are
-//! counted.
+//! counted; no contract speaks of that.
 //!
 //! Tests show the calls of one arrival one behind the other: rows, and small scripts against a plain listing.
 #![tactic(auto)]

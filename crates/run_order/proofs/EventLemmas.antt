@@ -15,7 +15,7 @@ use Rattle.fair_semantics.specs.Step.{Setting, State, fair_step, opening}
 use Rattle.fair_semantics.specs.Fair.{Sent, after_all, setting_of}
 use Rattle.fair_semantics.specs.Linked.{entry_posts, feed_posts, same_source}
 use Rattle.fair_semantics.specs.Schedule.{System, system_at_first, waiting_at_first}
-use Rattle.fair_semantics.proofs.CountedLemmas.{same_number}
+pub use Rattle.fair_semantics.proofs.CountedLemmas.{same_number}
 use Rattle.fair_semantics.proofs.FairLemmas.{after_all-append}
 pub use Rattle.run_order.specs.Sorted.{for_actor, if_to}
 
