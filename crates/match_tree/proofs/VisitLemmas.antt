@@ -207,3 +207,15 @@ tries_further o slots q m (p ∷ ps) h = by (not (p == q)) refl (tries_further o
         let free = (both_true (is_free slots p) _ h.0).0 in
         (free_is_none (with_number slots q m) p (free_further slots q m p ∙ and_of (is_free slots p) (not (p == q)) free e), later)
     by false e later = later
+
+-- a node behind which no pattern may take the number
+pub passed_quiet : (o : Offered) (slots : Assignment) (q : ℕ) (node : Branch) → takers o (with_number slots q node.number) ≡ [] → IsOrderedNode node → LeadOn o slots (node_routes q node) → Passed o slots q (node ∷ []) (node ∷ [])
+passed_quiet o slots q node none ordered lead =
+    let leads = lead_below o slots q node lead in
+    let behind = quiet_below o (with_number slots q node.number) node.routes none leads.lead in
+    let quiet = quiet_map o slots (step q node.number) ([] ∷ node.routes) (none, behind) in
+    record {
+      stays = stays_same o slots q (node ∷ []) (ordered, tt) (all_both (LeadsOn o slots) (node_routes q node) [] lead tt);
+      grows = one_grows o slots q node node (quiet_grows o slots (node_routes q node) quiet);
+      none = one_none o slots q node (quiet_least o slots (node_routes q node) quiet);
+    }

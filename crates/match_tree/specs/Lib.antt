@@ -12,5 +12,6 @@ pub mod Order
 pub mod Growth
 pub mod Pruned
 pub mod Kept
+pub mod Screen
 -- What the joins and messages of tests are like.
 pub mod Samples

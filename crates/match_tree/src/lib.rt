@@ -18,6 +18,7 @@ mod offer;
 mod pending;
 mod prune;
 mod reserve;
+mod screen;
 #[cfg(test)]
 mod tests;
 mod tree;

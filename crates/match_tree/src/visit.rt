@@ -13,6 +13,7 @@ ghost use Rattle.match_tree.specs.Tries.{tries_behind};
 
 use crate::node::Node;
 use crate::offer::{Offer, best_match, contains, growing, takers, without};
+use crate::screen::{is_worth, screen_of};
 use join_base::{NoMemory, Numbers, Slots, Steps};
 use pattern_core::{Candidate, better};
 use std::alloc::Global;
@@ -147,7 +148,8 @@ fn visit_row<L: Ledger>(
     Ok(found)
 }
 
-// Offers the number to the paths of these nodes, in the order of their numbers, until a match is found.
+// Offers the number to the paths of these nodes, in the order of their numbers, until a match is found. Those that fail a
+// screen are left out.
 #[cycle(visit)]
 fn visit_nodes<L: Ledger>(
     alloc: Global,
@@ -177,9 +179,10 @@ fn visit_nodes<L: Ledger>(
     if wanted.len() == 0 {
         return Ok(None);
     }
+    let screen = screen_of(offer, pattern, wanted);
     for place in 0..nodes.len() {
         let node = &mut nodes[place];
-        if node.number() >= offer.oldest {
+        if is_worth(offer, screen, node.number()) {
             let longer = slots.with(pattern, node.number());
             let found = visit_node(alloc, offer, &longer, wanted, node, count, steps)?;
             if found.is_some() {

@@ -20,13 +20,15 @@ use Rattle.match_tree.proofs.PruneLemmas.{all_rows, all_rows_drop}
 use Rattle.match_tree.proofs.OpenLemmas.{open_below, open_now, open_node, open_on, open_all, open_push}
 use Rattle.match_tree.specs.Offering.{offered, CanOffer, MayTry, MayTake, LeadOn}
 use Rattle.match_tree.proofs.LeadLemmas.{lead_lasts, lead_node, lead_row, lead_below}
-use Rattle.match_tree.proofs.VisitLemmas.{Passed, passed_none, passed_seen, passed_unseen, stays_node, matches_node, quiet_row, quiet_least, quiet_grows, tries_further, all_take, nothing_here, nothing_grows}
-use Rattle.match_tree.proofs.WalkLemmas.{stays_sound, le_true, le_false, some_of, none_of, steps_behind, all_at, left_item, left_more, stopped, passed_on, left_set, counts_on, counts_all, tries_on, tries_most, found_first}
+use Rattle.match_tree.proofs.VisitLemmas.{Passed, passed_none, passed_seen, stays_node, matches_node, quiet_row, quiet_least, quiet_grows, tries_further, all_take, nothing_here, nothing_grows}
+use Rattle.match_tree.proofs.WalkLemmas.{stays_sound, some_of, none_of, steps_behind, all_at, left_item, left_more, stopped, passed_on, left_set, counts_on, counts_all, tries_on, tries_most, found_first}
+use Rattle.match_tree.specs.Screen.{is_worth}
+use Rattle.match_tree.proofs.ScreenLemmas.{passed_worthless, worth_is_seen}
 use Rattle.match_tree.proofs.OrderLemmas.{rows_ordered_behind, rows_sound}
 use Rattle.match_tree.proofs.SlotsLemmas.{free_is_none}
 use Rattle.match_tree.proofs.TakeLemmas.{takers_further}
 use Rattle.match_tree.proofs.visit.+visit.Goals as goal
-use Rattle.match_tree.proofs.visit.+visit.Goals.{visit_nodes-then-number-offer+in_ok-found+else-is_some, visit_nodes-else-number-offer, visit_row-then-is_none+then-contains+in_ok-push_leaf, visit_row-else-is_none, visit_row-else-is_none-via-then-is_none+else-contains, visit_row-else-is_none-via-else-is_none, visit_rows-then-len-gt0+in_ok-grow_rows, visit_rows-else-len-gt0}
+use Rattle.match_tree.proofs.visit.+visit.Goals.{visit_nodes-then-is_worth+in_ok-found+else-is_some, visit_nodes-else-is_worth, visit_row-then-is_none+then-contains+in_ok-push_leaf, visit_row-else-is_none, visit_row-else-is_none-via-then-is_none+else-contains, visit_row-else-is_none-via-else-is_none, visit_rows-then-len-gt0+in_ok-grow_rows, visit_rows-else-len-gt0}
 use denote.Param.Weighed.{at_most}
 use Rattle.match_tree.specs.declared.node.Node.TheDeep.{size-Node}
 use denote.Param.Weighed.{most}
@@ -87,7 +89,7 @@ visit_nodes-visit_node-requires g t c =
     let within : i < length a.nodes.now.items = omega (arith, c.loop-place-test.true, c.len-place-end.ensures, a.nodes.now.ok.0) in
     let At : Branch → Type 0 = λ x. LeadOn o a.slots.now (node_routes a.pattern x) in
     let leads = lead_below o a.slots.now a.pattern node (subst At (sym is) (lead_node o a.slots.now a.pattern a.nodes.now.items i d within c.requires.lead)) in
-    let longer : with_number a.slots.now a.pattern node.number ≡ c.with-longer.result = ap (with_number a.slots.now a.pattern) (sym c.number-then-number-offer.ensures) ∙ sym c.with-longer.ensures in
+    let longer : with_number a.slots.now a.pattern node.number ≡ c.with-longer.result = ap (with_number a.slots.now a.pattern) (sym c.number-then-is_worth.ensures) ∙ sym c.with-longer.ensures in
     let takers_are = takers_further o a.slots.now a.pattern node.number leads.free in
     let opened = subst (λ (x : Branch). AreOpen a.slots.now (node_routes a.pattern x)) (sym is) (open_node a.slots.now a.pattern a.nodes.now.items i d within c.requires.free_left) in
     let Can : Assignment → Type 0 = λ s. CanOffer o s in
@@ -188,7 +190,7 @@ visit_nodes-returns-in_err-found-clause-sound g t c =
     let leads = lead_below o a.slots.now a.pattern node (subst At (sym is) (lead_node o a.slots.now a.pattern a.nodes.now.items i d within c.requires.lead)) in
     let now = c.visit_node.new.node in
     let e = c.visit_node.ensures in
-    let longer : with_number a.slots.now a.pattern node.number ≡ c.with-longer.result = ap (with_number a.slots.now a.pattern) (sym c.number-then-number-offer.ensures) ∙ sym c.with-longer.ensures in
+    let longer : with_number a.slots.now a.pattern node.number ≡ c.with-longer.result = ap (with_number a.slots.now a.pattern) (sym c.number-then-is_worth.ensures) ∙ sym c.with-longer.ensures in
     let here = stays_node a.offer.now.number a.pattern node now leads.less e.number e.ordered e.lasting in
     let stays = stopped o a.slots.now a.pattern a.nodes.now.items items i node now d within within' is c.loop-place.invariant.left c.requires.sound.ordered c.requires.lead c.loop-place.invariant.passed.stays here in
     let opened = subst (λ (x : Branch). AreOpen a.slots.now (node_routes a.pattern x)) (sym is) (open_node a.slots.now a.pattern a.nodes.now.items i d within c.requires.free_left) in
@@ -212,7 +214,7 @@ visit_nodes-returns-in_err-found-clause-numbers g t c =
     let leads = lead_below o a.slots.now a.pattern node (subst At (sym is) (lead_node o a.slots.now a.pattern a.nodes.now.items i d within c.requires.lead)) in
     let now = c.visit_node.new.node in
     let e = c.visit_node.ensures in
-    let longer : with_number a.slots.now a.pattern node.number ≡ c.with-longer.result = ap (with_number a.slots.now a.pattern) (sym c.number-then-number-offer.ensures) ∙ sym c.with-longer.ensures in
+    let longer : with_number a.slots.now a.pattern node.number ≡ c.with-longer.result = ap (with_number a.slots.now a.pattern) (sym c.number-then-is_worth.ensures) ∙ sym c.with-longer.ensures in
     let here = stays_node a.offer.now.number a.pattern node now leads.less e.number e.ordered e.lasting in
     let stays = stopped o a.slots.now a.pattern a.nodes.now.items items i node now d within within' is c.loop-place.invariant.left c.requires.sound.ordered c.requires.lead c.loop-place.invariant.passed.stays here in
     let opened = subst (λ (x : Branch). AreOpen a.slots.now (node_routes a.pattern x)) (sym is) (open_node a.slots.now a.pattern a.nodes.now.items i d within c.requires.free_left) in
@@ -236,7 +238,7 @@ visit_nodes-returns-in_err-found-clause-lasting g t c =
     let leads = lead_below o a.slots.now a.pattern node (subst At (sym is) (lead_node o a.slots.now a.pattern a.nodes.now.items i d within c.requires.lead)) in
     let now = c.visit_node.new.node in
     let e = c.visit_node.ensures in
-    let longer : with_number a.slots.now a.pattern node.number ≡ c.with-longer.result = ap (with_number a.slots.now a.pattern) (sym c.number-then-number-offer.ensures) ∙ sym c.with-longer.ensures in
+    let longer : with_number a.slots.now a.pattern node.number ≡ c.with-longer.result = ap (with_number a.slots.now a.pattern) (sym c.number-then-is_worth.ensures) ∙ sym c.with-longer.ensures in
     let here = stays_node a.offer.now.number a.pattern node now leads.less e.number e.ordered e.lasting in
     let stays = stopped o a.slots.now a.pattern a.nodes.now.items items i node now d within within' is c.loop-place.invariant.left c.requires.sound.ordered c.requires.lead c.loop-place.invariant.passed.stays here in
     let opened = subst (λ (x : Branch). AreOpen a.slots.now (node_routes a.pattern x)) (sym is) (open_node a.slots.now a.pattern a.nodes.now.items i d within c.requires.free_left) in
@@ -260,7 +262,7 @@ visit_nodes-returns-in_err-found-clause-free_left g t c =
     let leads = lead_below o a.slots.now a.pattern node (subst At (sym is) (lead_node o a.slots.now a.pattern a.nodes.now.items i d within c.requires.lead)) in
     let now = c.visit_node.new.node in
     let e = c.visit_node.ensures in
-    let longer : with_number a.slots.now a.pattern node.number ≡ c.with-longer.result = ap (with_number a.slots.now a.pattern) (sym c.number-then-number-offer.ensures) ∙ sym c.with-longer.ensures in
+    let longer : with_number a.slots.now a.pattern node.number ≡ c.with-longer.result = ap (with_number a.slots.now a.pattern) (sym c.number-then-is_worth.ensures) ∙ sym c.with-longer.ensures in
     let here = stays_node a.offer.now.number a.pattern node now leads.less e.number e.ordered e.lasting in
     let stays = stopped o a.slots.now a.pattern a.nodes.now.items items i node now d within within' is c.loop-place.invariant.left c.requires.sound.ordered c.requires.lead c.loop-place.invariant.passed.stays here in
     let opened = subst (λ (x : Branch). AreOpen a.slots.now (node_routes a.pattern x)) (sym is) (open_node a.slots.now a.pattern a.nodes.now.items i d within c.requires.free_left) in
@@ -284,7 +286,7 @@ visit_nodes-returns-in_err-found-clause-stepped g t c =
     let leads = lead_below o a.slots.now a.pattern node (subst At (sym is) (lead_node o a.slots.now a.pattern a.nodes.now.items i d within c.requires.lead)) in
     let now = c.visit_node.new.node in
     let e = c.visit_node.ensures in
-    let longer : with_number a.slots.now a.pattern node.number ≡ c.with-longer.result = ap (with_number a.slots.now a.pattern) (sym c.number-then-number-offer.ensures) ∙ sym c.with-longer.ensures in
+    let longer : with_number a.slots.now a.pattern node.number ≡ c.with-longer.result = ap (with_number a.slots.now a.pattern) (sym c.number-then-is_worth.ensures) ∙ sym c.with-longer.ensures in
     let here = stays_node a.offer.now.number a.pattern node now leads.less e.number e.ordered e.lasting in
     let stays = stopped o a.slots.now a.pattern a.nodes.now.items items i node now d within within' is c.loop-place.invariant.left c.requires.sound.ordered c.requires.lead c.loop-place.invariant.passed.stays here in
     let opened = subst (λ (x : Branch). AreOpen a.slots.now (node_routes a.pattern x)) (sym is) (open_node a.slots.now a.pattern a.nodes.now.items i d within c.requires.free_left) in
@@ -308,7 +310,7 @@ visit_nodes-returns-in_err-found-clause-counted g t c =
     let leads = lead_below o a.slots.now a.pattern node (subst At (sym is) (lead_node o a.slots.now a.pattern a.nodes.now.items i d within c.requires.lead)) in
     let now = c.visit_node.new.node in
     let e = c.visit_node.ensures in
-    let longer : with_number a.slots.now a.pattern node.number ≡ c.with-longer.result = ap (with_number a.slots.now a.pattern) (sym c.number-then-number-offer.ensures) ∙ sym c.with-longer.ensures in
+    let longer : with_number a.slots.now a.pattern node.number ≡ c.with-longer.result = ap (with_number a.slots.now a.pattern) (sym c.number-then-is_worth.ensures) ∙ sym c.with-longer.ensures in
     let here = stays_node a.offer.now.number a.pattern node now leads.less e.number e.ordered e.lasting in
     let stays = stopped o a.slots.now a.pattern a.nodes.now.items items i node now d within within' is c.loop-place.invariant.left c.requires.sound.ordered c.requires.lead c.loop-place.invariant.passed.stays here in
     let opened = subst (λ (x : Branch). AreOpen a.slots.now (node_routes a.pattern x)) (sym is) (open_node a.slots.now a.pattern a.nodes.now.items i d within c.requires.free_left) in
@@ -333,7 +335,7 @@ visit_nodes-returns-then-is_some g t c =
     let leads = lead_below o a.slots.now a.pattern node (subst At (sym is) (lead_node o a.slots.now a.pattern a.nodes.now.items i d within c.requires.lead)) in
     let now = c.visit_node.new.node in
     let e = c.visit_node.ensures in
-    let longer : with_number a.slots.now a.pattern node.number ≡ c.with-longer.result = ap (with_number a.slots.now a.pattern) (sym c.number-then-number-offer.ensures) ∙ sym c.with-longer.ensures in
+    let longer : with_number a.slots.now a.pattern node.number ≡ c.with-longer.result = ap (with_number a.slots.now a.pattern) (sym c.number-then-is_worth.ensures) ∙ sym c.with-longer.ensures in
     let here = stays_node a.offer.now.number a.pattern node now leads.less e.number e.ordered e.lasting in
     let stays = stopped o a.slots.now a.pattern a.nodes.now.items items i node now d within within' is c.loop-place.invariant.left c.requires.sound.ordered c.requires.lead c.loop-place.invariant.passed.stays here in
     let opened = subst (λ (x : Branch). AreOpen a.slots.now (node_routes a.pattern x)) (sym is) (open_node a.slots.now a.pattern a.nodes.now.items i d within c.requires.free_left) in
@@ -341,7 +343,7 @@ visit_nodes-returns-then-is_some g t c =
     let opens = open_all a.slots.now a.pattern a.nodes.now.items items i now within' c.loop-place.invariant.left c.requires.free_left c.loop-place.invariant.opens open_here in
     let stepped = steps_behind o a.slots.now c.with-longer.result a.pattern node a.wanted.now c.loop-place.steps c.visit_node.new.steps leads.free leads.below c.requires.wanted longer e.stepped in
     let some = some_of c.in_ok-found.found (sym c.is_some.ensures ∙ c.if-is_some.true) in
-    let seen_too = le_true a.offer.now.oldest node.number (omega (arith, c.if-number-offer.true, c.number.ensures)) in
+    let seen_too = worth_is_seen o c.screen_of-screen.result node.number (ap (is_worth o c.screen_of-screen.result) (sym c.number.ensures) ∙ sym c.is_worth.ensures ∙ c.if-is_worth.true) in
     let best = c.in_ok-found.ensures.best ∙ ap (λ (s : Assignment). least (new_matches o s ([] ∷ seen o node.routes))) (sym longer) ∙ ap least (sym (matches_node o a.slots.now a.pattern node seen_too)) in
     let counts = counts_all o a.slots.now a.pattern a.nodes.now.items items i node now d within within' is c.loop-place.invariant.left in
     record {
@@ -369,13 +371,13 @@ visit_nodes-loop-place-preserved g t c =
     let At : Branch → Type 0 = λ x. LeadOn o a.slots.now (node_routes a.pattern x) in
     let leads = lead_below o a.slots.now a.pattern node (subst At (sym is) (lead_node o a.slots.now a.pattern a.nodes.now.items i d within c.requires.lead)) in
     let opened = subst (λ (x : Branch). AreOpen a.slots.now (node_routes a.pattern x)) (sym is) (open_node a.slots.now a.pattern a.nodes.now.items i d within c.requires.free_left) in
-    elim c.if-number-offer.branch [
-      | visit_nodes-then-number-offer+in_ok-found+else-is_some w ↦
+    elim c.if-is_worth.branch [
+      | visit_nodes-then-is_worth+in_ok-found+else-is_some w ↦
           let now = w.visit_node.new.node in
           let e = w.in_ok-found.ensures in
-          let longer : with_number a.slots.now a.pattern node.number ≡ w.with-longer.result = ap (with_number a.slots.now a.pattern) (sym w.number-then-number-offer.ensures) ∙ sym w.with-longer.ensures in
+          let longer : with_number a.slots.now a.pattern node.number ≡ w.with-longer.result = ap (with_number a.slots.now a.pattern) (sym w.number-then-is_worth.ensures) ∙ sym w.with-longer.ensures in
           let none = none_of w.in_ok-found.found (sym w.is_some.ensures ∙ w.if-is_some.false) in
-          let seen_too = le_true a.offer.now.oldest node.number (omega (arith, w.if-number-offer.true, c.number.ensures)) in
+          let seen_too = worth_is_seen o c.screen_of-screen.result node.number (ap (is_worth o c.screen_of-screen.result) (sym c.number.ensures) ∙ sym c.is_worth.ensures ∙ w.if-is_worth.true) in
           let grown = subst (λ (s : Assignment). Grows o s (growing o s) node.routes now.routes) (sym longer) (e.grows none) in
           let no_match = ap (λ (s : Assignment). least (new_matches o s ([] ∷ seen o node.routes))) longer ∙ sym e.best ∙ none in
           let here = passed_seen o a.slots.now a.pattern node now seen_too leads.less e.number e.ordered e.lasting grown no_match in
@@ -393,11 +395,11 @@ visit_nodes-loop-place-preserved g t c =
             long = ap (λ (xs : List Branch). length xs) nodes_is ∙ length-set items i now ∙ c.loop-place.invariant.long;
             stepped = omega (arith, c.loop-place.invariant.stepped, stepped, tried_on, w.steps-is);
           }
-      | visit_nodes-else-number-offer w ↦
-          let unseen = le_false a.offer.now.oldest node.number (omega (arith, w.if-number-offer.false, c.number.ensures)) in
+      | visit_nodes-else-is_worth w ↦
+          let worthless = ap (is_worth o c.screen_of-screen.result) (sym c.number.ensures) ∙ sym c.is_worth.ensures ∙ w.if-is_worth.false in
           let lead = subst At (sym is) (lead_node o a.slots.now a.pattern a.nodes.now.items i d within c.requires.lead) in
           let ordered = subst IsOrderedNode (sym is) (all_at IsOrderedNode a.nodes.now.items i d within c.requires.sound.ordered) in
-          let here = passed_unseen o a.slots.now a.pattern node unseen ordered lead in
+          let here = passed_worthless o a.slots.now a.pattern a.wanted.now c.screen_of-screen.result node c.requires.wanted c.screen_of-screen.ensures worthless ordered lead in
           let nodes_is = ap (λ (v : VecDeque Branch Global). v.items) w.nodes-is in
           let counts = counts_on o a.slots.now a.pattern a.nodes.now.items items i node node d within within' is in
           let tried_on = tries_on o a.slots.now a.pattern a.nodes.now.items items i node d within is in
