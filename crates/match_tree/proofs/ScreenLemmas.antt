@@ -1,39 +1,43 @@
 -- What fails a screen may be left out: no wanted pattern may take the number behind it.
-use Rattle.std.proofs.Common.{◌≡◌, ◌⊎◌, ◌∙◌, inl, inr, ℕ, zero, suc, ◌<◌, ◌≤◌, pos, ◌+ℤ◌, List, [], ◌∷◌, map, length, get_or, Bool, true, false, cond, not, ◌&&◌, ◌||◌, Option, Some, None, refl, sym, ap, subst, arith}
+use Rattle.std.proofs.Common.{◌≡◌, ◌⊎◌, ◌∙◌, inl, inr, ℕ, zero, suc, ◌<◌, pos, ◌+ℤ◌, List, [], ◌∷◌, map, length, get_or, Bool, true, false, cond, not, ◌&&◌, ◌||◌, Option, Some, None, slice_get, refl, sym, ap, subst, arith}
 use Rattle.std.proofs.lemmas.Int.{ints}
 use Rattle.std.specs.Prelude.{nat_le, slice_index, ◌==◌, ℤ, IfSome}
-use Rattle.std.specs.List.{filter}
+use Rattle.std.specs.List.{filter, list_all, AllByRecursion}
 use Rattle.std.specs.Ordering.{int_eq}
 use Rattle.std.proofs.lemmas.Bool.Decides.{Decides-int_eq}
 use Rattle.join_base.specs.declared.message.Message.{Message}
 use Rattle.guard_eval.specs.declared.term.Place.{Place}
 use Rattle.guard_eval.specs.Condition.{Condition}
-use Rattle.guard_eval.specs.Meaning.{Assignment, letter_at, letter_of, field_of, int_of, number_at, is_slot_filled, is_decided, is_true}
+use Rattle.guard_eval.specs.Meaning.{Assignment, Need, letter_at, letter_of, field_of, int_of, number_at, needs_of, has_some, is_slot_filled, is_filled, is_decided, is_true}
 use Rattle.guard_eval.proofs.ExtendLemmas.{both_true}
 use Rattle.pattern_core.specs.Matches.{is_of_kind, is_agreeable}
 use Rattle.pattern_core.specs.Members.{IsIn}
+use Rattle.pattern_core.specs.Suits.{DefinitionSuits, NeedSuits, SlotsSuit}
+use Rattle.pattern_core.proofs.GuardLemmas.{have_places, ready_where_filled}
+use Rattle.guard_eval.specs.Ready.{AreReady, HavePlaces}
+use Rattle.guard_eval.proofs.ReadyLemmas.{each_at}
+use Rattle.pattern_core.proofs.SuitsLemmas.{suits_further}
 use Rattle.match_tree.specs.Routes.{Branch, node_routes, with_number}
-use Rattle.match_tree.specs.Offers.{Offered, is_free, may_take, takers}
-use Rattle.match_tree.specs.Offering.{LeadOn}
+use Rattle.match_tree.specs.Offers.{Offered, places, is_free, may_take, takers}
+use Rattle.match_tree.specs.Offering.{CanOffer, LeadOn}
 use Rattle.match_tree.specs.Order.{IsOrderedNode}
-use Rattle.match_tree.specs.Screen.{Comes, Screens, are_equal, int_at, passes, is_worth}
-use Rattle.match_tree.specs.declared.screen.Screen.{Screen}
-use Rattle.match_tree.proofs.SlotsLemmas.{extends_one}
-use Rattle.match_tree.proofs.TakeLemmas.{takers_further}
-use Rattle.match_tree.proofs.LeadLemmas.{lead_below}
-use Rattle.match_tree.proofs.VisitLemmas.{Passed, passed_unseen, passed_quiet}
+use Rattle.match_tree.specs.Screen.{Comes, IsKey, IsDecidedAt, are_equal, int_at, passes}
+use Rattle.match_tree.specs.declared.screen.Key.{Key}
+use Rattle.match_tree.proofs.SlotsLemmas.{extends_one, free_is_none, free_further, below_apart}
+use Rattle.match_tree.proofs.TakeLemmas.{and_of, takers_further}
+use Rattle.match_tree.proofs.VisitLemmas.{Passed, passed_unseen, passed_quiet, all_filter, all_take}
 
--- ---- one item
-
-pub one_item : (xs : List ℕ) → 1 ≤ length xs → length xs < 2 → xs ≡ get_or xs 0 0 ∷ []
-one_item [] some few = absurd (omega arith)
-one_item (x ∷ []) some few = refl
-one_item (x ∷ y ∷ xs) some few = absurd (omega arith)
+-- ---- members by their place
 
 pub item_in : {X Y : Type 0} (f : X → Y) (xs : List X) (i : ℕ) (x : X) → i < length xs → x ≡ get_or xs i x → IsIn (f x) (map f xs)
 item_in f [] i x within is = absurd (omega arith)
 item_in {X} f (y ∷ xs) zero x within is = inl (ap f (sym is))
 item_in f (y ∷ xs) (suc i) x within is = inr (item_in f xs i x (omega arith) is)
+
+pub in_at : {X : Type 0} (xs : List X) (i : ℕ) (x : X) → slice_get xs i ≡ Some x → IsIn x xs
+in_at [] i x e = absurd cc
+in_at (y ∷ xs) zero x e = let same : y ≡ x = cc in inl same
+in_at (y ∷ xs) (suc i) x e = inr (in_at xs i x e)
 
 -- ---- an equality that an agreeable assignment decides
 
@@ -66,14 +70,43 @@ equal_fields letters slots a b m n ea eb h =
     let whole = sym (λ i. not (is_slot_filled (ea i) && (is_slot_filled (eb i) && true)) || (int_eq (int_of (field_of (letter_of letters (ea i)) a.field) +ℤ pos 0) (int_of (field_of (letter_of letters (eb i)) b.field) +ℤ pos 0) || false)) ∙ h in
     equal_sums (int_at letters m a.field) (int_at letters n b.field) whole
 
--- ---- what fails the screen
+-- ---- the wanted pattern
+
+filter_all : {X : Type 0} (p : X → Bool) (xs : List X) → AllByRecursion (λ x. p x ≡ true) (filter p xs)
+filter_all p [] = tt
+filter_all {X} p (x ∷ xs) = by (p x) refl (filter_all p xs)
+  where
+    by : (b : Bool) → p x ≡ b → AllByRecursion (λ y. p y ≡ true) (filter p xs) → AllByRecursion (λ y. p y ≡ true) (cond b (x ∷ filter p xs) (filter p xs))
+    by true e later = (e, later)
+    by false e later = later
+
+module _ (o : Offered) (slots : Assignment) (q : ℕ) where
+  abbrev pub others : List ℕ
+  others = filter (λ p. not (p == q)) (takers o slots)
+
+  -- the one other pattern that may take the number
+  pub record Other (p : ℕ) : Type 0 where
+    pub free : is_free slots p ≡ true
+    pub apart : not (p == q) ≡ true
+    pub of_kind : is_of_kind (letter_at o.letters o.number) (slice_index o.definition.patterns p) ≡ true
+
+  pub other_of : (p : ℕ) → others ≡ p ∷ [] → Other p
+  other_of p alone =
+      let may = (subst (λ (ps : List ℕ). AllByRecursion (λ x. may_take o slots x ≡ true) ps) alone (all_filter (λ x. may_take o slots x ≡ true) (λ x. not (x == q)) (takers o slots) (all_take o slots (places 0 o.definition.patterns)))).0 in
+      let apart = (subst (λ (ps : List ℕ). AllByRecursion (λ x. not (x == q) ≡ true) ps) alone (filter_all (λ x. not (x == q)) (takers o slots))).0 in
+      let kind : Bool = is_of_kind (letter_at o.letters o.number) (slice_index o.definition.patterns p) in
+      let agreeable : Bool = is_agreeable o.letters o.definition.conjuncts (with_number slots p o.number) in
+      let parts = both_true (is_free slots p) (kind && agreeable) may in
+      record { free = parts.0; apart = apart; of_kind = (both_true kind agreeable parts.1).0 }
+
+-- ---- what may be left out
 
 module _ (o : Offered) (slots : Assignment) (q m : ℕ) where
   abbrev longer : Assignment
   longer = with_number slots q m
 
-  taken_is_equal : (c : Condition) (wanted : ℕ) (s : Screen) → is_free slots q ≡ true → IsIn c o.definition.conjuncts → Comes o q wanted c s → may_take o longer wanted ≡ true → int_at o.letters m s.field ≡ s.value
-  taken_is_equal c wanted s free is_in comes h =
+  taken_is_equal : (c : Condition) (wanted : ℕ) (k : Key) → is_free slots q ≡ true → IsIn c o.definition.conjuncts → Comes o q wanted c k → may_take o longer wanted ≡ true → int_at o.letters m k.field ≡ k.value
+  taken_is_equal c wanted k free is_in comes h =
       let kind : Bool = is_of_kind (letter_at o.letters o.number) (slice_index o.definition.patterns wanted) in
       let whole : Assignment = with_number longer wanted o.number in
       let parts = both_true (is_free longer wanted) (kind && is_agreeable o.letters o.definition.conjuncts whole) h in
@@ -91,36 +124,102 @@ module _ (o : Offered) (slots : Assignment) (q m : ℕ) where
       ] in
       ap (int_at o.letters m) comes.field ∙ same ∙ sym comes.value
 
-  none_may : (c : Condition) (wanted : ℕ) (s : Screen) (b : Bool) → may_take o longer wanted ≡ b → is_free slots q ≡ true → IsIn c o.definition.conjuncts → Comes o q wanted c s → int_eq (int_at o.letters m s.field) s.value ≡ false → b ≡ false
-  none_may c wanted s false e free is_in comes fails = refl
-  none_may c wanted s true e free is_in comes fails =
-      absurd (let same = (Decides-int_eq (int_at o.letters m s.field) s.value).1 (taken_is_equal c wanted s free is_in comes e) in let bad = sym same ∙ fails in cc)
+  none_may : (wanted : ℕ) (k : Key) (b : Bool) → may_take o longer wanted ≡ b → is_free slots q ≡ true → IsKey o q wanted k → int_eq (int_at o.letters m k.field) k.value ≡ false → b ≡ false
+  none_may wanted k false e free is_key fails = refl
+  none_may wanted k true e free is_key fails =
+      absurd (let same = (Decides-int_eq (int_at o.letters m k.field) k.value).1 (taken_is_equal is_key.conjunct wanted k free is_key.is_in is_key.comes e) in let bad = sym same ∙ fails in cc)
 
-  -- where the number of a path fails the screen of the wanted patterns, no pattern may take the offered one behind it
-  pub screened : (wanted : List ℕ) (s : Screen) → is_free slots q ≡ true → wanted ≡ filter (λ p. not (p == q)) (takers o slots) → Screens o q wanted s → int_eq (int_at o.letters m s.field) s.value ≡ false → takers o longer ≡ []
-  screened wanted s free wanted_is screens fails =
-      let none = none_may screens.conjunct screens.other s (may_take o longer screens.other) refl free screens.is_in screens.comes fails in
-      let nothing : filter (may_take o longer) (screens.other ∷ []) ≡ [] = λ i. cond (none i) (screens.other ∷ []) [] in
-      sym (takers_further o slots q m free) ∙ ap (filter (may_take o longer)) (sym wanted_is ∙ screens.alone) ∙ nothing
+  -- where the one other pattern may not take the number, none may
+  none_taken : (p : ℕ) → is_free slots q ≡ true → others o slots q ≡ p ∷ [] → may_take o longer p ≡ false → takers o longer ≡ []
+  none_taken p free alone none =
+      let nothing : filter (may_take o longer) (p ∷ []) ≡ [] = λ i. cond (none i) (p ∷ []) [] in
+      sym (takers_further o slots q m free) ∙ ap (filter (may_take o longer)) alone ∙ nothing
+
+  -- where a number has not the key's value, no pattern may take the offered one behind it
+  pub lacks_key : (p : ℕ) (key : Option Key) → is_free slots q ≡ true → others o slots q ≡ p ∷ [] → IfSome key (IsKey o q p) → passes o.letters key m ≡ false → takers o longer ≡ []
+  lacks_key p None free alone is_key fails = absurd cc
+  lacks_key p (Some k) free alone is_key fails = none_taken p free alone (none_may p k (may_take o longer p) refl free is_key fails)
+
+  and_never : (a b : Bool) → (a && (b && false)) ≡ false
+  and_never true true = refl
+  and_never true false = refl
+  and_never false b = refl
+
+  -- where a decided conjunct is false beside the offered number, no pattern may take it
+  pub disagrees : (p : ℕ) → is_free slots q ≡ true → others o slots q ≡ p ∷ [] → is_agreeable o.letters o.definition.conjuncts (with_number longer p o.number) ≡ false → takers o longer ≡ []
+  disagrees p free alone fails =
+      let kind : Bool = is_of_kind (letter_at o.letters o.number) (slice_index o.definition.patterns p) in
+      none_taken p free alone ((λ i. is_free longer p && (kind && fails i)) ∙ and_never (is_free longer p) kind)
+
+  pub other_free : (p : ℕ) → others o slots q ≡ p ∷ [] → slice_get longer p ≡ Some None
+  other_free p alone =
+      let other = other_of o slots q p alone in
+      free_is_none longer p (free_further slots q m p ∙ and_of (is_free slots p) (not (p == q)) other.free other.apart)
+
+  pub whole_suits : (p : ℕ) → CanOffer o longer → others o slots q ≡ p ∷ [] → SlotsSuit o.letters o.definition.patterns (with_number longer p o.number)
+  whole_suits p can alone =
+      let other = other_of o slots q p alone in
+      suits_further o.letters o.definition.patterns longer p o.number can.suits (other_free p alone) can.recorded other.of_kind (below_apart longer o.number can.below)
+
+-- ---- a conjunct that is decided, whatever the number
+
+filled_set : (slots : Assignment) (q m k x : ℕ) → is_slot_filled (number_at (with_number slots q m) x) ≡ is_slot_filled (number_at (with_number slots q k) x)
+filled_set [] q m k x = refl
+filled_set (slot ∷ slots) zero m k zero = refl
+filled_set (slot ∷ slots) zero m k (suc x) = refl
+filled_set (slot ∷ slots) (suc q) m k zero = refl
+filled_set (slot ∷ slots) (suc q) m k (suc x) = filled_set slots q m k x
+
+filled_alike : (slots : Assignment) (q m k p n x : ℕ) → is_slot_filled (number_at (with_number (with_number slots q m) p n) x) ≡ is_slot_filled (number_at (with_number (with_number slots q k) p n) x)
+filled_alike [] q m k p n x = refl
+filled_alike (slot ∷ slots) zero m k zero n x = refl
+filled_alike (slot ∷ slots) zero m k (suc p) n zero = refl
+filled_alike (slot ∷ slots) zero m k (suc p) n (suc x) = refl
+filled_alike (slot ∷ slots) (suc q) m k zero n zero = refl
+filled_alike (slot ∷ slots) (suc q) m k zero n (suc x) = filled_set slots q m k x
+filled_alike (slot ∷ slots) (suc q) m k (suc p) n zero = refl
+filled_alike (slot ∷ slots) (suc q) m k (suc p) n (suc x) = filled_alike slots q m k p n x
+
+all_alike : (slots : Assignment) (q m k p n : ℕ) (needs : List Need) → list_all (is_filled (with_number (with_number slots q m) p n)) needs ≡ list_all (is_filled (with_number (with_number slots q k) p n)) needs
+all_alike slots q m k p n [] = refl
+all_alike slots q m k p n (need ∷ needs) = λ i. filled_alike slots q m k p n need.0.pattern i && all_alike slots q m k p n needs i
+
+pub tests_alike : (o : Offered) (slots : Assignment) (q m k p n : ℕ) (tests : List ℕ) → AllByRecursion (IsDecidedAt o (with_number (with_number slots q m) p n)) tests → AllByRecursion (IsDecidedAt o (with_number (with_number slots q k) p n)) tests
+tests_alike o slots q m k p n [] h = tt
+tests_alike o slots q m k p n (t ∷ tests) h =
+    let c = h.0.conjunct in
+    let same : is_decided (with_number (with_number slots q k) p n) c ≡ is_decided (with_number (with_number slots q m) p n) c = λ i. has_some (needs_of c) && all_alike slots q k m p n (needs_of c) i in
+    (record { conjunct = c; at = h.0.at; decided = same ∙ h.0.decided }, tests_alike o slots q m k p n tests h.1)
+
+-- a decided conjunct that is false
+pub not_agreeable : (o : Offered) (slots : Assignment) (c : Condition) (b : Bool) → is_agreeable o.letters o.definition.conjuncts slots ≡ b → IsIn c o.definition.conjuncts → is_decided slots c ≡ true → is_true o.letters slots c ≡ false → b ≡ false
+not_agreeable o slots c false e is_in decided fails = refl
+not_agreeable o slots c true e is_in decided fails =
+    absurd (let holds = agrees_in o.letters o.definition.conjuncts slots c is_in e in let bad = sym (λ i. not (decided i) || fails i) ∙ holds in cc)
 
 -- ---- a node that is not worth a visit
 
-fails_one : (a b : Bool) → (a && b) ≡ false → (a ≡ false) ⊎ (b ≡ false)
-fails_one true b e = inr e
-fails_one false b e = inl refl
+pub passed_worthless : (o : Offered) (slots : Assignment) (q : ℕ) (node : Branch) → (nat_le o.oldest node.number ≡ false) ⊎ (takers o (with_number slots q node.number) ≡ [])
+    → IsOrderedNode node → LeadOn o slots (node_routes q node) → Passed o slots q (node ∷ []) (node ∷ [])
+passed_worthless o slots q node why ordered lead = elim why [
+  | inl unseen ↦ passed_unseen o slots q node unseen ordered lead
+  | inr none ↦ passed_quiet o slots q node none ordered lead
+]
 
-pub passed_worthless : (o : Offered) (slots : Assignment) (q : ℕ) (wanted : List ℕ) (screen : Option Screen) (node : Branch) → wanted ≡ filter (λ p. not (p == q)) (takers o slots)
-    → IfSome screen (Screens o q wanted) → is_worth o screen node.number ≡ false → IsOrderedNode node → LeadOn o slots (node_routes q node) → Passed o slots q (node ∷ []) (node ∷ [])
-passed_worthless o slots q wanted None node wanted_is screens fails ordered lead =
-    elim (fails_one (nat_le o.oldest node.number) true fails) [
-      | inl unseen ↦ passed_unseen o slots q node unseen ordered lead
-      | inr e ↦ absurd cc
-    ]
-passed_worthless o slots q wanted (Some s) node wanted_is screens fails ordered lead =
-    elim (fails_one (nat_le o.oldest node.number) (int_eq (int_at o.letters node.number s.field) s.value) fails) [
-      | inl unseen ↦ passed_unseen o slots q node unseen ordered lead
-      | inr e ↦ passed_quiet o slots q node (screened o slots q node.number wanted s (lead_below o slots q node lead).free wanted_is screens e) ordered lead
-    ]
+-- ---- what evaluation asks for
 
-pub worth_is_seen : (o : Offered) (screen : Option Screen) (number : ℕ) → is_worth o screen number ≡ true → nat_le o.oldest number ≡ true
-worth_is_seen o screen number h = (both_true (nat_le o.oldest number) (passes o.letters screen number) h).0
+module _ (o : Offered) (slots : Assignment) (place : ℕ) (c : Condition) (at : slice_get o.definition.conjuncts place ≡ Some c) (suits : DefinitionSuits o.letters o.definition) where
+  needs_at : AllByRecursion (NeedSuits o.letters o.definition.patterns) (needs_of c)
+  needs_at = each_at (λ d. AllByRecursion (NeedSuits o.letters o.definition.patterns) (needs_of d)) o.definition.conjuncts place c at suits.needs
+
+  pub places_at : length slots ≡ length o.definition.patterns → HavePlaces slots (needs_of c)
+  places_at long = have_places o.letters o.definition.patterns slots (needs_of c) long needs_at
+
+  pub ready_at : SlotsSuit o.letters o.definition.patterns slots → is_decided slots c ≡ true → AreReady o.letters slots (needs_of c)
+  ready_at whole decided =
+      let filled = (both_true (has_some (needs_of c)) (list_all (is_filled slots) (needs_of c)) decided).1 in
+      ready_where_filled o.letters o.definition.patterns slots (needs_of c) whole needs_at filled
+
+pub same_some : {X : Type 0} (x : Option X) (a b : X) → x ≡ Some a → x ≡ Some b → a ≡ b
+same_some None a b e f = absurd cc
+same_some (Some x) a b e f = cc

@@ -1,5 +1,6 @@
 -- A test of the numbers of a row: behind those that fail it, no wanted pattern may take the offered number.
-use Rattle.std.specs.Prelude.{◌≡◌, ◌⊎◌, ℕ, ℤ, List, [], ◌∷◌, Bool, true, false, ◌&&◌, Option, Some, None, nat_le}
+use Rattle.std.specs.Prelude.{◌≡◌, ◌⊎◌, ℕ, ℤ, List, [], ◌∷◌, Bool, true, false, Option, Some, None, IfSome, slice_get}
+use Rattle.std.specs.List.{AllByRecursion}
 use Rattle.std.specs.Ordering.{int_eq}
 use Rattle.join_base.specs.declared.message.Message.{Message}
 use Rattle.join_base.specs.declared.message.Relation.TheVariants.{Equal}
@@ -8,9 +9,11 @@ use Rattle.guard_eval.specs.declared.term.Leaf.TheVariants as leaf
 use Rattle.guard_eval.specs.declared.term.Operand.{Operand}
 use Rattle.guard_eval.specs.declared.term.Operand.TheVariants as operand
 use Rattle.guard_eval.specs.Condition.{Condition, Never, Compares, Either}
-use Rattle.guard_eval.specs.Meaning.{letter_at, field_of, int_of}
+use Rattle.guard_eval.specs.Meaning.{Assignment, letter_at, field_of, int_of, is_decided}
 use Rattle.pattern_core.specs.Members.{IsIn}
+use Rattle.match_tree.specs.declared.screen.Key.{Key}
 use Rattle.match_tree.specs.declared.screen.Screen.{Screen}
+use Rattle.match_tree.specs.Routes.{with_number}
 use Rattle.match_tree.specs.Offers.{Offered}
 
 -- the integer at a field of a recorded message, and 0 where there is none
@@ -25,29 +28,40 @@ field_operand place = operand.Sum (record { minus = false; leaf = leaf.Field pla
 abbrev pub are_equal : Place → Place → Condition
 are_equal a b = Either (Compares (field_operand a) Equal (field_operand b)) Never
 
--- the conjunct says that a field of the pattern, which is the screen's, is equal to one of the wanted pattern, and the offered number has the
--- screen's value there
-pub record Comes (o : Offered) (pattern wanted : ℕ) (conjunct : Condition) (screen : Screen) : Type 0 where
+-- the conjunct says that a field of the pattern, which is the key's, is equal to one of the wanted pattern, and the offered number has the key's
+-- value there
+pub record Comes (o : Offered) (pattern wanted : ℕ) (conjunct : Condition) (key : Key) : Type 0 where
   pub here : Place
   pub there : Place
   pub of_pattern : here.pattern ≡ pattern
   pub of_wanted : there.pattern ≡ wanted
-  pub field : screen.field ≡ here.field
-  pub value : screen.value ≡ int_at o.letters o.number there.field
+  pub field : key.field ≡ here.field
+  pub value : key.value ≡ int_at o.letters o.number there.field
   pub said : (conjunct ≡ are_equal here there) ⊎ (conjunct ≡ are_equal there here)
 
--- the screen comes from a conjunct of the definition, and one pattern is wanted
-pub record Screens (o : Offered) (pattern : ℕ) (wanted : List ℕ) (screen : Screen) : Type 0 where
-  pub other : ℕ
-  pub alone : wanted ≡ other ∷ []
+-- the key comes from a conjunct of the definition
+pub record IsKey (o : Offered) (pattern wanted : ℕ) (key : Key) : Type 0 where
   pub conjunct : Condition
   pub is_in : IsIn conjunct o.definition.conjuncts
-  pub comes : Comes o pattern other conjunct screen
+  pub comes : Comes o pattern wanted conjunct key
 
-abbrev pub passes : List Message → Option Screen → ℕ → Bool
+-- the conjunct at the place is decided
+pub record IsDecidedAt (o : Offered) (slots : Assignment) (place : ℕ) : Type 0 where
+  pub conjunct : Condition
+  pub at : slice_get o.definition.conjuncts place ≡ Some conjunct
+  pub decided : is_decided slots conjunct ≡ true
+
+-- one pattern is wanted, and the screen's tests are decided where it and the row's pattern have a number
+pub record Screens (o : Offered) (slots : Assignment) (pattern : ℕ) (wanted : List ℕ) (screen : Screen) : Type 0 where
+  pub alone : wanted ≡ screen.other ∷ []
+  pub key : IfSome screen.key (IsKey o pattern screen.other)
+  pub tests : AllByRecursion (IsDecidedAt o (with_number (with_number slots pattern o.number) screen.other o.number)) screen.tests
+
+abbrev pub passes : List Message → Option Key → ℕ → Bool
 passes letters None number = true
-passes letters (Some screen) number = int_eq (int_at letters number screen.field) screen.value
+passes letters (Some key) number = int_eq (int_at letters number key.field) key.value
 
--- the definition sees the number, and it passes the screen
-abbrev pub is_worth : Offered → Option Screen → ℕ → Bool
-is_worth o screen number = nat_le o.oldest number && passes o.letters screen number
+-- a pattern that was free has a number too
+pub record IsWith (slots : Assignment) (pattern number : ℕ) (longer : Assignment) : Type 0 where
+  pub free : slice_get slots pattern ≡ Some None
+  pub is : longer ≡ with_number slots pattern number

@@ -148,8 +148,8 @@ fn visit_row<L: Ledger>(
     Ok(found)
 }
 
-// Offers the number to the paths of these nodes, in the order of their numbers, until a match is found. Those that fail a
-// screen are left out.
+// Offers the number to the paths of these nodes, in the order of their numbers, until a match is found. Those that
+// aren't worth a visit are left out.
 #[cycle(visit)]
 fn visit_nodes<L: Ledger>(
     alloc: Global,
@@ -179,10 +179,10 @@ fn visit_nodes<L: Ledger>(
     if wanted.len() == 0 {
         return Ok(None);
     }
-    let screen = screen_of(offer, pattern, wanted);
+    let screen = screen_of(offer, slots, pattern, wanted);
     for place in 0..nodes.len() {
         let node = &mut nodes[place];
-        if is_worth(offer, screen, node.number()) {
+        if is_worth(offer, slots, pattern, &screen, node.number()) {
             let longer = slots.with(pattern, node.number());
             let found = visit_node(alloc, offer, &longer, wanted, node, count, steps)?;
             if found.is_some() {

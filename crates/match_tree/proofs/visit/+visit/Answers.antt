@@ -1,6 +1,6 @@
 use Rattle.std.specs.declared.collections.VecDeque.{VecDeque}
 use Rattle.std.proofs.Common.{length-append, ◌≡◌, ◌∙◌, ◌<◌, ◌≤◌, ◌+◌, ap, sym, subst, arith, ℕ, List, None, refl, zero-add, take, drop, get_or, set, length}
-use Rattle.std.specs.Prelude.{Vec, ◌==◌, not, IfOk, [], ◌∷◌, ◌++◌, true, false, Bool, cond, is_some}
+use Rattle.std.specs.Prelude.{Vec, nat_le, ◌⊎◌, IfSome, ◌==◌, not, IfOk, [], ◌∷◌, ◌++◌, true, false, Bool, cond, is_some}
 use Rattle.std.specs.List.{filter, AllByRecursion}
 use Rattle.std.specs.declared.alloc.Global.{Global}
 use Rattle.guard_eval.specs.Meaning.{Assignment}
@@ -22,8 +22,8 @@ use Rattle.match_tree.specs.Offering.{offered, CanOffer, MayTry, MayTake, LeadOn
 use Rattle.match_tree.proofs.LeadLemmas.{lead_lasts, lead_node, lead_row, lead_below}
 use Rattle.match_tree.proofs.VisitLemmas.{Passed, passed_none, passed_seen, stays_node, matches_node, quiet_row, quiet_least, quiet_grows, tries_further, all_take, nothing_here, nothing_grows}
 use Rattle.match_tree.proofs.WalkLemmas.{stays_sound, some_of, none_of, steps_behind, all_at, left_item, left_more, stopped, passed_on, left_set, counts_on, counts_all, tries_on, tries_most, found_first}
-use Rattle.match_tree.specs.Screen.{is_worth}
-use Rattle.match_tree.proofs.ScreenLemmas.{passed_worthless, worth_is_seen}
+use Rattle.match_tree.specs.Screen.{Screens}
+use Rattle.match_tree.proofs.ScreenLemmas.{passed_worthless}
 use Rattle.match_tree.proofs.OrderLemmas.{rows_ordered_behind, rows_sound}
 use Rattle.match_tree.proofs.SlotsLemmas.{free_is_none}
 use Rattle.match_tree.proofs.TakeLemmas.{takers_further}
@@ -66,6 +66,25 @@ visit_nodes-loop-place-init g t c = record {
 
 pub visit_nodes-index_mut-node-requires : goal.visit_nodes-index_mut-node-requires
 visit_nodes-index_mut-node-requires g t c = omega (arith, c.loop-place-test.true, c.len-place-end.ensures, c.loop-place.invariant.long, c.args.nodes.now.ok.0, c.loop-place.nodes.ok.0)
+
+pub visit_nodes-is_worth-requires : goal.visit_nodes-is_worth-requires
+visit_nodes-is_worth-requires g t c =
+    let a = c.args in
+    let o = offered a.offer.now in
+    let i : ℕ = c.loop-place.place in
+    let d = c.index_mut-node.result.now in
+    let node : Branch = d in
+    let is : node ≡ get_or a.nodes.now.items i d = c.index_mut-node.ensures.value ∙ left_item c.loop-place.nodes.items a.nodes.now.items i d c.loop-place.invariant.left in
+    let within : i < length a.nodes.now.items = omega (arith, c.loop-place-test.true, c.len-place-end.ensures, a.nodes.now.ok.0) in
+    let At : Branch → Type 0 = λ x. LeadOn o a.slots.now (node_routes a.pattern x) in
+    let leads = lead_below o a.slots.now a.pattern node (subst At (sym is) (lead_node o a.slots.now a.pattern a.nodes.now.items i d within c.requires.lead)) in
+    let Can : ℕ → Type 0 = λ n. CanOffer o (with_number a.slots.now a.pattern n) in
+    let Is : List ℕ → Type 0 = λ ps. IfSome c.screen_of-screen.result (Screens o a.slots.now a.pattern ps) in
+    record {
+      can = subst Can (sym c.number.ensures) leads.can;
+      free = free_is_none a.slots.now a.pattern leads.free;
+      screen = subst Is c.requires.wanted c.screen_of-screen.ensures;
+    }
 
 pub visit_nodes-with-longer-requires : goal.visit_nodes-with-longer-requires
 visit_nodes-with-longer-requires g t c =
@@ -343,7 +362,7 @@ visit_nodes-returns-then-is_some g t c =
     let opens = open_all a.slots.now a.pattern a.nodes.now.items items i now within' c.loop-place.invariant.left c.requires.free_left c.loop-place.invariant.opens open_here in
     let stepped = steps_behind o a.slots.now c.with-longer.result a.pattern node a.wanted.now c.loop-place.steps c.visit_node.new.steps leads.free leads.below c.requires.wanted longer e.stepped in
     let some = some_of c.in_ok-found.found (sym c.is_some.ensures ∙ c.if-is_some.true) in
-    let seen_too = worth_is_seen o c.screen_of-screen.result node.number (ap (is_worth o c.screen_of-screen.result) (sym c.number.ensures) ∙ sym c.is_worth.ensures ∙ c.if-is_worth.true) in
+    let seen_too = ap (nat_le a.offer.now.oldest) (sym c.number.ensures) ∙ c.is_worth.ensures.seen c.if-is_worth.true in
     let best = c.in_ok-found.ensures.best ∙ ap (λ (s : Assignment). least (new_matches o s ([] ∷ seen o node.routes))) (sym longer) ∙ ap least (sym (matches_node o a.slots.now a.pattern node seen_too)) in
     let counts = counts_all o a.slots.now a.pattern a.nodes.now.items items i node now d within within' is c.loop-place.invariant.left in
     record {
@@ -377,7 +396,7 @@ visit_nodes-loop-place-preserved g t c =
           let e = w.in_ok-found.ensures in
           let longer : with_number a.slots.now a.pattern node.number ≡ w.with-longer.result = ap (with_number a.slots.now a.pattern) (sym w.number-then-is_worth.ensures) ∙ sym w.with-longer.ensures in
           let none = none_of w.in_ok-found.found (sym w.is_some.ensures ∙ w.if-is_some.false) in
-          let seen_too = worth_is_seen o c.screen_of-screen.result node.number (ap (is_worth o c.screen_of-screen.result) (sym c.number.ensures) ∙ sym c.is_worth.ensures ∙ w.if-is_worth.true) in
+          let seen_too = ap (nat_le a.offer.now.oldest) (sym c.number.ensures) ∙ c.is_worth.ensures.seen w.if-is_worth.true in
           let grown = subst (λ (s : Assignment). Grows o s (growing o s) node.routes now.routes) (sym longer) (e.grows none) in
           let no_match = ap (λ (s : Assignment). least (new_matches o s ([] ∷ seen o node.routes))) longer ∙ sym e.best ∙ none in
           let here = passed_seen o a.slots.now a.pattern node now seen_too leads.less e.number e.ordered e.lasting grown no_match in
@@ -396,10 +415,11 @@ visit_nodes-loop-place-preserved g t c =
             stepped = omega (arith, c.loop-place.invariant.stepped, stepped, tried_on, w.steps-is);
           }
       | visit_nodes-else-is_worth w ↦
-          let worthless = ap (is_worth o c.screen_of-screen.result) (sym c.number.ensures) ∙ sym c.is_worth.ensures ∙ w.if-is_worth.false in
+          let Worthless : ℕ → Type 0 = λ n. (nat_le o.oldest n ≡ false) ⊎ (takers o (with_number a.slots.now a.pattern n) ≡ []) in
+          let worthless = subst Worthless c.number.ensures (c.is_worth.ensures.left_out w.if-is_worth.false) in
           let lead = subst At (sym is) (lead_node o a.slots.now a.pattern a.nodes.now.items i d within c.requires.lead) in
           let ordered = subst IsOrderedNode (sym is) (all_at IsOrderedNode a.nodes.now.items i d within c.requires.sound.ordered) in
-          let here = passed_worthless o a.slots.now a.pattern a.wanted.now c.screen_of-screen.result node c.requires.wanted c.screen_of-screen.ensures worthless ordered lead in
+          let here = passed_worthless o a.slots.now a.pattern node worthless ordered lead in
           let nodes_is = ap (λ (v : VecDeque Branch Global). v.items) w.nodes-is in
           let counts = counts_on o a.slots.now a.pattern a.nodes.now.items items i node node d within within' is in
           let tried_on = tries_on o a.slots.now a.pattern a.nodes.now.items items i node d within is in

@@ -1,0 +1,33 @@
+use Rattle.std.proofs.Common.{◌≡◌, ◌∙◌, ℕ, Some, length, ap, sym}
+use Rattle.std.proofs.lemmas.List.{length-set}
+use Rattle.guard_eval.specs.Meaning.{Assignment}
+use Rattle.pattern_core.proofs.SuitsLemmas.{length-SlotsSuit}
+use Rattle.match_tree.specs.Offering.{offered}
+use Rattle.match_tree.specs.Screen.{IsWith}
+use Rattle.match_tree.proofs.screen.tests_of.Goals as goal
+
+with_long : (slots longer : Assignment) (p n : ℕ) → IsWith slots p n longer → length longer ≡ length slots
+with_long slots longer p n w = ap (λ (s : Assignment). length s) w.is ∙ length-set slots p (Some n)
+
+pub with_free-requires : goal.with_free-requires
+with_free-requires c =
+    let o = offered c.args.offer.now in
+    length-SlotsSuit o.letters o.definition.patterns c.args.slots.now c.requires.can.suits ∙ sym c.len-patterns.ensures.count
+
+pub with_free-requires-2 : goal.with_free-requires-2
+with_free-requires-2 c =
+    let a = c.args in
+    let o = offered a.offer.now in
+    with_long a.slots.now c.in-Some.shorter a.pattern o.number c.in-Some.ensures ∙ length-SlotsSuit o.letters o.definition.patterns a.slots.now c.requires.can.suits ∙ sym c.len-patterns.ensures.count
+
+pub newly_decided-requires-clause-short : goal.newly_decided-requires-clause-short
+newly_decided-requires-clause-short c =
+    let a = c.args in
+    let o = offered a.offer.now in
+    with_long a.slots.now c.in-Some.shorter a.pattern o.number c.in-Some.ensures ∙ length-SlotsSuit o.letters o.definition.patterns a.slots.now c.requires.can.suits
+
+pub newly_decided-requires-clause-long : goal.newly_decided-requires-clause-long
+newly_decided-requires-clause-long c =
+    let a = c.args in
+    let o = offered a.offer.now in
+    with_long c.in-Some.shorter c.in-Some-with_free.longer a.other o.number c.in-Some-with_free.ensures ∙ with_long a.slots.now c.in-Some.shorter a.pattern o.number c.in-Some.ensures ∙ length-SlotsSuit o.letters o.definition.patterns a.slots.now c.requires.can.suits
