@@ -105,6 +105,14 @@ module _ (plan : Plan) (limits : Limits) (feeds : List (List (ℕ × Message))) 
   pub among : EachAmong plan limits feeds events
   among = each_among plan limits feeds [] events tt of_actors reach.each
 
+  -- the pairs of the schedule are of actors and sources of the run
+  pub pairs_among : AllByRecursion (λ (pair : ℕ × Source). (pair.0 < length plan.actors) × Among (length feeds) (length plan.actors) pair.1) reached.pairs
+  pairs_among = subst (AllByRecursion (λ (pair : ℕ × Source). (pair.0 < length plan.actors) × Among (length feeds) (length plan.actors) pair.1)) reach.pairs_are (both events of_actors among)
+    where
+      both : (es : List Event) → OfActors plan limits feeds es → EachAmong plan limits feeds es → AllByRecursion (λ (pair : ℕ × Source). (pair.0 < length plan.actors) × Among (length feeds) (length plan.actors) pair.1) (map pair_of es)
+      both [] a b = tt
+      both (e ∷ es) a b = ((a.0, b.0), both es a.1 b.1)
+
   pub next_each : EachNext plan limits feeds [] events
   next_each = reach.each
 

@@ -5,3 +5,6 @@ pub mod SettledLemmas
 pub mod LawLemmas
 pub mod FitLemmas
 pub mod StandLemmas
+pub mod SumLemmas
+pub mod WorkLemmas
+pub mod BoundLemmas

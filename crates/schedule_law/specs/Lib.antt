@@ -1,2 +1,3 @@
 -- what is claimed: systems that a schedule reaches, and the law
 pub mod Reached
+pub mod WorkLeft
