@@ -18,7 +18,7 @@ use Rattle.fair_semantics.specs.Fits.{ActorRunFits, EffectFits, EntryFits, Firin
 use Rattle.fair_semantics.specs.Linked.{effect_for, entry_posts, feed_posts, firing_effects, numbers_from, post_for}
 use Rattle.fair_semantics.specs.Schedule.{System}
 use Rattle.fair_semantics.proofs.ListLemmas.{each_append, each_from}
-use Rattle.run_order.proofs.EventLemmas.{Event, made, sent_from, sent_to, state_at}
+use Rattle.run_order.proofs.EventLemmas.{Event, IsSystemAt, made, sent_from, sent_to, state_at}
 use Rattle.fair_semantics.proofs.CountedLemmas.{Among}
 use Rattle.run_fits.specs.FitsLaw.{SentFits}
 use Rattle.run_fits.proofs.LawLemmas.{fair_run_fits}
@@ -79,10 +79,10 @@ abbrev pub RunsFit : Plan → Limits → ℕ → Type 0
 RunsFit plan limits feeds = (actor : ℕ) → actor < length plan.actors → (sent : List Sent) → AllByRecursion (IsFine plan feeds) sent → ActorRunFits plan 2 feeds (fair_run plan actor limits feeds sent)
 
 module _ (plan : Plan) (limits : Limits) (feeds : List (List (ℕ × Message))) (law : RunsFit plan limits (length feeds)) (fine : FeedsFit feeds) where
-  abbrev EventFine : Event → Type 0
+  abbrev pub EventFine : Event → Type 0
   EventFine event = IsFine plan (length feeds) event.1
 
-  abbrev EachFine : List Event → Type 0
+  abbrev pub EachFine : List Event → Type 0
   EachFine before = AllByRecursion EventFine before
 
   sent_fine : (actor : ℕ) (before : List Event) → EachFine before → AllByRecursion (IsFine plan (length feeds)) (sent_to actor before)
@@ -114,24 +114,31 @@ module _ (plan : Plan) (limits : Limits) (feeds : List (List (ℕ × Message))) 
       let here : EventFine event = event_fine before each event a.0 next.0 in
       (here, each_fine (before ++ event ∷ []) later (each_append EventFine before (event ∷ []) each (here, tt)) a.1 next.1)
 
+  module _ (system : System) (before : List Event) (at : IsSystemAt plan limits feeds before system) (all : EachFine before) where
+    abbrev shown_run : ℕ → ActorRun
+    shown_run actor = run_of (setting_of plan actor limits).rules (system.state actor)
+
+    pub fits_at : (actor : ℕ) → actor < length plan.actors → ActorRunFits plan 2 (length feeds) (shown_run actor)
+    fits_at actor l =
+        subst (λ (s : _). ActorRunFits plan 2 (length feeds) (run_of (setting_of plan actor limits).rules s)) (sym (at.state actor))
+        (law actor l (sent_to actor before) (sent_fine actor before all))
+
+    each_number : (from n : ℕ) → from + n ≤ length plan.actors → AllByRecursion (ActorRunFits plan 2 (length feeds)) (map shown_run (numbers_from from n))
+    each_number from zero l = tt
+    each_number from (suc n) l = (fits_at from (omega arith), each_number (from + 1) n (omega arith))
+
+    pub runs_fit_at : AllByRecursion (ActorRunFits plan 2 (length feeds)) (map shown_run (numbers_from 0 (length plan.actors)))
+    runs_fit_at = each_number 0 (length plan.actors) (omega arith)
+
   module _ (system : System) (reached : IsReached plan limits feeds system) where
     all_fine : EachFine (events plan limits feeds system reached)
     all_fine = each_fine [] (events plan limits feeds system reached) tt (among plan limits feeds system reached) (next_each plan limits feeds system reached)
 
-    abbrev shown_run : ℕ → ActorRun
-    shown_run actor = run_of (setting_of plan actor limits).rules (system.state actor)
+    pub own_fits : (actor : ℕ) → actor < length plan.actors → ActorRunFits plan 2 (length feeds) (run_of (setting_of plan actor limits).rules (system.state actor))
+    own_fits actor l = fits_at system (events plan limits feeds system reached) (at plan limits feeds system reached) all_fine actor l
 
-    pub own_fits : (actor : ℕ) → actor < length plan.actors → ActorRunFits plan 2 (length feeds) (shown_run actor)
-    own_fits actor l =
-        subst (λ (s : _). ActorRunFits plan 2 (length feeds) (run_of (setting_of plan actor limits).rules s)) (sym ((at plan limits feeds system reached).state actor))
-        (law actor l (sent_to actor (events plan limits feeds system reached)) (sent_fine actor (events plan limits feeds system reached) all_fine))
-
-    each_number : (from n : ℕ) → from + n ≤ length plan.actors → AllByRecursion (ActorRunFits plan 2 (length feeds)) (map shown_run (numbers_from from n))
-    each_number from zero l = tt
-    each_number from (suc n) l = (own_fits from (omega arith), each_number (from + 1) n (omega arith))
-
-    pub runs_fit : AllByRecursion (ActorRunFits plan 2 (length feeds)) (map shown_run (numbers_from 0 (length plan.actors)))
-    runs_fit = each_number 0 (length plan.actors) (omega arith)
+    pub runs_fit : AllByRecursion (ActorRunFits plan 2 (length feeds)) (map (λ actor. run_of (setting_of plan actor limits).rules (system.state actor)) (numbers_from 0 (length plan.actors)))
+    runs_fit = runs_fit_at system (events plan limits feeds system reached) (at plan limits feeds system reached) all_fine
 
 -- ---- the law
 

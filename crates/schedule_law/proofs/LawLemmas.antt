@@ -38,7 +38,7 @@ module _ (plan : Plan) (limits : Limits) (feeds : List (List (ℕ × Message))) 
   abbrev pub OfActors : List Event → Type 0
   OfActors events = AllByRecursion (λ (event : Event). event.0 < length plan.actors) events
 
-  of_pairs : (events : List Event) → AllByRecursion (λ (pair : ℕ × Source). pair.0 < length plan.actors) (map pair_of events) → OfActors events
+  pub of_pairs : (events : List Event) → AllByRecursion (λ (pair : ℕ × Source). pair.0 < length plan.actors) (map pair_of events) → OfActors events
   of_pairs [] each = tt
   of_pairs (event ∷ events) each = (each.0, of_pairs events each.1)
 
@@ -68,7 +68,7 @@ module _ (plan : Plan) (limits : Limits) (feeds : List (List (ℕ × Message))) 
   abbrev pub EachAmong : List Event → Type 0
   EachAmong events = AllByRecursion (λ (event : Event). Among (length feeds) (length plan.actors) event.1.0) events
 
-  each_among : (before events : List Event) → OfActors before → OfActors events → EachNext plan limits feeds before events → EachAmong events
+  pub each_among : (before events : List Event) → OfActors before → OfActors events → EachNext plan limits feeds before events → EachAmong events
   each_among before [] earlier each next = tt
   each_among before (event ∷ events) earlier each next =
       let n = next.0 in (
@@ -89,33 +89,7 @@ module _ (plan : Plan) (limits : Limits) (feeds : List (List (ℕ × Message))) 
 
 -- ---- the run
 
-module _ (plan : Plan) (limits : Limits) (feeds : List (List (ℕ × Message))) (system : System) (reached : IsReached plan limits feeds system) where
-  abbrev reach : Came plan limits feeds [] reached.pairs system
-  reach = came plan limits feeds reached.pairs system (system_at_first plan feeds) [] (at_first plan limits feeds) reached.steps
-
-  abbrev pub events : List Event
-  events = reach.events
-
-  pub at : IsSystemAt plan limits feeds events system
-  at = reach.is
-
-  of_actors : OfActors plan limits feeds events
-  of_actors = of_pairs plan limits feeds events (subst (AllByRecursion (λ (pair : ℕ × Source). pair.0 < length plan.actors)) (sym reach.pairs_are) reached.of_actors)
-
-  pub among : EachAmong plan limits feeds events
-  among = each_among plan limits feeds [] events tt of_actors reach.each
-
-  -- the pairs of the schedule are of actors and sources of the run
-  pub pairs_among : AllByRecursion (λ (pair : ℕ × Source). (pair.0 < length plan.actors) × Among (length feeds) (length plan.actors) pair.1) reached.pairs
-  pairs_among = subst (AllByRecursion (λ (pair : ℕ × Source). (pair.0 < length plan.actors) × Among (length feeds) (length plan.actors) pair.1)) reach.pairs_are (both events of_actors among)
-    where
-      both : (es : List Event) → OfActors plan limits feeds es → EachAmong plan limits feeds es → AllByRecursion (λ (pair : ℕ × Source). (pair.0 < length plan.actors) × Among (length feeds) (length plan.actors) pair.1) (map pair_of es)
-      both [] a b = tt
-      both (e ∷ es) a b = ((a.0, b.0), both es a.1 b.1)
-
-  pub next_each : EachNext plan limits feeds [] events
-  next_each = reach.each
-
+module _ (plan : Plan) (limits : Limits) (feeds : List (List (ℕ × Message))) (system : System) (events : List Event) (of_actors : OfActors plan limits feeds events) (among : EachAmong plan limits feeds events) (at : IsSystemAt plan limits feeds events system) where
   abbrev run : Run
   run = shown plan limits feeds system
 
@@ -125,8 +99,8 @@ module _ (plan : Plan) (limits : Limits) (feeds : List (List (ℕ × Message))) 
   here : (actor : ℕ) → actor < length plan.actors → slice_get run.actors actor ≡ Some (own_shown actor)
   here actor l = let e : 0 + actor ≡ actor = omega arith in get_numbers own_shown 0 (length plan.actors) actor l ∙ ap (λ (n : ℕ). Some (own_shown n)) e
 
-  pub count : length run.actors ≡ length plan.actors
-  count = length-map (numbers_from 0 (length plan.actors)) own_shown ∙ count_numbers 0 (length plan.actors)
+  pub count_at : length run.actors ≡ length plan.actors
+  count_at = length-map (numbers_from 0 (length plan.actors)) own_shown ∙ count_numbers 0 (length plan.actors)
 
   abbrev posts : ℕ → Source → List Stamped
   posts actor source = posts_of feeds run.actors source actor
@@ -137,7 +111,7 @@ module _ (plan : Plan) (limits : Limits) (feeds : List (List (ℕ × Message))) 
   sent_all (Actor b) actor =
       elim (cases_lt b (length plan.actors)) [
         | inl within ↦ ap (λ (s : State). flat_map (entry_posts actor) s.entries) (sym (at.state b)) ∙ sym (ap (posts_in actor) (here b within))
-        | inr past ↦ none_made plan limits feeds events of_actors b actor (omega arith) ∙ sym (ap (posts_in actor) (slice_get_past run.actors b (omega (arith, count))))
+        | inr past ↦ none_made plan limits feeds events of_actors b actor (omega arith) ∙ sym (ap (posts_in actor) (slice_get_past run.actors b (omega (arith, count_at))))
       ]
 
   module _ (waits : NothingWaits plan system) where
@@ -173,12 +147,47 @@ module _ (plan : Plan) (limits : Limits) (feeds : List (List (ℕ × Message))) 
 
     each : (actor : ℕ) (own : ActorRun) → slice_get run.actors actor ≡ Some own → IsLinkedActor plan limits feeds run actor own
     each actor other is =
-        let l : actor < length plan.actors = let within = slice_get_within run.actors actor other is in omega (arith, count) in
+        let l : actor < length plan.actors = let within = slice_get_within run.actors actor other is in omega (arith, count_at) in
         let same : own actor l ≡ other = sym (own_is actor l) ∙ some_is (sym (here actor l) ∙ is) in
         subst (λ (x : ActorRun). IsLinkedActor plan limits feeds run actor x) same (linked_own actor l)
       where
         some_is : {x y : ActorRun} → Some x ≡ Some y → x ≡ y
         some_is e = cc
 
-    pub linked : RunFits plan run → IsLinked plan limits feeds run
-    linked fits = record { fits_plan = fits; same_limits = refl; feed_count = refl; each = each }
+    pub linked_at : RunFits plan run → IsLinked plan limits feeds run
+    linked_at fits = record { fits_plan = fits; same_limits = refl; feed_count = refl; each = each }
+
+-- ---- after a schedule
+
+module _ (plan : Plan) (limits : Limits) (feeds : List (List (ℕ × Message))) (system : System) (reached : IsReached plan limits feeds system) where
+  abbrev reach : Came plan limits feeds [] reached.pairs system
+  reach = came plan limits feeds reached.pairs system (system_at_first plan feeds) [] (at_first plan limits feeds) reached.steps
+
+  abbrev pub events : List Event
+  events = reach.events
+
+  pub at : IsSystemAt plan limits feeds events system
+  at = reach.is
+
+  of_actors : OfActors plan limits feeds events
+  of_actors = of_pairs plan limits feeds events (subst (AllByRecursion (λ (pair : ℕ × Source). pair.0 < length plan.actors)) (sym reach.pairs_are) reached.of_actors)
+
+  pub among : EachAmong plan limits feeds events
+  among = each_among plan limits feeds [] events tt of_actors reach.each
+
+  -- the pairs of the schedule are of actors and sources of the run
+  pub pairs_among : AllByRecursion (λ (pair : ℕ × Source). (pair.0 < length plan.actors) × Among (length feeds) (length plan.actors) pair.1) reached.pairs
+  pairs_among = subst (AllByRecursion (λ (pair : ℕ × Source). (pair.0 < length plan.actors) × Among (length feeds) (length plan.actors) pair.1)) reach.pairs_are (both events of_actors among)
+    where
+      both : (es : List Event) → OfActors plan limits feeds es → EachAmong plan limits feeds es → AllByRecursion (λ (pair : ℕ × Source). (pair.0 < length plan.actors) × Among (length feeds) (length plan.actors) pair.1) (map pair_of es)
+      both [] a b = tt
+      both (e ∷ es) a b = ((a.0, b.0), both es a.1 b.1)
+
+  pub next_each : EachNext plan limits feeds [] events
+  next_each = reach.each
+
+  pub count : length (shown plan limits feeds system).actors ≡ length plan.actors
+  count = count_at plan limits feeds system events of_actors among at
+
+  pub linked : NothingWaits plan system → RunFits plan (shown plan limits feeds system) → IsLinked plan limits feeds (shown plan limits feeds system)
+  linked waits fits = linked_at plan limits feeds system events of_actors among at waits fits

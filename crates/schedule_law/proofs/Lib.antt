@@ -8,3 +8,4 @@ pub mod StandLemmas
 pub mod SumLemmas
 pub mod WorkLemmas
 pub mod BoundLemmas
+pub mod StandingLemmas
