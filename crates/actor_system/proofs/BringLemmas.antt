@@ -1,23 +1,20 @@
 -- The first post of a link is brought to its actor: what is left, and what is sound.
-use Rattle.std.proofs.Common.{◌≡◌, ◌∙◌, ℕ, zero, suc, ◌+◌, ◌-◌, ◌<◌, ◌≤◌, List, [], ◌∷◌, ◌++◌, length, map, drop, Bool, true, false, Option, None, Some, Vec, slice_get, slice_set, slice_index_or, refl, ap, sym, subst, arith}
-use Rattle.std.specs.Prelude.{if◌then◌else◌, ◌==◌}
-use Rattle.std.specs.List.{AllByRecursion}
+use Rattle.std.proofs.Common.{◌≡◌, ◌∙◌, ℕ, zero, suc, ◌<◌, List, [], ◌∷◌, length, drop, Bool, true, false, Option, None, Some, slice_get, slice_set, slice_index_or, refl, ap, sym, subst, arith}
 use Rattle.std.proofs.lemmas.List.{length-set}
 use Rattle.std.proofs.lemmas.Option.{slice_get_within}
 use Rattle.join_base.specs.declared.message.Message.{Message}
 use Rattle.join_base.specs.declared.message.Stamped.{Stamped}
 use Rattle.join_base.specs.declared.message.Source.{Source}
-use Rattle.join_base.specs.declared.message.Source.TheVariants.{Feed, Actor}
+use Rattle.join_base.specs.declared.message.Source.TheVariants.{Actor}
 use Rattle.join_base.specs.Late.{HasCount}
-use Rattle.fair_semantics.specs.Step.{State, Stepped, fair_step}
+use Rattle.fair_semantics.specs.Step.{Stepped, fair_step}
 use Rattle.fair_semantics.specs.declared.run.Outcome.{Outcome}
 use Rattle.fair_semantics.specs.Schedule.{taking}
 use Rattle.actor_turn.specs.Held.{Held, first_of, new_entries, posts_behind, posts_for, with_first, without_first}
-use Rattle.actor_system.specs.Feeding.{IsNext, fed_from}
-use Rattle.actor_system.specs.Serving.{Serving, StandsAt, after_link, fed_by, is_some_post, or_same, place_in, posted_by, system_in, waiting_in, waits_on}
+use Rattle.actor_system.specs.Serving.{Serving, StandsAt, after_link, is_some_post, or_same, posted_by, system_in, waiting_in, waits_on}
 use Rattle.actor_system.specs.Inside.{AreMembers, IsSound}
-use Rattle.actor_system.proofs.MoveLemmas.{IsTaken, fed_taken, placed, posted_taken, with_actors}
-use Rattle.actor_system.proofs.PlaceLemmas.{get_same, get_set, index_set}
+use Rattle.actor_system.proofs.MoveLemmas.{IsTaken, posted_taken, with_actors}
+use Rattle.actor_system.proofs.PlaceLemmas.{get_same}
 use Rattle.actor_system.proofs.SoundLemmas.{SoundAt, arrives, get_at, lends, may_arrive, members_set, set_here, set_twice}
 
 -- ---- lists

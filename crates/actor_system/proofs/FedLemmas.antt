@@ -1,24 +1,20 @@
 -- The first post of a feed is brought to its actor.
-use Rattle.std.proofs.Common.{◌≡◌, ◌∙◌, ℕ, zero, suc, ◌+◌, ◌-◌, ◌<◌, ◌≤◌, List, [], ◌∷◌, ◌++◌, length, map, drop, Bool, true, false, Option, None, Some, Vec, slice_get, slice_set, slice_index_or, refl, ap, sym, subst, arith}
-use Rattle.std.specs.Prelude.{if◌then◌else◌, ◌==◌}
+use Rattle.std.proofs.Common.{◌≡◌, ◌∙◌, ℕ, zero, suc, ◌+◌, ◌-◌, ◌<◌, ◌≤◌, List, [], ◌∷◌, length, map, true, false, Option, Some, Vec, slice_get, slice_set, slice_index_or, refl, ap, sym, arith}
 use Rattle.std.specs.List.{AllByRecursion}
 use Rattle.std.proofs.lemmas.List.{length-set}
-use Rattle.std.proofs.lemmas.Option.{slice_get_within, slice_get-get_or}
+use Rattle.std.proofs.lemmas.Option.{slice_get-get_or}
 use Rattle.join_base.specs.declared.message.Message.{Message}
 use Rattle.join_base.specs.declared.message.Stamped.{Stamped}
-use Rattle.join_base.specs.declared.message.Source.{Source}
-use Rattle.join_base.specs.declared.message.Source.TheVariants.{Feed, Actor}
+use Rattle.join_base.specs.declared.message.Source.TheVariants.{Feed}
 use Rattle.join_base.specs.Late.{HasCount}
-use Rattle.fair_semantics.specs.Step.{State, Stepped, fair_step}
+use Rattle.fair_semantics.specs.Step.{Stepped}
 use Rattle.fair_semantics.specs.declared.run.Outcome.{Outcome}
-use Rattle.fair_semantics.specs.Schedule.{taking}
-use Rattle.actor_turn.specs.Held.{Held, first_of, new_entries, posts_behind, posts_for, with_first, without_first}
+use Rattle.actor_turn.specs.Held.{Held}
 use Rattle.actor_system.specs.Feeding.{IsNext, fed_from}
-use Rattle.actor_system.specs.Serving.{Serving, StandsAt, after_link, fed_by, is_some_post, or_same, place_in, posted_by, system_in, waiting_in, waits_on}
+use Rattle.actor_system.specs.Serving.{Serving, StandsAt, after_link, fed_by, place_in, system_in, waiting_in, waits_on}
 use Rattle.actor_system.specs.Inside.{AreMembers, IsSound}
-use Rattle.actor_system.proofs.MoveLemmas.{IsTaken, fed_taken, placed, posted_taken, with_actors}
-use Rattle.actor_system.proofs.PlaceLemmas.{get_same, get_set, index_set}
-use Rattle.actor_system.proofs.SoundLemmas.{SoundAt, arrives, get_at, lends, may_arrive, members_set, set_here, set_twice}
+use Rattle.actor_system.proofs.MoveLemmas.{IsTaken, fed_taken, placed, with_actors}
+use Rattle.actor_system.proofs.SoundLemmas.{SoundAt, arrives, lends, may_arrive}
 use Rattle.actor_system.proofs.BringLemmas.{Arrived, none_waits, nothing_taken, one_waits}
 
 module _ (s : Serving) (sound : IsSound s) (target k : ℕ) (in_plan : target < length s.plan.actors) (exists : k < length s.feeds) (posts : List (ℕ × Message)) (feed : slice_get s.feeds k ≡ Some posts) (from : ℕ) (place_is : from ≡ place_in s.places k target) where

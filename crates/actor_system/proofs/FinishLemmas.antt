@@ -1,7 +1,7 @@
 -- Where nothing waits, the runs of the actors are those of a linked run.
-use Rattle.std.proofs.Common.{◌≡◌, ◌∙◌, ◌⊎◌, inl, inr, ℕ, zero, suc, ◌+◌, ◌<◌, ◌≤◌, List, [], ◌∷◌, ◌++◌, length, map, Bool, true, false, Option, None, Some, slice_get, refl, ap, sym, subst, arith}
+use Rattle.std.proofs.Common.{◌≡◌, ◌∙◌, inl, inr, ℕ, zero, suc, ◌+◌, ◌<◌, List, [], ◌∷◌, length, map, Bool, true, false, Option, Some, slice_get, refl, ap, sym, subst, arith}
 use Rattle.std.specs.Prelude.{◌||◌}
-use Rattle.std.specs.List.{flat_map, list_any}
+use Rattle.std.specs.List.{list_any}
 use Rattle.std.proofs.lemmas.Bool.{cases_lt}
 use Rattle.std.proofs.lemmas.Option.{slice_get_past}
 use Rattle.join_base.specs.declared.message.Stamped.{Stamped}
@@ -10,18 +10,17 @@ use Rattle.join_base.specs.declared.message.Source.TheVariants.{Feed, Actor}
 use Rattle.pattern_core.specs.Members.{IsIn}
 use Rattle.pattern_core.proofs.MembersLemmas.{IsIn-flat_map, IsIn-map}
 use Rattle.fair_semantics.specs.declared.run.ActorRun.{ActorRun}
-use Rattle.fair_semantics.specs.declared.run.Run.{Run}
 use Rattle.fair_semantics.specs.Fair.{run_of, setting_of}
 use Rattle.fair_semantics.specs.Linked.{IsLinked, numbers_from, sources}
-use Rattle.fair_semantics.specs.Step.{State, opening}
+use Rattle.fair_semantics.specs.Step.{opening}
 use Rattle.run_order.specs.Order.{shown}
 use Rattle.run_order.proofs.SourceLemmas.{OneOf, actor_among, feed_among}
 use Rattle.schedule_law.specs.Reached.{NothingWaits}
 use Rattle.schedule_law.proofs.FitLemmas.{schedules_are_linked}
 use Rattle.schedule_law.proofs.SettledLemmas.{one_is_in}
 use Rattle.actor_turn.specs.Held.{Held}
-use Rattle.actor_system.specs.Serving.{Link, Serving, fed_by, is_some_post, links_of, links_to, place_in, posted_by, run_in, some_waits, state_in, system_in, waiting_in, waits_on}
-use Rattle.actor_system.specs.Inside.{AreMembers, IsSound}
+use Rattle.actor_system.specs.Serving.{Serving, fed_by, is_some_post, links_of, links_to, place_in, posted_by, run_in, some_waits, state_in, system_in, waiting_in, waits_on}
+use Rattle.actor_system.specs.Inside.{IsSound}
 
 none_of_any : {X : Type 0} (f : X → Bool) (xs : List X) (x : X) → IsIn x xs → list_any f xs ≡ false → f x ≡ false
 none_of_any f [] x i e = absurd i

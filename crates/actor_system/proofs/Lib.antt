@@ -8,3 +8,4 @@ pub mod FedLemmas
 pub mod StartLemmas
 pub mod LinkLemmas
 pub mod FinishLemmas
+pub mod EndLemmas

@@ -1,25 +1,22 @@
 -- Links one after the other: what is served, what is taken, and that nothing waits where nothing was taken.
-use Rattle.std.proofs.Common.{◌≡◌, ◌∙◌, ◌⊎◌, inl, inr, ℕ, zero, suc, ◌+◌, ◌-◌, ◌<◌, ◌≤◌, List, [], ◌∷◌, ◌++◌, length, map, take, drop, Bool, true, false, Option, None, Some, slice_get, get_or, append_assoc, refl, ap, sym, subst, arith}
+use Rattle.std.proofs.Common.{◌≡◌, ◌∙◌, inl, inr, ℕ, zero, suc, ◌+◌, ◌-◌, ◌<◌, ◌≤◌, List, [], ◌∷◌, ◌++◌, length, map, take, drop, Bool, true, false, Some, slice_get, append_assoc, refl, ap, sym, subst, arith}
 use Rattle.std.specs.Prelude.{if◌then◌else◌, ◌||◌, nat_lt, OnErr, Result, Ok, Err}
 use Rattle.std.specs.List.{flat_map, list_any}
 use Rattle.std.proofs.lemmas.Bool.{cases_lt}
 use Rattle.std.proofs.lemmas.Bool.Decides.{nat_tests}
-use Rattle.std.proofs.lemmas.List.{append-nil, length-map, map-append, take_more, take_all}
+use Rattle.std.proofs.lemmas.List.{append-nil, length-map, take_all}
 use Rattle.std.proofs.lemmas.Grind.{flat_map-append}
-use Rattle.std.proofs.lemmas.Option.{slice_get_past, slice_get_within}
-use Rattle.join_base.specs.declared.message.Message.{Message}
 use Rattle.join_base.specs.declared.message.Stamped.{Stamped}
 use Rattle.join_base.specs.declared.message.Source.{Source}
 use Rattle.join_base.specs.declared.message.Source.TheVariants.{Feed, Actor}
-use Rattle.pattern_core.specs.Members.{IsIn}
 use Rattle.script_types.specs.declared.plan.Plan.{Plan}
 use Rattle.fair_semantics.specs.declared.run.Limits.{Limits}
 use Rattle.fair_semantics.specs.Fits.{SourceFits}
 use Rattle.fair_semantics.specs.Linked.{numbers_from, sources}
-use Rattle.fair_semantics.specs.Schedule.{System, scheduled_step, taking}
+use Rattle.fair_semantics.specs.Schedule.{System, taking}
 use Rattle.fair_semantics.proofs.FairLemmas.{numbers_from-more}
 use Rattle.fair_semantics.proofs.NumberLemmas.{count_numbers, get_numbers}
-use Rattle.actor_system.specs.Serving.{Link, MovedTo, Served, ServedInPart, Serving, StandsAt, after_link, after_links, is_some_post, links_of, links_to, or_same, some_taken, some_waits, source_at, system_in, waiting_in, waits_on}
+use Rattle.actor_system.specs.Serving.{Link, MovedTo, Served, ServedInPart, Serving, after_link, after_links, is_some_post, links_of, links_to, or_same, some_taken, some_waits, source_at, system_in, waits_on}
 
 -- ---- what is served
 
@@ -144,7 +141,7 @@ get_map f [] k x e = absurd cc
 get_map {X} {Y} f (y ∷ xs) zero x e = let same : y ≡ x = cc in ap (λ (z : X). Some (f z)) same
 get_map f (y ∷ xs) (suc k) x e = get_map f xs k x e
 
-take_next : {X : Type 0} (xs : List X) (k : ℕ) (x : X) → slice_get xs k ≡ Some x → take (k + 1) xs ≡ take k xs ++ x ∷ []
+pub take_next : {X : Type 0} (xs : List X) (k : ℕ) (x : X) → slice_get xs k ≡ Some x → take (k + 1) xs ≡ take k xs ++ x ∷ []
 take_next [] k x e = absurd cc
 take_next {X} (y ∷ xs) zero x e = let same : y ≡ x = cc in ap (λ (z : X). z ∷ []) same
 take_next {X} (y ∷ xs) (suc k) x e = let n : suc k + 1 ≡ suc (k + 1) = omega arith in ap (λ (m : ℕ). take m (y ∷ xs)) n ∙ ap (λ (zs : List X). y ∷ zs) (take_next xs k x e)

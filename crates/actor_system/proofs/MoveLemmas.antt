@@ -1,5 +1,5 @@
 -- What a system is after the first post of a link was taken, and after it has arrived.
-use Rattle.std.proofs.Common.{◌≡◌, ◌∙◌, ◌⊎◌, inl, inr, ℕ, zero, suc, ◌+◌, ◌<◌, ◌≤◌, List, [], ◌∷◌, ◌++◌, length, map, Bool, true, false, Option, None, Some, slice_get, slice_set, slice_index_or, drop, refl, ap, sym, subst, arith}
+use Rattle.std.proofs.Common.{◌≡◌, ◌∙◌, inl, inr, ℕ, zero, suc, ◌+◌, ◌<◌, ◌≤◌, List, [], ◌∷◌, ◌++◌, length, Bool, true, false, Option, Some, slice_get, slice_set, slice_index_or, refl, ap, sym, arith}
 use Rattle.std.specs.Prelude.{if◌then◌else◌, ◌==◌, ◌&&◌}
 use Rattle.std.specs.List.{flat_map}
 use Rattle.std.proofs.lemmas.Bool.{cases_lt}
@@ -10,7 +10,7 @@ use Rattle.join_base.specs.declared.message.Source.TheVariants.{Feed, Actor}
 use Rattle.fair_semantics.specs.declared.run.Entry.{Entry}
 use Rattle.fair_semantics.specs.Fair.{setting_of}
 use Rattle.fair_semantics.specs.Step.{State, fair_step, opening}
-use Rattle.fair_semantics.specs.Linked.{entry_posts, same_source}
+use Rattle.fair_semantics.specs.Linked.{entry_posts}
 use Rattle.fair_semantics.specs.Schedule.{System, left_waiting, newly_waiting, posts_made, scheduled_step, state_after, taking}
 use Rattle.run_order.proofs.EventLemmas.{same_number}
 use Rattle.run_order.proofs.ListLemmas.{empty_right}

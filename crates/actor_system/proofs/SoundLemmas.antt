@@ -1,7 +1,6 @@
 -- A serving stays sound where an actor is changed, and where a post was taken and has arrived.
-use Rattle.std.proofs.Common.{◌≡◌, ◌∙◌, ℕ, zero, suc, ◌+◌, ◌<◌, ◌≤◌, List, [], ◌∷◌, ◌++◌, length, map, Bool, true, false, Option, None, Some, slice_get, slice_set, slice_index_or, refl, ap, sym, subst, arith}
+use Rattle.std.proofs.Common.{◌≡◌, ◌∙◌, ℕ, zero, suc, ◌+◌, ◌<◌, List, [], ◌∷◌, length, Bool, true, false, Option, Some, slice_get, slice_set, slice_index_or, refl, ap, sym, subst, arith}
 use Rattle.std.specs.Prelude.{if◌then◌else◌, ◌==◌}
-use Rattle.std.specs.List.{AllByRecursion}
 use Rattle.std.proofs.lemmas.List.{length-set}
 use Rattle.std.proofs.lemmas.Option.{slice_get_within, slice_get-get_or}
 use Rattle.join_base.specs.declared.message.Message.{Message}
@@ -12,17 +11,16 @@ use Rattle.join_base.specs.Late.{HasCount, Late}
 use Rattle.script_types.specs.declared.plan.Plan.{Plan}
 use Rattle.fair_semantics.specs.declared.run.Entry.{Entry}
 use Rattle.fair_semantics.specs.declared.run.Limits.{Limits}
-use Rattle.fair_semantics.specs.Fair.{setting_of}
 use Rattle.fair_semantics.specs.Fits.{SourceFits}
 use Rattle.fair_semantics.specs.Step.{State, fair_step, opening}
 use Rattle.fair_semantics.specs.Schedule.{System}
 use Rattle.fair_semantics.proofs.SizeLemmas.{Sized}
 use Rattle.schedule_law.specs.Reached.{IsReached, IsServable}
 use Rattle.schedule_law.proofs.StandLemmas.{sized_state}
-use Rattle.actor_turn.specs.Held.{Held, new_entries, posts_behind, posts_for, without_first}
-use Rattle.actor_system.specs.Serving.{Serving, StandsAt, after_link, is_some_post, posted_by, state_in, system_in, waiting_in, waits_on}
+use Rattle.actor_turn.specs.Held.{Held, new_entries, posts_behind, posts_for}
+use Rattle.actor_system.specs.Serving.{Serving, StandsAt, after_link, posted_by, state_in, system_in, waiting_in}
 use Rattle.actor_system.specs.Inside.{AreMembers, IsMember, IsSound}
-use Rattle.actor_system.proofs.MoveLemmas.{IsTaken, moved_is, next, next_is, next_reached, posted_taken, with_actors}
+use Rattle.actor_system.proofs.MoveLemmas.{IsTaken, moved_is, next, next_is, next_reached, with_actors}
 use Rattle.actor_system.proofs.PlaceLemmas.{get_set, same_number}
 
 -- ---- lists

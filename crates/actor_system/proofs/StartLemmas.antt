@@ -1,11 +1,9 @@
 -- A new system: each actor in its opening state, and the feeds' posts waiting.
-use Rattle.std.proofs.Common.{◌≡◌, ◌∙◌, ◌⊎◌, inl, inr, ℕ, zero, suc, ◌+◌, ◌<◌, ◌≤◌, List, [], ◌∷◌, ◌++◌, length, map, Option, None, Some, slice_get, slice_index_or, replicate, refl, ap, sym, subst, arith}
-use Rattle.std.specs.List.{AllByRecursion}
+use Rattle.std.proofs.Common.{◌≡◌, ◌∙◌, inl, inr, ℕ, zero, suc, ◌+◌, ◌<◌, List, [], length, Option, None, Some, slice_get, slice_index_or, replicate, refl, ap, sym, subst, arith}
 use Rattle.std.proofs.lemmas.Bool.{cases_lt}
 use Rattle.std.proofs.lemmas.List.{length-map, length-replicate}
 use Rattle.std.proofs.lemmas.Option.{slice_get_past, slice_get_within}
 use Rattle.join_base.specs.declared.message.Message.{Message}
-use Rattle.join_base.specs.declared.message.Stamped.{Stamped}
 use Rattle.join_base.specs.declared.message.Source.{Source}
 use Rattle.join_base.specs.declared.message.Source.TheVariants.{Feed, Actor}
 use Rattle.script_types.specs.declared.plan.Plan.{Plan}
@@ -13,17 +11,16 @@ use Rattle.script_types.specs.Typed.{IsTyped}
 use Rattle.fair_semantics.specs.declared.run.Limits.{Limits}
 use Rattle.fair_semantics.specs.Fits.{IsFrom1To}
 use Rattle.fair_semantics.specs.Linked.{feed_posts, numbers_from}
-use Rattle.fair_semantics.specs.Schedule.{System, system_at_first, waiting_at_first}
-use Rattle.fair_semantics.specs.Step.{State, opening}
+use Rattle.fair_semantics.specs.Schedule.{system_at_first, waiting_at_first}
+use Rattle.fair_semantics.specs.Step.{opening}
 use Rattle.fair_semantics.proofs.ListLemmas.{each_replicate}
 use Rattle.fair_semantics.proofs.NumberLemmas.{count_numbers, get_numbers}
-use Rattle.schedule_law.specs.Reached.{FeedsFit, IsReached, IsServable}
+use Rattle.schedule_law.specs.Reached.{FeedsFit, IsReached}
 use Rattle.schedule_law.proofs.StandLemmas.{reached_first}
-use Rattle.actor_turn.specs.Held.{AreLimits, Held, new_actor, posts_for}
+use Rattle.actor_turn.specs.Held.{AreLimits, Held, new_actor}
 use Rattle.actor_system.specs.Opening.{RulesInRange, new_actors, rows_of}
 use Rattle.actor_system.specs.Serving.{Serving, StandsAt, fed_by, place_in, posted_by, state_in, system_in, waiting_in}
 use Rattle.actor_system.specs.Inside.{AreMembers, IsMember, IsSound}
-use Rattle.actor_system.proofs.SoundLemmas.{SoundAt}
 
 none_at : {X : Type 0} (n k : ℕ) (x : X) → slice_index_or (replicate n x) k x ≡ x
 none_at zero k x = refl

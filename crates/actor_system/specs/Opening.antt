@@ -1,5 +1,5 @@
 -- What a new system keeps.
-use Rattle.std.specs.Prelude.{ℕ, ◌<◌, List, length, map, replicate}
+use Rattle.std.specs.Prelude.{ℕ, ◌<◌, List, map, replicate}
 use Rattle.script_types.specs.declared.plan.Plan.{Plan}
 use Rattle.fair_semantics.specs.declared.run.Limits.{Limits}
 use Rattle.fair_semantics.specs.Linked.{numbers_from}

@@ -6,6 +6,7 @@ ghost use Rattle.fair_semantics.specs.Fits.{IsFrom1To, SourceFits};
 ghost use Rattle.fair_semantics.specs.Linked.{IsLinked};
 ghost use Rattle.run_order.specs.Order.{IsScheduled, shown};
 ghost use Rattle.schedule_law.specs.Reached.{FeedsFit};
+ghost use Rattle.schedule_law.specs.WorkLeft.{work_left};
 ghost use Rattle.actor_turn.specs.Held.{AreLimits};
 ghost use Rattle.fair_semantics.specs.Schedule.{system_at_first};
 ghost use Rattle.actor_system.specs.Serving.{MovedTo, Served, ServedInPart, StandsAt, after_link, links_of, links_to, some_taken, some_waits, system_in, waits_on};
@@ -196,7 +197,19 @@ impl<'p> System<'p> {
         Ok(taken)
     }
 
-    /// Steps until nothing waits. After `NoMemory` it stands as after that of `step`.
+    // No run has more steps: each takes a post, and an arrival makes at most 16. There are at most 32 actors.
+    fn most_steps(&self) -> u128
+        ensures typed { IsTyped self.now.plan }
+        ensures most { work_left self.now.plan self.now.limits (length self.now.feeds) (system_in self.now) ≤ result }
+    {
+        let mut posts: u128 = 0;
+        for feed in 0..self.feeds.len() {
+            posts += self.feeds.at(feed).len() as u128;
+        }
+        32 * (posts + 17 * self.limits.arrivals as u128)
+    }
+
+    /// Steps until nothing waits, which it always comes to. `NoMemory` is that of a step, and it stands as after that.
     pub fn run_to_end<L: Ledger>(
         &mut self,
         alloc: Global,
@@ -207,13 +220,12 @@ impl<'p> System<'p> {
         ensures feeds { self.new.feeds ≡ self.old.feeds }
         ensures nothing { OnOk result (some_waits self.new ≡ false) }
     {
-        for _ in 0..u64::MAX {
+        for turn in 0..self.most_steps() {
             if !self.step(alloc, steps)? {
-                return Ok(());
+                break;
             }
         }
-        // Arrivals are limited, and each step but the last takes a message: no run comes here.
-        Err(NoMemory)
+        Ok(())
     }
 
     /// The run that the actors show, where nothing waits. It takes no memory.

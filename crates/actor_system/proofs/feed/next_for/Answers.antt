@@ -1,4 +1,4 @@
-use Rattle.std.proofs.Common.{◌≡◌, ◌∙◌, ℕ, ◌+◌, ◌<◌, ◌==◌, Bool, true, false, length, List, Some, slice_get, slice_index_or, refl, sym, arith}
+use Rattle.std.proofs.Common.{◌∙◌, arith}
 use Rattle.std.proofs.lemmas.Option.{slice_get-get_or}
 use Rattle.actor_system.proofs.FeedLemmas.{next_at, none_from, passed}
 use Rattle.actor_system.proofs.PlaceLemmas.{differ, equal}

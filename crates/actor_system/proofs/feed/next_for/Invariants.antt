@@ -1,4 +1,4 @@
-use Rattle.std.proofs.Common.{◌≡◌, ℕ}
+use Rattle.std.proofs.Common.{◌≡◌}
 use Rattle.actor_system.specs.Feeding.{fed_from}
 use Rattle.actor_system.proofs.feed.next_for.Given as goal
 

@@ -1,4 +1,4 @@
-use Rattle.std.proofs.Common.{◌≡◌, ◌∙◌}
+use Rattle.std.proofs.Common.{◌∙◌}
 use Rattle.actor_system.proofs.OpeningLemmas.{actors_more, rules_more}
 use Rattle.actor_system.proofs.opening.actors_of.Goals as goal
 

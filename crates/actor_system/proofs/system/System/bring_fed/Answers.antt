@@ -1,9 +1,8 @@
-use Rattle.std.proofs.Common.{◌≡◌, ◌∙◌, ℕ, suc, ◌+◌, ◌-◌, ◌<◌, ◌≤◌, length, List, map, slice_get, slice_set, slice_index_or, Some, refl, ap, sym, subst, arith}
+use Rattle.std.proofs.Common.{◌≡◌, ◌∙◌, ℕ, suc, ◌+◌, ◌-◌, ◌<◌, ◌≤◌, length, List, map, slice_set, Some, refl, ap, sym, subst, arith}
 use Rattle.std.proofs.lemmas.List.{length-map}
 use Rattle.std.proofs.lemmas.Option.{slice_get_within}
 use Rattle.join_base.specs.Late.{HasCount}
 use Rattle.join_base.specs.declared.message.Message.{Message}
-use Rattle.join_base.specs.declared.message.Source.{Source}
 use Rattle.join_base.specs.declared.message.Source.TheVariants.{Feed}
 use Rattle.std.specs.Vec.{with_item}
 use Rattle.fair_semantics.specs.Step.{fair_step}
@@ -13,8 +12,6 @@ use Rattle.actor_system.specs.Serving.{Serving, StandsAt, after_link, system_in,
 use Rattle.actor_system.specs.Inside.{IsSound, serving_of}
 use Rattle.actor_system.proofs.BringLemmas.{Arrived, in_plan_of, member_at, stands_of, waits_of}
 use Rattle.actor_system.proofs.FedLemmas.{fed_arrives, fed_may, fed_none, fed_nothing, fed_waits, feed_number, get_row, message_at, place_read, row_of, rows_set}
-use Rattle.actor_system.proofs.MoveLemmas.{with_actors}
-use Rattle.actor_system.proofs.SoundLemmas.{SoundAt, get_at}
 use Rattle.actor_system.proofs.system.System.bring_fed.Goals as goal
 
 -- the feed exists

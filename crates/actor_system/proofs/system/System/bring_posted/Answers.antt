@@ -1,4 +1,4 @@
-use Rattle.std.proofs.Common.{◌≡◌, ◌∙◌, ℕ, ◌<◌, length, List, slice_get, slice_set, slice_index_or, Some, refl, ap, sym, subst, arith}
+use Rattle.std.proofs.Common.{◌∙◌, List, slice_set, refl, sym, arith}
 use Rattle.std.proofs.lemmas.List.{length-set}
 use Rattle.join_base.specs.declared.message.Source.TheVariants.{Actor}
 use Rattle.actor_turn.specs.Held.{Held}

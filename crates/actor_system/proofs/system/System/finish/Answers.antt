@@ -4,7 +4,7 @@ use Rattle.fair_semantics.specs.Linked.{IsLinked}
 use Rattle.run_order.specs.Order.{shown}
 use Rattle.run_order.proofs.LawLemmas.{runs_are_schedules}
 use Rattle.actor_system.specs.Serving.{Serving, some_waits, system_in}
-use Rattle.actor_system.specs.Inside.{IsSound, serving_of}
+use Rattle.actor_system.specs.Inside.{serving_of}
 use Rattle.actor_system.proofs.FinishLemmas.{finished, links}
 use Rattle.actor_system.proofs.system.System.finish.Goals as goal
 

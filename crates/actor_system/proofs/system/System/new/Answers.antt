@@ -1,4 +1,4 @@
-use Rattle.std.proofs.Common.{◌≡◌, ◌∙◌, ℕ, length, map, ap, sym, arith}
+use Rattle.std.proofs.Common.{◌≡◌, ◌∙◌, ℕ, length, map, ap, arith}
 use Rattle.actor_system.proofs.StartLemmas.{starts}
 use Rattle.actor_system.specs.Opening.{new_actors, rows_of}
 use Rattle.actor_system.proofs.system.System.new.Goals as goal

@@ -1,9 +1,12 @@
-use Rattle.std.proofs.Common.{◌≡◌}
+use Rattle.std.proofs.Common.{◌≡◌, ◌+◌, ◌≤◌}
+use Rattle.actor_system.proofs.EndLemmas.{work_of}
 use Rattle.actor_system.proofs.system.System.run_to_end.Given as goal
 
-abbrev pub invariant-loop : goal.invariant-loop
-invariant-loop g l = record {
+-- each turn leaves less work
+abbrev pub invariant-loop-turn : goal.invariant-loop-turn
+invariant-loop-turn g l = record {
   plan : l.self.plan ≡ l.fn.self.plan;
   limits : l.self.limits ≡ l.fn.self.limits;
   feeds : l.self.feeds ≡ l.fn.self.feeds;
+  less : l.turn + work_of l.self ≤ work_of l.fn.self;
 }

@@ -1,6 +1,6 @@
-use Rattle.std.proofs.Common.{◌≡◌, ◌∙◌, ◌||◌, ℕ, ◌+◌, ◌<◌, ◌≤◌, Bool, List, ◌++◌, ◌∷◌, [], length, take, refl, ap, sym, subst, arith}
+use Rattle.std.proofs.Common.{◌≡◌, ◌∙◌, ℕ, ◌+◌, ◌<◌, List, ◌++◌, ◌∷◌, [], length, take, ap, sym, subst, arith}
 use Rattle.join_base.specs.declared.message.Source.{Source}
-use Rattle.actor_system.specs.Serving.{Link, MovedTo, Served, ServedInPart, Serving, after_link, links_to, source_at, some_taken, system_in, waits_on}
+use Rattle.actor_system.specs.Serving.{Link, MovedTo, Served, Serving, after_link, links_to, source_at, some_taken, system_in, waits_on}
 use Rattle.actor_system.proofs.LinkLemmas.{link_next, links_all, links_part, on_err, served_link, served_still, taken_link}
 use Rattle.actor_system.proofs.system.System.serve.Goals as goal
 

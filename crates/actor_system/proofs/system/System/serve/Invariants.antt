@@ -1,4 +1,4 @@
-use Rattle.std.proofs.Common.{◌≡◌, ◌+◌, ◌<◌, length, take}
+use Rattle.std.proofs.Common.{◌≡◌, ◌+◌, length, take}
 use Rattle.actor_system.specs.Serving.{Served, links_to, some_taken, system_in}
 use Rattle.actor_system.proofs.system.System.serve.Given as goal
 

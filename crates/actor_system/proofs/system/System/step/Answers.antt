@@ -1,4 +1,4 @@
-use Rattle.std.proofs.Common.{◌≡◌, ◌∙◌, ◌||◌, ℕ, ◌+◌, ◌<◌, ◌≤◌, Bool, false, List, ◌++◌, length, refl, ap, sym, subst, arith}
+use Rattle.std.proofs.Common.{◌≡◌, ◌∙◌, ℕ, ◌≤◌, false, List, length, ap, sym, subst, arith}
 use Rattle.actor_system.specs.Serving.{Link, Served, ServedInPart, Serving, links_of, links_to, some_taken, some_waits, system_in}
 use Rattle.actor_system.proofs.LinkLemmas.{links_around, links_before, links_more, nothing_waits, on_err, part_behind, same_links, served_both, taken_behind, taken_where_waits}
 use Rattle.actor_system.proofs.system.System.step.Goals as goal
