@@ -1,5 +1,6 @@
 -- Bytes spell one tree or have one fault.
-use Rattle.std.proofs.Common.{Bool, true, false, ◌≡◌, ℕ, ◌<◌, ◌≤◌, ◌⊎◌, inl, inr, ⊎_elim, ◌++◌, List, [], ◌∷◌, length, refl, sym, ap, subst, ◌∙◌, arith}
+use Rattle.std.proofs.Common.{Bool, true, false, ◌≡◌, ℕ, ◌<◌, ◌≤◌, ◌⊎◌, inl, inr, ⊎_elim, ◌++◌, List, [], ◌∷◌, length, take, drop, refl, sym, ap, subst, ◌∙◌, append_assoc, length-append, arith}
+use Rattle.std.proofs.lemmas.List.{take-append-drop, drop-append-le}
 use Rattle.std.specs.Prelude.{if◌then◌else◌, Result, Ok, Err, IfOk}
 use Rattle.std.specs.Str.{IsUtf8, IsValidUpTo}
 use Rattle.script_tokens.specs.declared.token.Token.{Token}
@@ -10,6 +11,8 @@ use Rattle.script_grammar.specs.Grammar.{IsScript}
 use Rattle.script_grammar.specs.Filled.{IsFilled, ScriptsAreFilled}
 use Rattle.script_grammar.specs.Refusal.{Refuses}
 use Rattle.script_grammar.specs.Refusal as refusal
+use Rattle.script_grammar.specs.Beginning.{IsBeginning}
+use Rattle.script_grammar.specs.declared.script.Beginning.{Beginning}
 use Rattle.script_grammar.specs.declared.fault.ScriptCause.{ScriptCause}
 use Rattle.script_grammar.specs.declared.fault.ScriptCause.TheVariants.{NotText, BadToken, BadSyntax, TooMany, TwiceDeclared, UnknownMessage, UnknownActor, UnknownName, WrongCount, WrongType, StopNotLast, BadWindow, BadReply}
 use Rattle.script_grammar.specs.declared.fault.ScriptFault.{ScriptFault}
@@ -89,3 +92,23 @@ front_refused some stays bytes left tokens (t ∷ ts) text front within refused 
 pub reads_filled : ScriptsAreFilled → (bytes : List ℕ) (result : Result Tree ScriptFault) → Reads bytes result → IfOk result IsFilled
 reads_filled filled bytes (Ok tree) h = filled tree h.tokens h.script
 reads_filled filled bytes (Err fault) h = tt
+
+-- ---- a beginning of some tokens is one of them and more
+
+pub begins_longer : (beginning : Beginning) (tokens more : List Token) → take (length tokens) more ≡ tokens → IsBeginning beginning tokens → IsBeginning beginning more
+begins_longer beginning tokens more kept h =
+    let b = h.begins in
+    let added : List Token = drop (length tokens) more in
+    let whole : tokens ++ added ≡ more = ap (λ (l : List Token). l ++ added) (sym kept) ∙ take-append-drop (length tokens) more in
+    subst (λ (l : List Token). IsBeginning beginning l) whole
+    (record {
+      within = omega (arith, h.within, length-append tokens added);
+      begins = record {
+        declarations = b.declarations;
+        read = b.read;
+        parts = ap (λ (l : List Token). l ++ added) b.parts ∙ append_assoc b.read (drop beginning.count tokens) added
+            ∙ ap (λ (l : List Token). b.read ++ l) (sym (drop-append-le beginning.count tokens added h.within));
+        spelt = b.spelt;
+        tree_is = b.tree_is;
+      };
+    })
