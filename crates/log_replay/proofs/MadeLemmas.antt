@@ -11,7 +11,12 @@ use Rattle.run_fits.proofs.LawLemmas.{AreSound, fair_sound, few_partials, small_
 use Rattle.run_fits.proofs.RestLemmas.{cleared_count}
 use Rattle.run_fits.proofs.SoundLemmas.{EntrySound, IsSound}
 use Rattle.log_reader.proofs.ReadLemmas.{logs_are_one_run}
-use Rattle.log_replay.specs.Law.{AcceptedIsExpected, AcceptedIsLinked, ExpectedFits}
+use Rattle.run_order.proofs.LawLemmas.{runs_are_schedules}
+use Rattle.log_reader.specs.Log.{IsLogOf}
+use Rattle.log_replay.specs.Check.{IsAcceptedLog, IsFirstFault, arrival_count}
+use Rattle.log_replay.specs.Fault.{IsAccepted}
+use Rattle.log_replay.specs.Law.{AcceptedIsExpected, AcceptedIsLinked, AcceptedIsScheduled, AllRulesFit, ExpectedFits}
+use Rattle.log_replay.specs.Feeds.{feeds_shown}
 use Rattle.log_replay.proofs.ExpectedFitsLemmas.{bare_fit, stamped_fit}
 use Rattle.std.specs.List.{AllByRecursion}
 use Rattle.std.specs.List.Sorted.{IsStrictlyIncreasing}
@@ -132,3 +137,19 @@ accepted_is_expected plan run typed texts fit accepted =
 
 pub accepted_is_linked : AcceptedIsLinked
 accepted_is_linked plan run typed texts fit accepted = expected_is_linked plan run typed fit (accepted_is_expected plan run typed texts fit accepted) accepted
+
+pub accepted_is_scheduled : AcceptedIsScheduled
+accepted_is_scheduled plan run typed texts fit accepted version = runs_are_schedules plan run.limits (feeds_shown run) run (accepted_is_linked plan run typed texts fit accepted) version
+
+-- what an accepted log tells of its run
+pub accepted_log : (plan : Plan) (bytes : List ℕ) (run : Run) (found : Option ℕ) (count : ℕ) → IsTyped plan → IsLogOf plan bytes run → AllRulesFit plan run.limits → found ≡ None → IsFirstFault plan run found → count ≡ arrival_count run → IsAcceptedLog plan bytes count
+accepted_log plan bytes run found count typed log texts none first counted =
+    let accepted : IsAccepted plan run = subst (IsFirstFault plan run) none first in
+    record {
+      run = run;
+      log = log;
+      accepted = accepted;
+      counted = counted;
+      linked = accepted_is_linked plan run typed texts log.fits accepted;
+      scheduled = accepted_is_scheduled plan run typed texts log.fits accepted;
+    }

@@ -2,12 +2,15 @@
 use Rattle.std.specs.Prelude.{◌≡◌, ℕ, ◌+◌, List, length, Option, None, Some, Result, Ok, Err}
 use Rattle.script_types.specs.declared.plan.Plan.{Plan}
 use Rattle.fair_semantics.specs.declared.run.Run.{Run}
+use Rattle.fair_semantics.specs.Linked.{IsLinked}
 use Rattle.fair_semantics.specs.StampLaw.{arrivals_of}
+use Rattle.run_order.specs.Order.{IsScheduled}
 use Rattle.log_reader.specs.Log.{IsLogOf, IsNoLog}
 use Rattle.log_reader.specs.Places.{IsFaultLine}
 use Rattle.log_replay.specs.declared.refusal.LogRefusal.{LogRefusal}
 use Rattle.log_replay.specs.declared.refusal.LogRefusal.TheVariants.{Bad, Differs, NoMemory}
 use Rattle.log_replay.specs.Fault.{IsAccepted, IsFirstInFault}
+use Rattle.log_replay.specs.Feeds.{feeds_shown}
 
 -- the number of the first line in fault, or none where no line is
 abbrev pub IsFirstFault : Plan → Run → Option ℕ → Type 0
@@ -23,12 +26,15 @@ numbered (Some place) = Some (place + 1)
 abbrev pub arrival_count : Run → ℕ
 arrival_count run = length (arrivals_of run.actors)
 
--- the bytes are the log of a run no line of whose log is in fault, and that has so many arrivals
+-- the bytes are the log of a run no line of whose log is in fault, and that has so many arrivals; it is linked to the feeds that it
+-- shows, and with stamps it is that of one schedule of single steps
 pub record IsAcceptedLog (plan : Plan) (bytes : List ℕ) (count : ℕ) : Type 0 where
   pub run : Run
   pub log : IsLogOf plan bytes run
   pub accepted : IsAccepted plan run
   pub counted : count ≡ arrival_count run
+  pub linked : IsLinked plan run.limits (feeds_shown run) run
+  pub scheduled : run.version ≡ 2 → IsScheduled plan run.limits (feeds_shown run) run
 
 -- the bytes are the log of a run, of whose lines this is the first in fault
 pub record IsDifferingLog (plan : Plan) (bytes : List ℕ) (line : ℕ) : Type 0 where

@@ -10,6 +10,7 @@ use Rattle.fair_semantics.specs.Fits.{PostFits, RunFits}
 use Rattle.fair_semantics.specs.Linked.{IsLinked}
 use Rattle.arrival_log.specs.LogText.{log_text}
 use Rattle.run_fits.specs.FitsLaw.{RulesFit}
+use Rattle.run_order.specs.Order.{IsScheduled}
 use Rattle.log_replay.specs.Expected.{expected_run}
 use Rattle.log_replay.specs.Fault.{Line, IsAccepted, lines_of}
 use Rattle.log_replay.specs.Feeds.{feeds_shown}
@@ -53,3 +54,7 @@ AcceptedIsExpected = (plan : Plan) (run : Run) → IsTyped plan → AllRulesFit 
 -- and it is linked to the feeds that it shows
 abbrev pub AcceptedIsLinked : Type 0
 AcceptedIsLinked = (plan : Plan) (run : Run) → IsTyped plan → AllRulesFit plan run.limits → RunFits plan run → IsAccepted plan run → IsLinked plan run.limits (feeds_shown run) run
+
+-- with stamps it is that of one schedule of single steps
+abbrev pub AcceptedIsScheduled : Type 0
+AcceptedIsScheduled = (plan : Plan) (run : Run) → IsTyped plan → AllRulesFit plan run.limits → RunFits plan run → IsAccepted plan run → run.version ≡ 2 → IsScheduled plan run.limits (feeds_shown run) run

@@ -30,7 +30,8 @@ fn arrival_count(run: &Run) -> u64
 /// some line of it is in fault, and has the first one.
 ///
 /// An accepted log is that of a run which is linked to feeds: each actor did the fair steps with its arrivals, and each post arrived or
-/// was late. The bytes are read in one pass, and the run is replayed once.
+/// was late. With stamps it may be read as the log of a run on one thread, step after step: some schedule over those feeds has it.
+/// The bytes are read in one pass, and the run is replayed once.
 pub fn check_log<L: Ledger>(
     alloc: Global,
     plan: &Plan,

@@ -1,5 +1,5 @@
 //! What holds of the expected run of a run, and of the lines of its log.
-ghost use Rattle.log_replay.specs.Law.{AcceptedHasOneText, AcceptedIsExpected, AcceptedIsLinked, ExpectedFits, ExpectedIsLinked, LinesAreText, LinkedIsAccepted, LinkedIsExpected};
+ghost use Rattle.log_replay.specs.Law.{AcceptedHasOneText, AcceptedIsExpected, AcceptedIsLinked, AcceptedIsScheduled, ExpectedFits, ExpectedIsLinked, LinesAreText, LinkedIsAccepted, LinkedIsExpected};
 
 /// The lines of a run, one behind the other, are its log text.
 pub fn lines_law()
@@ -32,8 +32,10 @@ pub fn fits_law()
 {}
 
 /// A run that fits the plan, and no line of whose log is in fault, is its own expected run, and is linked with its stamps to the feeds
-/// that it shows: what its actors took from each, and a copy of an actor's first message for each late one of it.
+/// that it shows: what its actors took from each, and a copy of an actor's first message for each late one of it. In version 2 it is
+/// that of one schedule of single steps over those feeds.
 pub fn converse_law()
     ensures expected { AcceptedIsExpected }
     ensures linked { AcceptedIsLinked }
+    ensures scheduled { AcceptedIsScheduled }
 {}

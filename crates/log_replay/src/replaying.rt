@@ -76,6 +76,7 @@ pub fn replay<L: Ledger>(
     requires fits { RunFits plan.now run.now }
     ensures expected { IfOk result (λ expected. expected ≡ expected_run plan.now run.now) }
     ensures fits { IfOk result (RunFits plan.now) }
+    ensures texts { OnOk result (AllRulesFit plan.now run.now.limits) }
 {
     let made = made_runs(alloc, plan, run, steps)?;
     let settlements = settlements_of(alloc, made.as_slice(), run)?;

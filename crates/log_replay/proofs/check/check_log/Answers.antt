@@ -1,5 +1,6 @@
 use Rattle.std.proofs.Common.{length, ap, arith}
 use Rattle.log_replay.proofs.FoundLemmas.{lines_few}
+use Rattle.log_replay.proofs.MadeLemmas.{accepted_log}
 use Rattle.log_replay.proofs.ReplayLemmas.{arrivals_few}
 use Rattle.log_replay.proofs.check.check_log.Goals as goal
 
@@ -8,3 +9,10 @@ arrival_count-requires g c =
     let log = c.in-Ok.ensures.answer in
     let few = lines_few c.args.plan.now c.in-Ok.run' c.requires.typed log.fits in
     omega (arith, few, ap length log.text, arrivals_few c.in-Ok.run'.actors)
+
+pub returns-in-Ok-None : goal.returns-in-Ok-None
+returns-in-Ok-None g c = record {
+  answer =
+      accepted_log c.args.plan.now c.args.bytes.now c.in-Ok.run' c.in-Ok-None.field-0 c.arrival_count.result c.requires.typed c.in-Ok.ensures.answer c.in-Ok-replay.ensures.texts c.in-Ok-None.field-0-is c.in-Ok-None.ensures.first
+      c.arrival_count.ensures;
+}
