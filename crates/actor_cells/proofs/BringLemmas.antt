@@ -1,0 +1,99 @@
+-- A message that is looked at, brought to the actor, and taken.
+use Rattle.std.proofs.Common.{◌≡◌, ◌∙◌, ℕ, zero, suc, ◌<◌, List, [], ◌∷◌, ◌++◌, length, map, get_or, set, Bool, true, false, Option, Some, None, refl, ap, sym, subst, arith}
+use Rattle.std.specs.Prelude.{Result, Ok, Err, IfOk, OnErr, MatchBool, slice_get}
+use mathlib.Core.List.{IsPrefix}
+use Rattle.join_base.specs.declared.items.NoMemory.{NoMemory}
+use Rattle.join_base.specs.declared.message.Stamped.{Stamped}
+use Rattle.join_base.specs.Late.{HasCount}
+use Rattle.actor_turn.specs.Held.{Held, is_taken}
+use Rattle.post_ring.specs.declared.link_out.LinkOut.{LinkOut}
+use Rattle.post_ring.specs.Links.{empty_looks, identity_out, received, waiting}
+use Rattle.post_ring.specs.Looks.{IsEmptyLook, IsLook, IsNext, Peeks, Takes}
+use Rattle.cell_links.specs.declared.ends.Inward.{Inward}
+use Rattle.actor_cells.specs.declared.cell.Cell.{Cell}
+use Rattle.actor_cells.specs.declared.cell.LinkTally.{LinkTally}
+use Rattle.actor_cells.specs.Lawful.{IsLawful, link_tally, state_in}
+use Rattle.actor_cells.specs.Served.{IsKept, IsRefusing}
+use Rattle.actor_cells.specs.Steps.{Brings, FindsNone, Refuses, changed_at, one_look, one_received}
+use Rattle.actor_cells.proofs.CellLemmas.{brought, known-here, looked}
+use Rattle.actor_cells.proofs.LinkLemmas.{has_count}
+use Rattle.actor_cells.proofs.TallyLemmas.{tally-set}
+use Rattle.std.proofs.lemmas.List.{length-append}
+
+-- ---- looks
+
+-- a message was taken over the link
+pub record Took (old now : LinkOut) (message : Stamped) : Type 0 where
+  pub identity : identity_out now ≡ identity_out old
+  pub took : received now ≡ received old ++ message ∷ []
+  pub looks : empty_looks now ≡ empty_looks old
+
+pub seen : (a b : LinkOut) (m : Stamped) (found : Option Stamped) → found ≡ Some m → Peeks a b found → IsLook a b × IsNext b m
+seen a b m found is peeks = subst (Peeks a b) is peeks
+
+pub seen-none : (a b : LinkOut) (found : Option Stamped) → found ≡ None → Peeks a b found → IsEmptyLook a b
+seen-none a b found is peeks = subst (Peeks a b) is peeks
+
+-- a message that was seen is the one that is taken next
+pub taken-again : (a b d : LinkOut) (m : Stamped) (taken : Option Stamped) → IsLook a b × IsNext b m → Takes b d taken → Took a d m
+taken-again a b d m None look empty = let e : m ∷ look.1.first.0 ≡ [] = look.1.first.1 ∙ empty.none in absurd cc
+taken-again a b d m (Some x) look took =
+    let same = first (waiting b) (waiting d) x look.1.first took.first in
+    record {
+      identity = took.identity ∙ look.0.identity;
+      took = took.taken ∙ (λ i. look.0.taken i ++ sym same i ∷ []);
+      looks = took.looks ∙ look.0.looks;
+    }
+  where
+    first : (xs ys : List Stamped) (x : Stamped) → IsPrefix (m ∷ []) xs → IsPrefix xs (x ∷ ys) → m ≡ x
+    first [] ys x p q = let e : m ∷ p.0 ≡ [] = p.1 in cc
+    first (z ∷ xs) ys x p q = let e : m ∷ p.0 ≡ z ∷ xs = p.1 in let f : z ∷ (xs ++ q.0) ≡ x ∷ ys = q.1 in cc
+
+-- ---- one link of a cell
+
+get-set : (ws : List Inward) (k : ℕ) (w : Inward) → k < length ws → slice_get (set ws k w) k ≡ Some w
+get-set [] k w within = absurd (omega arith)
+get-set (v ∷ ws) zero w within = refl
+get-set (v ∷ ws) (suc k) w within = get-set ws k w (omega arith)
+
+module _ (c after : Cell) (k : ℕ) (w : Inward) (l : LinkOut) (lawful : IsLawful c) (within : k < length c.inward.items) (here : get_or c.inward.items k w ≡ w)
+    (inward : after.inward.items ≡ set c.inward.items k (record w { link = l })) (outward : after.outward.items ≡ c.outward.items) where
+  abbrev pub Found : Bool → Type 0
+  Found found = MatchBool found (Brings w.source c.actor after.actor w.link l) (FindsNone c.actor after.actor w.link l)
+
+  pub kept : (result : Result Bool NoMemory) → IfOk result Found → OnErr result (Refuses c.actor after.actor w.link l) → IsKept c after
+  kept (Ok true) found refused = brought c after k w l lawful within here inward outward found.identity found
+  kept (Ok false) found refused = looked c after k w l lawful within here inward outward found.identity found.same found.took
+  kept (Err e) found refused = looked c after k w l lawful within here inward outward refused.identity refused.same refused.took
+
+  pub refusing : (result : Result Bool NoMemory) → OnErr result (Refuses c.actor after.actor w.link l) → OnErr result (IsRefusing after)
+  refusing (Ok found) refused = tt
+  refusing (Err e) refused = record {
+    place = k;
+    link = record w { link = l };
+    message = refused.message;
+    here = ap (λ (ws : List Inward). slice_get ws k) inward ∙ get-set c.inward.items k (record w { link = l }) within;
+    first = refused.first;
+    taken = ap (λ (h : Held). is_taken h.setting h.state refused.message.message refused.message.stamp) refused.same ∙ refused.taken;
+  }
+
+-- a late count is kept of the link's source
+pub counted-here : (c : Cell) (k : ℕ) (w : Inward) → IsLawful c → k < length c.inward.items → get_or c.inward.items k w ≡ w → HasCount (state_in c).late w.source
+counted-here c k w lawful within here = has_count (state_in c).late w.source (known-here c c k w w.link lawful within here (same c.inward.items k w here) refl refl)
+  where
+    same : (ws : List Inward) (k : ℕ) (w : Inward) → get_or ws k w ≡ w → ws ≡ set ws k w
+    same [] k w e = refl
+    same (v ∷ ws) zero w e = ap (λ (o : Inward). o ∷ ws) e
+    same (v ∷ ws) (suc k) w e = ap (λ (os : List Inward). v ∷ os) (same ws k w e)
+
+-- ---- the tally
+
+module _ (ws : List Inward) (before after : Held) (k : ℕ) (w : Inward) (l : LinkOut) (here : get_or ws k w ≡ w) where
+  tallied : (change : LinkTally → LinkTally) → link_tally (record w { link = l }) ≡ change (link_tally w) → map link_tally (set ws k (record w { link = l })) ≡ changed_at change (map link_tally ws) k
+  tallied change is = tally-set change ws k w l here is
+
+  pub tally : (result : Result Bool NoMemory) → IfOk result (λ found. MatchBool found (Brings w.source before after w.link l) (FindsNone before after w.link l))
+      → IfOk result (λ found. MatchBool found (map link_tally (set ws k (record w { link = l })) ≡ changed_at one_received (map link_tally ws) k) (map link_tally (set ws k (record w { link = l })) ≡ changed_at one_look (map link_tally ws) k))
+  tally (Ok true) found = tallied one_received (λ i. record { received = (ap length found.took ∙ length-append (received w.link) (found.message ∷ [])) i; empty_looks = found.looks i })
+  tally (Ok false) found = tallied one_look (λ i. record { received = length (found.took i); empty_looks = found.looks i })
+  tally (Err e) found = tt

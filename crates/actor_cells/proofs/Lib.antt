@@ -1,0 +1,11 @@
+pub mod StateLemmas
+pub mod LinkLemmas
+pub mod TallyLemmas
+pub mod CellLemmas
+pub mod SendLemmas
+pub mod BringLemmas
+pub mod RoundLemmas
+pub mod PrepareLemmas
+pub mod TargetLemmas
+pub mod OpeningLemmas
+pub mod TestLemmas

@@ -1,0 +1,18 @@
+use Rattle.std.proofs.Common.{refl, sym, subst, ◌<◌}
+use Rattle.actor_cells.proofs.CellLemmas.{sent-kept, target-exists, waiting-small}
+use Rattle.actor_cells.proofs.cell.Cell.send_at.Goals as goal
+
+pub send_over-requires-clause-exists : goal.send_over-requires-clause-exists
+send_over-requires-clause-exists c =
+    let lawful = c.requires.lawful in
+    let exists = target-exists c.args.self.now lawful c.args.place c.index_mut-one.result.now c.requires.within (sym c.index_mut-one.ensures.value) in
+    subst (λ n. c.index_mut-one.result.now.target < n) (sym lawful.outboxes) exists
+
+pub send_over-requires-clause-small : goal.send_over-requires-clause-small
+send_over-requires-clause-small c =
+    let lawful = c.requires.lawful in
+    let exists = target-exists c.args.self.now lawful c.args.place c.index_mut-one.result.now c.requires.within (sym c.index_mut-one.ensures.value) in
+    waiting-small c.args.self.now lawful c.index_mut-one.result.now.target exists
+
+pub returns-clause-kept : goal.returns-clause-kept
+returns-clause-kept c = sent-kept c.args.self.now _ c.args.place c.index_mut-one.result.now c.send_over.new.link c.requires.lawful c.requires.within (sym c.index_mut-one.ensures.value) refl refl c.send_over.ensures

@@ -1,0 +1,8 @@
+-- What the public calls claim: when a cell is lawful, what serving does, and what is prepared.
+pub mod Lawful
+pub mod Served
+pub mod AllLawful
+pub mod Prepared
+-- What private functions do.
+pub mod Steps
+pub mod Targets

@@ -1,0 +1,44 @@
+-- What serving does.
+use Rattle.std.specs.Prelude.{◌≡◌, ℕ, ◌+◌, ◌<◌, ◌≤◌, List, [], ◌∷◌, true, slice_get, Some}
+use mathlib.Core.List.{IsPrefix}
+use Rattle.join_base.specs.declared.message.Stamped.{Stamped}
+use Rattle.post_ring.specs.Links.{one_more, waiting}
+use Rattle.actor_turn.specs.Held.{is_taken}
+use Rattle.cell_links.specs.declared.ends.Inward.{Inward}
+use Rattle.actor_cells.specs.declared.cell.Cell.{Cell}
+use Rattle.actor_cells.specs.declared.cell.LinkTally.{LinkTally}
+use Rattle.actor_cells.specs.declared.serving.Turned.{Turned}
+use Rattle.actor_cells.specs.declared.serving.Turned.TheVariants as turned
+use Rattle.actor_cells.specs.Lawful.{IsLawful, cell_tag, history_of, state_in}
+
+-- the cell is lawful as before, with its tag, and its history goes on from what it was
+pub record IsKept (before after : Cell) : Type 0 where
+  pub lawful : IsLawful after
+  pub tag : cell_tag after ≡ cell_tag before
+  pub history : IsPrefix (history_of before) (history_of after)
+
+-- how many messages were received over all links
+abbrev pub all_received : List LinkTally → ℕ
+all_received [] = 0
+all_received (link ∷ tally) = link.received + all_received tally
+
+-- each number of empty looks rose, or stands at the last number of 64 bits
+abbrev pub LooksRose : List LinkTally → List LinkTally → Type 0
+LooksRose [] [] = Unit {0}
+LooksRose [] (link ∷ after) = ⊥
+LooksRose (link ∷ before) [] = ⊥
+LooksRose (link ∷ before) (now ∷ after) = (one_more link.empty_looks ≤ now.empty_looks) × LooksRose before after
+
+-- More: 256 messages were taken. Dry: fewer were, and each link was looked at and showed none
+abbrev pub Turns : List LinkTally → List LinkTally → Turned → Type 0
+Turns before after turned.More = all_received after ≡ all_received before + 256
+Turns before after turned.Dry = (all_received after < all_received before + 256) × LooksRose before after
+
+-- a message that the actor would take waits first on one of the links
+pub record IsRefusing (c : Cell) : Type 0 where
+  pub place : ℕ
+  pub link : Inward
+  pub message : Stamped
+  pub here : slice_get c.inward.items place ≡ Some link
+  pub first : IsPrefix (message ∷ []) (waiting link.link)
+  pub taken : is_taken c.actor.setting (state_in c) message.message message.stamp ≡ true

@@ -1,0 +1,83 @@
+-- What private functions do.
+use Rattle.std.specs.Prelude.{◌≡◌, ℕ, zero, suc, ◌+◌, ◌-◌, ◌^◌, ◌≤◌, min, List, [], ◌∷◌, ◌++◌, Bool, true, false, length}
+use Rattle.std.specs.List.{AllByRecursion}
+use mathlib.Core.List.{IsPrefix}
+use Rattle.join_base.specs.declared.message.Source.{Source}
+use Rattle.join_base.specs.declared.message.Stamped.{Stamped}
+use Rattle.post_ring.specs.declared.link_in.LinkIn.{LinkIn}
+use Rattle.post_ring.specs.declared.link_out.LinkOut.{LinkOut}
+use Rattle.post_ring.specs.Links.{empty_looks, identity_in, identity_out, one_more, received, sent, waiting}
+use Rattle.fair_semantics.specs.Step.{fair_step}
+use Rattle.actor_turn.specs.Held.{Held, is_taken, new_entries, posts_behind, posts_for}
+use Rattle.actor_cells.specs.declared.cell.LinkTally.{LinkTally}
+
+-- a message was taken from the link of a source, and the actor did its fair step
+pub record Brings (source : Source) (before after : Held) (old now : LinkOut) : Type 0 where
+  pub message : Stamped
+  pub identity : identity_out now ≡ identity_out old
+  pub took : received now ≡ received old ++ message ∷ []
+  pub looks : empty_looks now ≡ empty_looks old
+  pub setting : after.setting ≡ before.setting
+  pub state : after.state ≡ (fair_step before.setting before.state source message.message message.stamp).0
+  pub outbox : after.outbox ≡ posts_behind 0 (new_entries before.state after.state) before.outbox
+
+-- the link showed nothing
+pub record FindsNone (before after : Held) (old now : LinkOut) : Type 0 where
+  pub identity : identity_out now ≡ identity_out old
+  pub took : received now ≡ received old
+  pub looks : empty_looks now ≡ one_more (empty_looks old)
+  pub same : after ≡ before
+
+-- the message that waits first was refused
+pub record Refuses (before after : Held) (old now : LinkOut) : Type 0 where
+  pub identity : identity_out now ≡ identity_out old
+  pub took : received now ≡ received old
+  pub looks : empty_looks now ≡ empty_looks old
+  pub same : after ≡ before
+  pub message : Stamped
+  pub first : IsPrefix (message ∷ []) (waiting now)
+  pub taken : is_taken before.setting before.state message.message message.stamp ≡ true
+
+-- posts to a target were moved from the outbox to the link
+pub record Moves (target : ℕ) (before after : Held) (old now : LinkIn) : Type 0 where
+  pub identity : identity_in now ≡ identity_in old
+  pub setting : after.setting ≡ before.setting
+  pub state : after.state ≡ before.state
+  pub count : length after.outbox ≡ length before.outbox
+  pub all : sent now ++ posts_for after.outbox target ≡ sent old ++ posts_for before.outbox target
+  pub others : (other : ℕ) → ¬ (other ≡ target) → posts_for after.outbox other ≡ posts_for before.outbox other
+
+-- their stamps are not too great for a link
+abbrev pub AreSmall : List Stamped → Type 0
+AreSmall posts = AllByRecursion (λ post. post.stamp ≤ 4294967295) posts
+
+-- ---- tallies
+
+abbrev pub one_if : Bool → ℕ
+one_if false = 0
+one_if true = 1
+
+abbrev pub one_received : LinkTally → LinkTally
+one_received link = record { received = link.received + 1; empty_looks = link.empty_looks }
+
+abbrev pub one_look : LinkTally → LinkTally
+one_look link = record { received = link.received; empty_looks = one_more link.empty_looks }
+
+-- at one place
+abbrev pub changed_at : (LinkTally → LinkTally) → List LinkTally → ℕ → List LinkTally
+changed_at change [] place = []
+changed_at change (link ∷ tally) zero = change link ∷ tally
+changed_at change (link ∷ tally) (suc place) = link ∷ changed_at change tally place
+
+-- at the first places
+abbrev pub looked_first : ℕ → List LinkTally → List LinkTally
+looked_first zero tally = tally
+looked_first (suc n) [] = []
+looked_first (suc n) (link ∷ tally) = one_look link ∷ looked_first n tally
+
+-- no number of empty looks of 64 bits fell
+abbrev pub LooksStay : List LinkTally → List LinkTally → Type 0
+LooksStay [] [] = Unit {0}
+LooksStay [] (link ∷ after) = ⊥
+LooksStay (link ∷ before) [] = ⊥
+LooksStay (link ∷ before) (now ∷ after) = (min link.empty_looks (2 ^ 64 - 1) ≤ min now.empty_looks (2 ^ 64 - 1)) × LooksStay before after

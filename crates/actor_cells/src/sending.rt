@@ -1,0 +1,101 @@
+//! Moving posts from outboxes to links.
+ghost use Rattle.std.specs.Prelude.{◌≡◌, ◌<◌, length};
+ghost use Rattle.actor_turn.specs.Held.{posts_for};
+ghost use Rattle.actor_cells.specs.Lawful.{IsLawful, state_in};
+ghost use Rattle.actor_cells.specs.Served.{IsKept};
+ghost use Rattle.actor_cells.specs.Steps.{AreSmall, Moves};
+
+use crate::cell::Cell;
+use actor_turn::Actor;
+use join_base::Stamped;
+use post_ring::{Full, LinkIn};
+
+// What became of the posts to one target: whether some were moved, and whether some are left.
+#[derive(Clone, Copy)]
+struct Sent {
+    target: u32,
+    moved: bool,
+    held: bool,
+}
+
+// Moves the posts that wait for a target to its link, as far as room is known.
+fn send_over(actor: &mut Actor, target: u32, link: &mut LinkIn) -> Sent
+    requires exists { target < length actor.old.outbox }
+    requires small { AreSmall (posts_for actor.old.outbox target) }
+    ensures { Moves target actor.old actor.new link.old link.new }
+{
+    let mut moved = false;
+    while let Some(post) = actor.take_post(target) {
+        let Stamped { message, stamp } = post;
+        match link.push(message, stamp) {
+            Ok(()) => moved = true,
+            Err(full) => {
+                let Full { message } = full;
+                actor.return_post(target, Stamped { message, stamp });
+                return Sent {
+                    target,
+                    moved,
+                    held: true,
+                };
+            }
+        }
+    }
+    Sent {
+        target,
+        moved,
+        held: false,
+    }
+}
+
+// The mask, with the bit of the target too where it is to be set.
+fn with_bit(mask: u32, target: u32, set: bool) -> u32 {
+    if set && target < 32 {
+        return mask | 1 << target;
+    }
+    mask
+}
+
+impl Cell {
+    // Moves the posts for the target of the link at a place.
+    fn send_at(&mut self, place: usize) -> Sent
+        requires within { place < length self.old.outward.items }
+        requires lawful { IsLawful self.old }
+        ensures kept { IsKept self.old self.new }
+        ensures inward { self.new.inward ≡ self.old.inward }
+        ensures state { state_in self.new ≡ state_in self.old }
+        ensures count { length self.new.outward.items ≡ length self.old.outward.items }
+    {
+        let one = &mut self.outward[place];
+        send_over(&mut self.actor, one.target, &mut one.link)
+    }
+
+    // Notes what was moved and what is left.
+    fn note(&mut self, moved: u32, held: u32)
+        requires lawful { IsLawful self.old }
+        ensures kept { IsKept self.old self.new }
+        ensures inward { self.new.inward ≡ self.old.inward }
+        ensures state { state_in self.new ≡ state_in self.old }
+    {
+        self.moved = moved;
+        self.held = held;
+    }
+
+    /// Moves posts from the outboxes to their links as far as room is known. The answer is the mask with the bits of those that
+    /// something was sent to.
+    pub(crate) fn send(&mut self, mask: u32) -> u32
+        requires lawful { IsLawful self.old }
+        ensures kept { IsKept self.old self.new }
+        ensures inward { self.new.inward ≡ self.old.inward }
+        ensures state { state_in self.new ≡ state_in self.old }
+    {
+        let mut moved = mask;
+        let mut held = 0;
+        for place in 0..self.outward.len() {
+            let sent = self.send_at(place);
+            moved = with_bit(moved, sent.target, sent.moved);
+            held = with_bit(held, sent.target, sent.held);
+        }
+        self.note(moved, held);
+        moved
+    }
+}

@@ -1,0 +1,141 @@
+//! Serving a cell.
+ghost use Rattle.std.specs.Prelude.{◌≡◌, ◌<◌, ◌≤◌, ◌+◌, length, IfOk, OnErr, OnOk, MatchBool};
+ghost use Rattle.join_base.specs.Late.{HasCount};
+ghost use Rattle.actor_cells.specs.Lawful.{IsLawful, tally_of};
+ghost use Rattle.actor_cells.specs.Served.{IsKept, IsRefusing, LooksRose, Turns, all_received};
+ghost use Rattle.actor_cells.specs.Steps.{Brings, FindsNone, LooksStay, Refuses, changed_at, one_if, one_look, one_received};
+
+use crate::cell::Cell;
+use actor_turn::Actor;
+use join_base::{NoMemory, Source, Steps};
+use post_ring::LinkOut;
+use std::alloc::Global;
+use std::sync::ledger::Ledger;
+
+/// How a `serve` ended.
+#[derive(Clone, Copy, PartialEq, Eq, Debug)]
+pub enum Turned {
+    /// As many messages were taken as one call takes, and there may be more.
+    More,
+    /// Fewer were taken, and each inward link was looked at and showed none.
+    Dry,
+}
+
+// Brings the message that waits first on a link to the actor, and takes it then. Without memory it stays.
+fn bring_one<L: Ledger>(
+    alloc: Global,
+    actor: &mut Actor,
+    source: Source,
+    link: &mut LinkOut,
+    steps: &mut Steps<L>,
+) -> Result<bool, NoMemory>
+    requires known { HasCount actor.old.state.late source }
+    ensures brought { IfOk result (λ found. MatchBool found (Brings source actor.old actor.new link.old link.new) (FindsNone actor.old actor.new link.old link.new)) }
+    ensures refused { OnErr result (Refuses actor.old actor.new link.old link.new) }
+{
+    let Some(stamped) = link.peek() else {
+        return Ok(false);
+    };
+    actor.arrive(alloc, source, &stamped.message, stamped.stamp, steps)?;
+    let _ = link.take();
+    Ok(true)
+}
+
+fn one_if(found: bool) -> u32
+    ensures { result ≡ one_if found }
+{
+    if found { 1 } else { 0 }
+}
+
+impl Cell {
+    /// The most messages that one `serve` takes.
+    pub const MOST: u32 = 256;
+
+    // Brings the message that waits first on the link at a place.
+    fn bring<L: Ledger>(
+        &mut self,
+        alloc: Global,
+        place: usize,
+        steps: &mut Steps<L>,
+    ) -> Result<bool, NoMemory>
+        requires within { place < length self.old.inward.items }
+        requires lawful { IsLawful self.old }
+        ensures kept { IsKept self.old self.new }
+        ensures tally { IfOk result (λ found. MatchBool found (tally_of self.new ≡ changed_at one_received (tally_of self.old) place) (tally_of self.new ≡ changed_at one_look (tally_of self.old) place)) }
+        ensures refused { OnErr result (IsRefusing self.new) }
+    {
+        let one = &mut self.inward[place];
+        bring_one(alloc, &mut self.actor, one.source, &mut one.link, steps)
+    }
+
+    // Looks at each inward link once and takes its first message, until so many were taken.
+    fn take_round<L: Ledger>(
+        &mut self,
+        alloc: Global,
+        most: u32,
+        steps: &mut Steps<L>,
+    ) -> Result<u32, NoMemory>
+        requires some { 1 ≤ most }
+        requires lawful { IsLawful self.old }
+        ensures kept { IsKept self.old self.new }
+        ensures few { IfOk result (λ taken. taken ≤ most) }
+        ensures taken { IfOk result (λ taken. all_received (tally_of self.new) ≡ all_received (tally_of self.old) + taken) }
+        ensures stay { OnOk result (LooksStay (tally_of self.old) (tally_of self.new)) }
+        ensures none { IfOk result (λ taken. taken ≡ 0 → LooksRose (tally_of self.old) (tally_of self.new)) }
+        ensures refused { OnErr result (IsRefusing self.new) }
+    {
+        let mut taken = 0u32;
+        for place in 0..self.inward.len() {
+            if taken == most {
+                return Ok(taken);
+            }
+            taken += one_if(self.bring(alloc, place, steps)?);
+        }
+        Ok(taken)
+    }
+
+    // Takes messages in rounds.
+    fn take_all<L: Ledger>(
+        &mut self,
+        alloc: Global,
+        steps: &mut Steps<L>,
+    ) -> Result<Turned, NoMemory>
+        requires lawful { IsLawful self.old }
+        ensures kept { IsKept self.old self.new }
+        ensures turned { IfOk result (Turns (tally_of self.old) (tally_of self.new)) }
+        ensures refused { OnErr result (IsRefusing self.new) }
+    {
+        let mut taken = 0u32;
+        for _ in 0..Cell::MOST {
+            let left = Cell::MOST - taken;
+            let more = self.take_round(alloc, left, steps)?;
+            if more == left {
+                return Ok(Turned::More);
+            }
+            if more == 0 {
+                return Ok(Turned::Dry);
+            }
+            taken += more;
+        }
+        unreachable!()
+    }
+
+    /// Moves posts from the outboxes to their links as far as room is known, brings messages of the inward links to the actor in
+    /// rounds, and moves posts again. `More` exactly where `MOST` messages were taken.
+    /// After `NoMemory` the message that was refused still waits first on its link, and the earlier ones have arrived.
+    pub fn serve<L: Ledger>(
+        &mut self,
+        alloc: Global,
+        steps: &mut Steps<L>,
+    ) -> Result<Turned, NoMemory>
+        requires lawful { IsLawful self.old }
+        ensures kept { IsKept self.old self.new }
+        ensures turned { IfOk result (Turns (tally_of self.old) (tally_of self.new)) }
+        ensures refused { OnErr result (IsRefusing self.new) }
+    {
+        let moved = self.send(0);
+        let turned = self.take_all(alloc, steps)?;
+        self.send(moved);
+        Ok(turned)
+    }
+}

@@ -1,0 +1,4 @@
+pub mod TagLemmas
+pub mod MakingLemmas
+pub mod ConnectingLemmas
+pub mod PosterLemmas
