@@ -26,11 +26,11 @@ module _ {X : Type 0} where
   abbrev pub with_it : ℕ → X → (ℕ × X)
   with_it actor x = (actor, x)
 
-  for_same : (actor other : ℕ) (xs : List X) → (actor == other) ≡ true → for_actor actor (map (with_it other) xs) ≡ xs
+  pub for_same : (actor other : ℕ) (xs : List X) → (actor == other) ≡ true → for_actor actor (map (with_it other) xs) ≡ xs
   for_same actor other [] e = refl
   for_same actor other (x ∷ xs) e = ap (λ (b : Bool). cons_option (if b then Some x else None) (for_actor actor (map (with_it other) xs))) e ∙ ap (λ (ys : List X). x ∷ ys) (for_same actor other xs e)
 
-  for_other : (actor other : ℕ) (xs : List X) → (actor == other) ≡ false → for_actor actor (map (with_it other) xs) ≡ []
+  pub for_other : (actor other : ℕ) (xs : List X) → (actor == other) ≡ false → for_actor actor (map (with_it other) xs) ≡ []
   for_other actor other [] e = refl
   for_other actor other (x ∷ xs) e = ap (λ (b : Bool). cons_option (if b then Some x else None) (for_actor actor (map (with_it other) xs))) e ∙ for_other actor other xs e
 

@@ -27,7 +27,7 @@ use Rattle.schedule_law.proofs.LawLemmas.{EachAmong, among, at, count, events, l
 use Rattle.schedule_law.proofs.ReachLemmas.{EachNext, IsNext}
 
 -- a post whose message has values in their ranges
-abbrev PostFine : Stamped → Type 0
+abbrev pub PostFine : Stamped → Type 0
 PostFine post = ValuesFit post.message
 
 one_of_them : (xs : List Stamped) (post : Stamped) (ys : List Stamped) → AllByRecursion PostFine (xs ++ post ∷ ys) → PostFine post
@@ -42,7 +42,7 @@ feed_fine target (post ∷ posts) each = by (post.0 == target) (feed_fine target
     by true later = (each.0, later)
     by false later = later
 
-fed_fine : (target k : ℕ) (feeds : List (List (ℕ × Message))) → FeedsFit feeds → AllByRecursion PostFine (feed_posts target (slice_get feeds k))
+pub fed_fine : (target k : ℕ) (feeds : List (List (ℕ × Message))) → FeedsFit feeds → AllByRecursion PostFine (feed_posts target (slice_get feeds k))
 fed_fine target k [] each = tt
 fed_fine target zero (posts ∷ feeds) each = feed_fine target posts each.0
 fed_fine target (suc k) (posts ∷ feeds) each = fed_fine target k feeds each.1
@@ -58,7 +58,7 @@ module _ (plan : Plan) where
       by true later = (each.0.1.values, later)
       by false later = later
 
-  entry_fine : (feeds target : ℕ) (entry : Entry) → EntryFits plan 2 feeds entry → AllByRecursion PostFine (entry_posts target entry)
+  pub entry_fine : (feeds target : ℕ) (entry : Entry) → EntryFits plan 2 feeds entry → AllByRecursion PostFine (entry_posts target entry)
   entry_fine feeds target entry fit = by entry.firing fit.firing
     where
       by : (o : Option Firing) → IfSome o (FiringFits plan 2) → AllByRecursion PostFine (filter_map (effect_for target entry.stamp) (firing_effects o))

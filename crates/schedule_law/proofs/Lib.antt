@@ -9,3 +9,5 @@ pub mod SumLemmas
 pub mod WorkLemmas
 pub mod BoundLemmas
 pub mod StandingLemmas
+pub mod GivenLemmas
+pub mod FairLemmas

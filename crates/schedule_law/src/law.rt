@@ -1,4 +1,5 @@
 //! What a schedule leads to, and that it ends.
+ghost use Rattle.schedule_law.specs.Given.{FairIsLinked, GivenIsLinked};
 ghost use Rattle.schedule_law.specs.Reached.{SchedulesAreLinked};
 ghost use Rattle.schedule_law.specs.WorkLeft.{StepsLeaveLess};
 
@@ -12,4 +13,12 @@ pub fn schedule_law()
 /// schedule has more steps than that.
 pub fn work_law()
     ensures less { StepsLeaveLess }
+{}
+
+/// The same of a system that no schedule is known to reach: where each actor did the fair steps of what it was given, and what came over
+/// each link and then what waits there is what its source sent, every schedule that leaves nothing waiting leads to a linked run. That
+/// the values of all messages are in range follows, since posts carry stamps.
+pub fn given_law()
+    ensures given { GivenIsLinked }
+    ensures fair { FairIsLinked }
 {}

@@ -1,0 +1,2 @@
+-- what is claimed of settling
+pub mod Settled
