@@ -175,6 +175,9 @@ pub fn screen_of(offer: &Offer<'_>, slots: &Slots, pattern: u32, wanted: &Number
     requires can { CanOffer (offered offer.now) slots.now }
     ensures { IfSome result (Screens (offered offer.now) slots.now pattern wanted.now) }
 {
+    if offer.definition.conjuncts.len() == 0 {
+        return None;
+    }
     let [other] = wanted.as_slice() else {
         return None;
     };
