@@ -74,6 +74,7 @@ fn fault_of(error: &io::Error) -> FetchFault {
 #[derive(Drop)]
 pub struct FileInputs<'a, R: Files> {
     rt: &'a R,
+    fetches: u64,
     faults: u64,
 }
 
@@ -81,7 +82,16 @@ impl<'a, R: Files> FileInputs<'a, R> {
     pub fn new(rt: &'a R) -> FileInputs<'a, R>
         ensures no_fault { result.faults ≡ 0 }
     {
-        FileInputs { rt, faults: 0 }
+        FileInputs {
+            rt,
+            fetches: 0,
+            faults: 0,
+        }
+    }
+
+    /// How many files were asked for.
+    pub fn fetches(&self) -> u64 {
+        self.fetches
     }
 }
 
@@ -103,6 +113,7 @@ impl<'a, R: Files> Inputs for FileInputs<'a, R> {
     /// A file that is missing, a folder, or one that can't be read is `Failed`, and so is one whose reads are interrupted again
     /// and again. Reading ends soon behind `max` bytes, so a device that never ends is `TooLong`.
     fn fetch(&mut self, alloc: Global, name: &str, max: u64) -> Result<Bytes, FetchFault> {
+        self.fetches = self.fetches.saturating_add(1);
         let read = read_file(self.rt, alloc, name, max);
         if let Err(FetchFault::Failed) = read {
             self.faults = self.faults.saturating_add(1);
@@ -111,10 +122,16 @@ impl<'a, R: Files> Inputs for FileInputs<'a, R> {
     }
 }
 
-/// Output to a writer of the system.
+/// How many bytes at the front of its output a sink keeps. The line of a refusal is shorter.
+pub const FRONT: usize = 64;
+
+/// Output to a writer of the system. It keeps the front of the output, and the error of the latest write that failed.
 #[derive(Drop)]
 pub struct OutSink<W: Write + Drop> {
     writer: W,
+    front: [u8; 64],
+    kept: usize,
+    error: Option<io::Error>,
     faults: u64,
 }
 
@@ -122,27 +139,55 @@ impl<W: Write + Drop> OutSink<W> {
     pub fn new(writer: W) -> OutSink<W>
         ensures no_fault { result.faults ≡ 0 }
     {
-        OutSink { writer, faults: 0 }
+        OutSink {
+            writer,
+            front: [0; 64],
+            kept: 0,
+            error: None,
+            faults: 0,
+        }
+    }
+
+    /// The front of what was written.
+    pub fn front(&self) -> &[u8] {
+        &self.front[..self.kept.min(FRONT)]
+    }
+
+    /// Why the latest write that failed did so.
+    pub fn error(&self) -> Option<io::Error> {
+        self.error
     }
 }
 
 // Writes some bytes of the piece, or again where a signal came between.
-fn write_some<W: Write>(writer: &mut W, piece: &[u8]) -> Result<usize, Failed>
+fn write_some<W: Write>(writer: &mut W, piece: &[u8]) -> io::Result<usize>
     requires some { 0 < length piece.now }
     ensures count { IfOk result (IsCount piece.now) }
 {
     for _ in 0..MAX_TRIES {
         match writer.write(piece) {
-            Ok(0) => return Err(Failed),
+            Ok(0) => return Err(io::Error::from(ErrorKind::WriteZero)),
             Ok(count) => return Ok(count),
             Err(error) => {
                 if error.kind() != ErrorKind::Interrupted {
-                    return Err(Failed);
+                    return Err(error);
                 }
             }
         }
     }
-    Err(Failed)
+    Err(io::Error::from(ErrorKind::Interrupted))
+}
+
+// Puts the front of the bytes behind those that are kept, as far as there is room, and answers how many there are then.
+fn keep_front(front: &mut [u8; 64], kept: usize, bytes: &[u8]) -> usize {
+    let mut count = kept;
+    for b in bytes.iter().take(FRONT) {
+        if count < FRONT {
+            front[count] = *b;
+            count += 1;
+        }
+    }
+    count
 }
 
 impl<W: Write + Drop> Sink for OutSink<W> {
@@ -152,10 +197,16 @@ impl<W: Write + Drop> Sink for OutSink<W> {
 
     /// A write that takes nothing is a fault, as is one that the system refuses.
     fn write(&mut self, piece: &[u8]) -> Result<usize, Failed> {
-        let written = write_some(&mut self.writer, piece);
-        if written.is_err() {
-            self.faults = self.faults.saturating_add(1);
+        match write_some(&mut self.writer, piece) {
+            Ok(count) => {
+                self.kept = keep_front(&mut self.front, self.kept, &piece[..count]);
+                Ok(count)
+            }
+            Err(error) => {
+                self.error = Some(error);
+                self.faults = self.faults.saturating_add(1);
+                Err(Failed)
+            }
         }
-        written
     }
 }

@@ -8,6 +8,7 @@ mod gate;
 mod law;
 mod lint_text;
 mod load;
+mod note;
 mod output;
 mod replay;
 mod reply;
@@ -22,6 +23,7 @@ mod top;
 
 use crate::files::{FileInputs, OutSink};
 use crate::gate::FreeGate;
+use crate::note::{tell, tell_no_memory};
 use crate::status::Status;
 use crate::top::join_main;
 use join_base::{NoMemory, Word, WordList};
@@ -59,9 +61,14 @@ fn main(rt: HostRuntime) -> ExitCode {
         Ok(words) => {
             let mut inputs = FileInputs::new(&rt);
             let mut out = OutSink::new(rt.stdout());
-            join_main(&rt, rt.alloc(), &words, &mut inputs, &mut out, &FreeGate)
+            let status = join_main(&rt, rt.alloc(), &words, &mut inputs, &mut out, &FreeGate);
+            tell(&rt, &words, status, inputs.fetches(), &out);
+            status
         }
-        Err(NoMemory) => Status::NoMemory,
+        Err(NoMemory) => {
+            tell_no_memory(&rt);
+            Status::NoMemory
+        }
     };
     ExitCode::from(status.number())
 }

@@ -1,0 +1,202 @@
+//! What a person is told.
+use crate::place::{begins_character, line_around, line_start, place_of};
+use crate::row::row_at;
+use crate::sentence::{feed_sentence, log_sentence, script_sentence};
+use join_base::{Bytes, NoMemory, write_number};
+use std::alloc::Global;
+
+// The most bytes that are shown of a row or a line, and of what a line has in front of a place.
+const MAX_SHOWN: usize = 200;
+
+const MAX_FRONT: usize = 120;
+
+// The front of the bytes, with whole characters alone.
+fn front_of(bytes: &[u8], max: usize) -> &[u8] {
+    if bytes.len() <= max {
+        return bytes;
+    }
+    let mut end = max;
+    'whole: while end > 0 && !begins_character(bytes[end]) {
+        end -= 1;
+    }
+    &bytes[..end]
+}
+
+// The end of the bytes, with whole characters alone.
+fn end_of(bytes: &[u8], max: usize) -> &[u8] {
+    let mut start = bytes.len().saturating_sub(max);
+    if start == 0 {
+        return bytes;
+    }
+    'whole: while start < bytes.len() && !begins_character(bytes[start]) {
+        start += 1;
+    }
+    &bytes[start..]
+}
+
+// Appends the bytes with blanks in place of the signs that a terminal obeys.
+fn push_shown(out: &mut Bytes, bytes: &[u8]) -> Result<(), NoMemory> {
+    for b in bytes {
+        let shown = if *b < 32 && *b != b'\t' || *b == 127 {
+            b' '
+        } else {
+            *b
+        };
+        out.push_all(&[shown])?;
+    }
+    Ok(())
+}
+
+// Appends a line that is indented.
+fn push_line(out: &mut Bytes, line: &[u8]) -> Result<(), NoMemory> {
+    out.push_all(b"    ")?;
+    push_shown(out, front_of(line, MAX_SHOWN))?;
+    out.push_all(b"\n")
+}
+
+// Appends a mark below the place behind what a line has in front.
+fn push_mark(out: &mut Bytes, front: &[u8]) -> Result<(), NoMemory> {
+    out.push_all(b"    ")?;
+    for b in front {
+        if *b == b'\t' {
+            out.push_all(b"\t")?;
+        } else if begins_character(*b) {
+            out.push_all(b" ")?;
+        }
+    }
+    out.push_all(b"^\n")
+}
+
+// Appends a cause and its sentence.
+fn push_cause(out: &mut Bytes, cause: &[u8], sentence: &[u8]) -> Result<(), NoMemory> {
+    out.push_all(cause)?;
+    out.push_all(b": ")?;
+    out.push_all(sentence)
+}
+
+// The word in front.
+fn word_in(text: &[u8]) -> &[u8] {
+    let count = text
+        .iter()
+        .take_while(|b| b.is_ascii_alphanumeric() || **b == b'_')
+        .count();
+    let (word, _) = text.split_at(count);
+    word
+}
+
+// Appends the sentence of a cause at a place, with the text from there on.
+fn push_script_cause(out: &mut Bytes, cause: &[u8], rest: &[u8]) -> Result<(), NoMemory> {
+    let (sentence, names) = script_sentence(cause);
+    if rest.is_empty() && cause == b"BadSyntax".as_slice() {
+        return push_cause(out, cause, b"the script ends too early");
+    }
+    push_cause(out, cause, sentence)?;
+    if names {
+        out.push_all(b" ")?;
+        out.push_all(front_of(word_in(rest), MAX_SHOWN))?;
+    }
+    Ok(())
+}
+
+/// What is told of a script with a fault at this place: file, line, column, cause, and the line with a mark.
+pub fn script_note(
+    alloc: Global,
+    name: &str,
+    text: &[u8],
+    place: u64,
+    cause: &[u8],
+) -> Result<Bytes, NoMemory> {
+    let at = place.min(text.len() as u64) as usize;
+    let (_, rest) = text.split_at(at);
+    let found = place_of(text, at);
+    let (front, back) = line_around(text, at);
+    let front = end_of(front, MAX_FRONT);
+    let mut out = Bytes::new(alloc);
+    push_shown(&mut out, name.as_bytes())?;
+    out.push_all(b":")?;
+    write_number(&mut out, found.line as i128)?;
+    out.push_all(b":")?;
+    write_number(&mut out, found.column as i128)?;
+    out.push_all(b": ")?;
+    push_script_cause(&mut out, cause, rest)?;
+    out.push_all(b"\n    ")?;
+    push_shown(&mut out, front)?;
+    push_shown(&mut out, front_of(back, MAX_SHOWN - MAX_FRONT))?;
+    out.push_all(b"\n")?;
+    push_mark(&mut out, front)?;
+    Ok(out)
+}
+
+// The beginning of a note on a numbered part of a file.
+fn part_note(alloc: Global, name: &str, part: &[u8], number: u64) -> Result<Bytes, NoMemory> {
+    let mut out = Bytes::new(alloc);
+    push_shown(&mut out, name.as_bytes())?;
+    out.push_all(part)?;
+    write_number(&mut out, i128::from(number))?;
+    out.push_all(b": ")?;
+    Ok(out)
+}
+
+/// What is told of a feed with a row in fault: file, row, cause, and the row.
+pub fn feed_note(
+    alloc: Global,
+    name: &str,
+    text: &[u8],
+    row: u64,
+    cause: &[u8],
+) -> Result<Bytes, NoMemory> {
+    let mut out = part_note(alloc, name, b": row ", row)?;
+    push_cause(&mut out, cause, feed_sentence(cause))?;
+    out.push_all(b"\n")?;
+    push_line(&mut out, row_at(alloc, text, row)?)?;
+    Ok(out)
+}
+
+/// What is told of a log with a line in fault: file, line, cause, and the line, where the log has it.
+pub fn log_note(
+    alloc: Global,
+    name: &str,
+    text: &[u8],
+    line: u64,
+    cause: &[u8],
+) -> Result<Bytes, NoMemory> {
+    let mut out = part_note(alloc, name, b":", line)?;
+    match line_start(text, line) {
+        Some(start) if start < text.len() => {
+            push_cause(&mut out, cause, log_sentence(cause))?;
+            out.push_all(b"\n")?;
+            let (_, back) = line_around(text, start);
+            push_line(&mut out, back)?;
+        }
+        _ => {
+            push_cause(&mut out, cause, b"the log ends too early")?;
+            out.push_all(b"\n")?;
+        }
+    }
+    Ok(out)
+}
+
+/// What is told of a file that could not be read, with the words of the system.
+pub fn read_note(alloc: Global, name: &str, why: &str) -> Result<Bytes, NoMemory> {
+    let mut out = Bytes::new(alloc);
+    push_shown(&mut out, name.as_bytes())?;
+    out.push_all(b": ")?;
+    out.push_all(why.as_bytes())?;
+    out.push_all(b"\n")?;
+    Ok(out)
+}
+
+/// What is told of a file that has more bytes than are read.
+pub fn long_note(alloc: Global, name: &str, max: u64) -> Result<Bytes, NoMemory> {
+    let mut out = Bytes::new(alloc);
+    push_shown(&mut out, name.as_bytes())?;
+    out.push_all(b": more than ")?;
+    write_number(&mut out, i128::from(max))?;
+    out.push_all(b" bytes\n")?;
+    Ok(out)
+}
+
+/// What is told of output that could not be written, with the words of the system.
+pub fn write_note(alloc: Global, why: &str) -> Result<Bytes, NoMemory> {
+    read_note(alloc, "joinactors: the output could not be written", why)
+}

@@ -1,0 +1,169 @@
+//! What a person is told on standard error. Nothing rests on it: the output and the status stand before.
+use crate::command::command_of;
+use crate::files::{FileInputs, OutSink};
+use crate::load::MAX_FILE;
+use crate::output::write_all;
+use crate::replay::MAX_LOG;
+use crate::status::Status;
+use command_words::Request;
+use fault_places::{
+    NO_MEMORY, Refused, USAGE, feed_note, log_note, long_note, read_note, read_refusal,
+    script_note, write_note,
+};
+use join_base::{Bytes, Inputs, NoMemory, Word, WordList};
+use std::alloc::Global;
+use std::fs;
+use std::fs::File;
+use std::io::{self, Read, Write};
+
+// The file of a command that is fetched with this number, counted from 1.
+fn file_of<'a>(command: &Request<'a>, number: u64) -> Option<&'a Word> {
+    let behind_script = number.checked_sub(2);
+    match (command, behind_script) {
+        (Request::Run(run), Some(place)) => run.feeds.as_slice().get(place as usize).copied(),
+        (Request::Replay { log, .. }, Some(0)) => Some(*log),
+        (Request::Run(run), None) => Some(run.script),
+        (Request::Check { script }, None)
+        | (Request::Lint { script }, None)
+        | (Request::Replay { script, .. }, None) => Some(*script),
+        _ => None,
+    }
+}
+
+// The most bytes of that file.
+fn most_of(command: &Request<'_>, number: u64) -> u64 {
+    match command {
+        Request::Replay { .. } if number == 2 => MAX_LOG,
+        _ => MAX_FILE,
+    }
+}
+
+fn text_of(alloc: Global, text: &[u8]) -> Result<Bytes, NoMemory> {
+    let mut bytes = Bytes::new(alloc);
+    bytes.push_all(text)?;
+    Ok(bytes)
+}
+
+fn words_of(alloc: Global, error: io::Error) -> Result<String, NoMemory> {
+    let words = format!(in alloc; "{error}")?;
+    Ok(words)
+}
+
+fn read_one(file: &mut File) -> io::Result<usize> {
+    let mut byte = [0u8; 1];
+    file.read(&mut byte)
+}
+
+// What the system says of a file that could not be read. A file that could wait, as a pipe, is not opened again.
+fn why_unread(rt: &HostRuntime, name: &str) -> io::Result<()> {
+    let known = fs::metadata(rt, name)?;
+    if known.is_file() || known.is_dir() {
+        let mut file = fs::open(rt, name)?;
+        read_one(&mut file)?;
+    }
+    Ok(())
+}
+
+fn unread_note(rt: &HostRuntime, name: &str) -> Result<Bytes, NoMemory> {
+    match why_unread(rt, name) {
+        Ok(()) => read_note(rt.alloc(), name, "it could not be read"),
+        Err(error) => read_note(rt.alloc(), name, words_of(rt.alloc(), error)?.as_str()),
+    }
+}
+
+// The bytes of a file that can be read twice, and else none.
+fn read_again(rt: &HostRuntime, name: &str) -> Option<Bytes> {
+    match fs::metadata(rt, name) {
+        Ok(known) if known.is_file() => {
+            let mut inputs = FileInputs::new(rt);
+            inputs.fetch(rt.alloc(), name, MAX_LOG).ok()
+        }
+        _ => None,
+    }
+}
+
+// What is told of the file whose refusal was written.
+fn refused_note(rt: &HostRuntime, name: &str, line: &[u8]) -> Result<Bytes, NoMemory> {
+    let alloc = rt.alloc();
+    let (Some(refused), Some(text)) = (read_refusal(line), read_again(rt, name)) else {
+        return Ok(Bytes::new(alloc));
+    };
+    match refused {
+        Refused::Script { place, cause } => script_note(alloc, name, text.bytes(), place, cause),
+        Refused::Feed { row, cause } => feed_note(alloc, name, text.bytes(), row, cause),
+        Refused::Log { line, cause } => log_note(alloc, name, text.bytes(), line, cause),
+    }
+}
+
+// What is told of the file that was fetched last.
+fn file_note(
+    rt: &HostRuntime,
+    words: &WordList,
+    status: Status,
+    fetches: u64,
+    line: &[u8],
+) -> Result<Bytes, NoMemory> {
+    let alloc = rt.alloc();
+    let Some(command) = command_of(alloc, words)? else {
+        return Ok(Bytes::new(alloc));
+    };
+    let Some(name) = file_of(&command, fetches) else {
+        return Ok(Bytes::new(alloc));
+    };
+    match status {
+        Status::ReadFault => unread_note(rt, name.as_str()),
+        Status::TooLong => long_note(alloc, name.as_str(), most_of(&command, fetches)),
+        _ => refused_note(rt, name.as_str(), line),
+    }
+}
+
+fn write_fault_note(alloc: Global, error: Option<io::Error>) -> Result<Bytes, NoMemory> {
+    match error {
+        Some(error) => write_note(alloc, words_of(alloc, error)?.as_str()),
+        None => Ok(Bytes::new(alloc)),
+    }
+}
+
+fn note_of<W: Write + Drop>(
+    rt: &HostRuntime,
+    words: &WordList,
+    status: Status,
+    fetches: u64,
+    out: &OutSink<W>,
+) -> Result<Bytes, NoMemory> {
+    let alloc = rt.alloc();
+    match status {
+        Status::Done | Status::Limits => Ok(Bytes::new(alloc)),
+        Status::Usage => text_of(alloc, USAGE),
+        Status::NoMemory => Err(NoMemory),
+        Status::WriteFault => write_fault_note(alloc, out.error()),
+        Status::ScriptRefused
+        | Status::FeedRefused
+        | Status::LogRefused
+        | Status::ReadFault
+        | Status::TooLong => file_note(rt, words, status, fetches, out.front()),
+    }
+}
+
+fn tell_bytes(rt: &HostRuntime, bytes: &[u8]) {
+    // Where standard error takes nothing there is nobody to tell.
+    let _ = write_all(&mut OutSink::new(rt.stderr()), bytes);
+}
+
+pub fn tell_no_memory(rt: &HostRuntime) {
+    tell_bytes(rt, NO_MEMORY);
+}
+
+/// Tells why a call came to nothing. `fetches` says how many files were asked for.
+pub fn tell<W: Write + Drop>(
+    rt: &HostRuntime,
+    words: &WordList,
+    status: Status,
+    fetches: u64,
+    out: &OutSink<W>,
+) {
+    match note_of(rt, words, status, fetches, out) {
+        Ok(note) => tell_bytes(rt, note.bytes()),
+        Err(NoMemory) => tell_no_memory(rt),
+    }
+}
