@@ -7,7 +7,7 @@
 //! outward link with its target. `poster_tag` is the same of a poster. `IsWired` says of tags alone that they are those of one
 //! pool, so it stays true as long as the tags do: who finds two ends of one source and one target has the ends of one link.
 //!
-//! Only tested: that `connect` answers `Ok` where memory is ample.
+//! Only tested, by `actor_cells`, which calls it: that `connect` answers `Ok` where memory is ample.
 #![tactic(auto)]
 
 mod connecting;

@@ -1,0 +1,5 @@
+mod HelperLemmas
+mod PosterLemmas
+mod WorkLemmas
+mod MakeLemmas
+mod EndLemmas

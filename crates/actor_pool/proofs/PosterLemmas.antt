@@ -1,0 +1,67 @@
+-- Facts on what posters sent, over plain lists.
+use Rattle.std.proofs.Common.{◌≡◌, ℕ, zero, suc, ◌+◌, ◌<◌, ◌≤◌, ◌-◌, List, [], ◌∷◌, ◌++◌, Bool, true, false, All, length, map, reverse, get_or, refl, sym, ap, ◌∙◌, subst, arith, append_assoc}
+use Rattle.std.specs.Prelude.{◌==◌, if◌then◌else◌, Some, None}
+use Rattle.std.specs.List.{filter_map}
+use Rattle.std.proofs.lemmas.List.{append-nil, length-map, get_or-map, reverse-append}
+use Rattle.std.proofs.lemmas.List.Elements.{All-nil, All-cons, All-head, All-tail, filter_map-append}
+use mathlib.Core.List.{IsPrefix}
+use Rattle.join_base.specs.declared.message.Message.{Message}
+use Rattle.join_base.specs.declared.message.Stamped.{Stamped}
+use Rattle.fair_semantics.specs.Linked.{post_for}
+use Rattle.post_ring.specs.Links.{stamped}
+use Rattle.cell_links.specs.declared.ends.Outward.{Outward}
+use Rattle.cell_links.specs.declared.poster.Poster as ends
+use Rattle.cell_links.specs.Ends.{SendsMore, SendsSame, link_count, sent_to}
+use Rattle.actor_pool.specs.declared.pool.Pool.{Pool}
+use Rattle.actor_pool.specs.declared.poster.Poster.{Poster}
+use Rattle.actor_pool.specs.Helpers.{actor_count}
+use Rattle.actor_pool.specs.Posters.{SendsAll, IsSeated, IsPosterOf, feed_ends}
+
+pub same-trans : (a b c : List Outward) → SendsSame a b → SendsSame b c → SendsSame a c
+same-trans a b c h k target = k target ∙ h target
+
+pub same-more : (a b c : List Outward) (target : ℕ) (post : Stamped) → SendsSame a b → SendsMore b target post c → SendsMore a target post c
+same-more a b c target post same more other = more other ∙ ap (λ (l : List Stamped). if target == other then l ++ post ∷ [] else l) (same other)
+
+-- one post more
+pub all-more : (a b c : List Outward) (done : List (ℕ × Message)) (post : ℕ × Message) → SendsAll a done b → SendsMore b (post.0) (stamped (post.1) 0) c → SendsAll a (done ++ post ∷ []) c
+all-more a b c done post all more actor =
+    let one = by_test (post.0 == actor) (sent_to b actor) in
+    more actor ∙ one ∙ ap (λ (l : List Stamped). l ++ filter_map (post_for actor) (post ∷ [])) (all actor)
+    ∙ append_assoc (sent_to a actor) (filter_map (post_for actor) done) (filter_map (post_for actor) (post ∷ [])) ∙ ap (λ (l : List Stamped). sent_to a actor ++ l) (sym (filter_map-append (post_for actor) done (post ∷ [])))
+  where
+    by_test : (t : Bool) (l : List Stamped) → (if t then l ++ stamped (post.1) 0 ∷ [] else l) ≡ l ++ filter_map (λ (x : ℕ × Message). if t then Some (stamped (post.1) 0) else None) (post ∷ [])
+    by_test true l = refl
+    by_test false l = sym (append-nil l)
+
+pub all-same : (a b c : List Outward) (done : List (ℕ × Message)) → SendsAll a done b → SendsSame b c → SendsAll a done c
+all-same a b c done all same actor = same actor ∙ all actor
+
+All-begin : {X : Type 0} (P : X → Type 0) (l : List X) (x : X) → All P (l ++ x ∷ []) → All P l
+All-begin P [] x h = All-nil P
+All-begin P (y ∷ l) x h = All-cons P y l (All-head P y (l ++ x ∷ []) h) (All-begin P l x (All-tail P y (l ++ x ∷ []) h))
+
+pub All-front : {X : Type 0} (P : X → Type 0) (xs ys : List X) (x : X) → xs ≡ ys ++ x ∷ [] → All P xs → All P ys
+All-front P xs ys x is all = All-begin P ys x (subst (All P) is all)
+
+-- the last of what waits is done
+pub more-done : {X : Type 0} (all l ys done : List X) (x : X) → all ≡ done ++ reverse l → l ≡ ys ++ x ∷ [] → all ≡ (done ++ x ∷ []) ++ reverse ys
+more-done all l ys done x is last =
+    is ∙ ap (λ m. done ++ reverse m) last ∙ ap (λ m. done ++ m) (reverse-append ys (x ∷ [])) ∙ sym (append_assoc done (x ∷ []) (reverse ys))
+
+pub ends-more : (made now : List ends.Poster) (l ys : List Poster) (x : Poster) (all : List ends.Poster) → made ++ map feed_ends (reverse l) ≡ all → l ≡ ys ++ x ∷ [] → now ≡ made ++ feed_ends x ∷ []
+    → now ++ map feed_ends (reverse ys) ≡ all
+ends-more made now l ys x all is last more =
+    ap (λ (m : List ends.Poster). m ++ map feed_ends (reverse ys)) more ∙ append_assoc made (feed_ends x ∷ []) (map feed_ends (reverse ys))
+    ∙ ap (λ (m : List ends.Poster). made ++ m) (sym (ap (λ (m : List Poster). map feed_ends (reverse m)) last ∙ ap (map feed_ends) (reverse-append ys (x ∷ [])))) ∙ is
+
+-- posters with seats, over links to each actor
+pub posters-own : (p : Pool) (posters : List Poster) (made : List ends.Poster) (n : ℕ) → All (IsSeated p.turns) posters → map feed_ends posters ≡ made → All (λ (e : ends.Poster). link_count e ≡ n) made → n ≡ actor_count p → All (IsPosterOf p) posters
+posters-own p posters made n seated same links count k d lt =
+    let long = length-map posters feed_ends in
+    let whole = ap length same in
+    let at = ap (λ (l : List ends.Poster). get_or l k (feed_ends d)) (sym same) ∙ get_or-map feed_ends posters k d (feed_ends d) lt in
+    record {
+      seated = seated k d lt;
+      links = subst (λ (e : ends.Poster). link_count e ≡ n) at (links k (feed_ends d) (omega (arith, long, whole, lt))) ∙ count;
+    }

@@ -1,0 +1,20 @@
+-- What a worker does.
+use Rattle.std.specs.Prelude.{◌≡◌, ℕ, ◌+◌, ◌≤◌, List, ◌++◌, Bool, count_by, nat_lt}
+use Rattle.actor_pool.specs.declared.helper.Helper.{Helper}
+use Rattle.actor_pool.specs.declared.pool.Pool.{Pool}
+use Rattle.actor_pool.specs.Helpers.{GoesOn, seat_of, pass_of, actor_count}
+
+-- how many of the tickets are numbers of actors
+abbrev pub actors_among : ℕ → List ℕ → ℕ
+actors_among count tickets = count_by (λ ticket. nat_lt ticket count) tickets
+
+-- it goes on, and made a claim for each ticket that it took and that is the number of an actor
+pub record Works (p : Pool) (old now : Helper) : Type 0 where
+  pub goes_on : GoesOn p old now
+  pub taken : List ℕ
+  pub more : (pass_of now).taken ≡ (pass_of old).taken ++ taken
+  pub claims : (seat_of old).claims + actors_among (actor_count p) taken ≤ (seat_of now).claims
+
+-- it found the queue empty
+abbrev pub FindsNone : Helper → Helper → Type 0
+FindsNone old now = (pass_of old).nones + 1 ≤ (pass_of now).nones
