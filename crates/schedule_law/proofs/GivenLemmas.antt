@@ -24,7 +24,8 @@ use Rattle.fair_semantics.proofs.ChainLemmas.{Records, adds}
 use Rattle.fair_semantics.proofs.CountedLemmas.{Among}
 use Rattle.fair_semantics.proofs.ListLemmas.{each_append}
 use Rattle.fair_semantics.proofs.StampLemmas.{posted_stamp}
-use Rattle.run_order.proofs.EventLemmas.{Event, IsSystemAt, after_all-append, for_actor, if_to, made, sent_from, sent_to, state_at}
+use Rattle.fair_semantics.proofs.FairLemmas.{after_all-append}
+use Rattle.run_order.proofs.EventLemmas.{Event, IsSystemAt, for_actor, if_to, made, sent_from, sent_to, state_at}
 use Rattle.run_order.proofs.ListLemmas.{each_in}
 use Rattle.run_order.proofs.OrderLemmas.{for_other, for_same, with_it}
 use Rattle.run_order.proofs.SourceLemmas.{itself, not_equal, is_itself}
