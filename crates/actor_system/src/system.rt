@@ -100,6 +100,8 @@ impl<'p> System<'p> {
         let column = target as usize;
         let posts = self.feeds.at(row).as_slice();
         let Some(place) = next_for(posts, self.places[row][column], target) else {
+            // So that the rest is not walked over again.
+            self.places[row][column] = posts.len();
             return Ok(false);
         };
         let message = &posts[place].1;

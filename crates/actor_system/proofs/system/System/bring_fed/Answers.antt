@@ -11,7 +11,7 @@ use Rattle.actor_system.specs.Feeding.{IsNext}
 use Rattle.actor_system.specs.Serving.{Serving, StandsAt, after_link, system_in, waits_on}
 use Rattle.actor_system.specs.Inside.{IsSound, serving_of}
 use Rattle.actor_system.proofs.BringLemmas.{Arrived, in_plan_of, member_at, stands_of, waits_of}
-use Rattle.actor_system.proofs.FedLemmas.{fed_arrives, fed_may, fed_none, fed_nothing, fed_waits, feed_number, get_row, message_at, place_read, row_of, rows_set}
+use Rattle.actor_system.proofs.FedLemmas.{fed_arrives, fed_may, fed_nothing, fed_passed, fed_waits, feed_number, get_row, message_at, place_read, row_of, rows_set}
 use Rattle.actor_system.proofs.system.System.bring_fed.Goals as goal
 
 -- the feed exists
@@ -29,7 +29,39 @@ index-requires-2 g c =
     let row = get_row c.self.inside.places.items (c.args.feed - 1) c.index.result.now (omega (arith, rows, sound.members.rows, fits, c.requires.exists.0)) c.index.ensures in
     omega (arith, row_of (length s.plan.actors) c.self.inside.places.items (c.args.feed - 1) c.index.result.now row sound.members.row, in_plan)
 
--- src/system.rt:87:13
+-- src/system.rt:88:13
+pub index_mut-requires-in_default : goal.index_mut-requires-in_default
+index_mut-requires-in_default g c =
+    let s : Serving = serving_of c.self.inside in
+    let sound : IsSound s = c.self.invariant.sound in
+    let in_plan = in_plan_of s c.args.self.now c.self.view_is c.args.target c.requires.target in
+    let fits = feeds_of s c.args.self.now c.self.view_is c.args.feed c.requires.exists.1 in
+    let k : ℕ = c.args.feed - 1 in
+    let exists : k < length s.feeds = omega (arith, fits, c.requires.exists.0) in
+    let rows = length-map c.self.inside.places.items (λ row. row.items) in
+    let again = get_row c.self.inside.places.items k c.index_mut.result.now (omega (arith, rows, sound.members.rows, exists)) c.index_mut.ensures.value in
+    omega (arith, row_of (length s.plan.actors) c.self.inside.places.items k c.index_mut.result.now again sound.members.row, in_plan)
+
+-- src/system.rt:89:13
+pub invariant_of-self : goal.invariant_of-self
+invariant_of-self g c =
+    let s : Serving = serving_of c.self.inside in
+    let sound : IsSound s = c.self.invariant.sound in
+    let in_plan = in_plan_of s c.args.self.now c.self.view_is c.args.target c.requires.target in
+    let fits = feeds_of s c.args.self.now c.self.view_is c.args.feed c.requires.exists.1 in
+    let k : ℕ = c.args.feed - 1 in
+    let exists : k < length s.feeds = omega (arith, fits, c.requires.exists.0) in
+    let feed = c.at.ensures.item ∙ ap (λ (posts : List (ℕ × Message)). Some posts) (sym c.as_slice-posts.ensures.same) in
+    let rows = length-map c.self.inside.places.items (λ row. row.items) in
+    let row = get_row c.self.inside.places.items k c.index.result.now (omega (arith, rows, sound.members.rows, exists)) c.index.ensures in
+    let wide = row_of (length s.plan.actors) c.self.inside.places.items k c.index.result.now row sound.members.row in
+    let place = place_read c.self.inside.places.items k c.args.target c.index.result.now row c.index-2.result.now c.index-2.result.now (omega (arith, wide, in_plan)) c.index-2.ensures in
+    let is = fed_passed s sound c.args.target k in_plan exists c.as_slice-posts.result.now feed c.index-2.result.now place c.in_default.ensures.next in
+    let again = get_row c.self.inside.places.items k c.index_mut.result.now (omega (arith, rows, sound.members.rows, exists)) c.index_mut.ensures.value in
+    let places = rows_set c.self.inside.places.items k c.args.target (length c.as_slice-posts.result.now) c.index_mut.result.now again (with_item c.index_mut.result.now c.args.target (length c.as_slice-posts.result.now)) refl in
+    let at = subst (λ (ps : List (List ℕ)). IsSound (record { plan = s.plan; limits = s.limits; feeds = s.feeds; places = ps; actors = s.actors })) (sym places) is.sound in
+    record { sound = at; few = c.self.invariant.few; none = c.self.invariant.none; room = c.self.invariant.room }
+
 pub returns-in_default-clause-served : goal.returns-in_default-clause-served
 returns-in_default-clause-served g c =
     let s : Serving = serving_of c.self.inside in
@@ -44,9 +76,18 @@ returns-in_default-clause-served g c =
     let row = get_row c.self.inside.places.items k c.index.result.now (omega (arith, rows, sound.members.rows, exists)) c.index.ensures in
     let wide = row_of (length s.plan.actors) c.self.inside.places.items k c.index.result.now row sound.members.row in
     let place = place_read c.self.inside.places.items k c.args.target c.index.result.now row c.index-2.result.now c.index-2.result.now (omega (arith, wide, in_plan)) c.index-2.ensures in
-    let h = fed_none s sound c.args.target k in_plan exists c.as_slice-posts.result.now feed c.index-2.result.now place c.in_default.ensures.next in
-    let stands : StandsAt s.plan s.limits s.feeds (after_link s.plan s.limits (system_in s) (c.args.target, Feed c.args.feed)) s = subst (λ (n : ℕ). StandsAt s.plan s.limits s.feeds (after_link s.plan s.limits (system_in s) (c.args.target, Feed n)) s) number h in
-    subst (λ (v : Serving). StandsAt v.plan v.limits v.feeds (after_link v.plan v.limits (system_in v) (c.args.target, Feed c.args.feed)) v) c.self.view_is stands
+    let is = fed_passed s sound c.args.target k in_plan exists c.as_slice-posts.result.now feed c.index-2.result.now place c.in_default.ensures.next in
+    let again = get_row c.self.inside.places.items k c.index_mut.result.now (omega (arith, rows, sound.members.rows, exists)) c.index_mut.ensures.value in
+    let places = rows_set c.self.inside.places.items k c.args.target (length c.as_slice-posts.result.now) c.index_mut.result.now again (with_item c.index_mut.result.now c.args.target (length c.as_slice-posts.result.now)) refl in
+    let at = subst (λ (ps : List (List ℕ)). StandsAt s.plan s.limits s.feeds (after_link s.plan s.limits (system_in s) (c.args.target, Feed (suc k))) (record { plan = s.plan; limits = s.limits; feeds = s.feeds; places = ps; actors = s.actors })) (sym places) is.stands in
+    let final : Serving = record {
+      plan = s.plan;
+      limits = s.limits;
+      feeds = s.feeds;
+      places = map (λ r. r.items) (slice_set c.self.inside.places.items k (with_item c.index_mut.result.now c.args.target (length c.as_slice-posts.result.now)));
+      actors = s.actors;
+    } in
+    stands_of s c.args.self.now c.self.view_is (c.args.target, Feed c.args.feed) final (subst (λ (n : ℕ). StandsAt s.plan s.limits s.feeds (after_link s.plan s.limits (system_in s) (c.args.target, Feed n)) final) number at)
 
 pub returns-in_default-clause-taken : goal.returns-in_default-clause-taken
 returns-in_default-clause-taken g c =
@@ -92,8 +133,8 @@ arrive-requires g c =
     let wide = row_of (length s.plan.actors) c.self.inside.places.items k c.index.result.now row sound.members.row in
     let place = place_read c.self.inside.places.items k c.args.target c.index.result.now row c.index-2.result.now c.index-2.result.now (omega (arith, wide, in_plan)) c.index-2.ensures in
     let next : IsNext c.as_slice-posts.result.now c.index-2.result.now c.args.target c.in-Some.place = c.in-Some.ensures.next in
-    let here = member_at s sound c.args.target in_plan c.index_mut.result.now c.index_mut.ensures.value in
-    record { exists = subst (λ (n : ℕ). HasCount c.index_mut.result.now.state.late (Feed n)) number (fed_may s sound c.args.target k in_plan exists c.as_slice-posts.result.now feed c.index-2.result.now place c.in-Some.place next c.index_mut.result.now here) }
+    let here = member_at s sound c.args.target in_plan c.index_mut-2.result.now c.index_mut-2.ensures.value in
+    record { exists = subst (λ (n : ℕ). HasCount c.index_mut-2.result.now.state.late (Feed n)) number (fed_may s sound c.args.target k in_plan exists c.as_slice-posts.result.now feed c.index-2.result.now place c.in-Some.place next c.index_mut-2.result.now here) }
 
 -- src/system.rt:91:36
 pub overflow_add-place : goal.overflow_add-place
@@ -103,8 +144,8 @@ overflow_add-place g c =
     omega (arith, within, c.as_slice-posts.type_inv.1)
 
 -- src/system.rt:91:9
-pub index_mut-requires-3 : goal.index_mut-requires-3
-index_mut-requires-3 g c =
+pub index_mut-requires-4 : goal.index_mut-requires-4
+index_mut-requires-4 g c =
     let s : Serving = serving_of c.self.inside in
     let sound : IsSound s = c.self.invariant.sound in
     let in_plan = in_plan_of s c.args.self.now c.self.view_is c.args.target c.requires.target in
@@ -117,8 +158,8 @@ index_mut-requires-3 g c =
     let row = get_row c.self.inside.places.items k c.index.result.now (omega (arith, rows, sound.members.rows, exists)) c.index.ensures in
     let wide = row_of (length s.plan.actors) c.self.inside.places.items k c.index.result.now row sound.members.row in
     let place = place_read c.self.inside.places.items k c.args.target c.index.result.now row c.index-2.result.now c.index-2.result.now (omega (arith, wide, in_plan)) c.index-2.ensures in
-    let again = get_row c.self.inside.places.items k c.index_mut-2.result.now (omega (arith, rows, sound.members.rows, exists)) c.index_mut-2.ensures.value in
-    omega (arith, row_of (length s.plan.actors) c.self.inside.places.items k c.index_mut-2.result.now again sound.members.row, in_plan)
+    let again = get_row c.self.inside.places.items k c.index_mut-3.result.now (omega (arith, rows, sound.members.rows, exists)) c.index_mut-3.ensures.value in
+    omega (arith, row_of (length s.plan.actors) c.self.inside.places.items k c.index_mut-3.result.now again sound.members.row, in_plan)
 
 pub invariant_of-self-2 : goal.invariant_of-self-2
 invariant_of-self-2 g c =
@@ -135,17 +176,17 @@ invariant_of-self-2 g c =
     let wide = row_of (length s.plan.actors) c.self.inside.places.items k c.index.result.now row sound.members.row in
     let place = place_read c.self.inside.places.items k c.args.target c.index.result.now row c.index-2.result.now c.index-2.result.now (omega (arith, wide, in_plan)) c.index-2.ensures in
     let next : IsNext c.as_slice-posts.result.now c.index-2.result.now c.args.target c.in-Some.place = c.in-Some.ensures.next in
-    let here = member_at s sound c.args.target in_plan c.index_mut.result.now c.index_mut.ensures.value in
+    let here = member_at s sound c.args.target in_plan c.index_mut-2.result.now c.index_mut-2.ensures.value in
     let message = message_at c.as_slice-posts.result.now c.in-Some.place c.args.target next.message next.here c.index-posts-place.result in
-    let arrived : Arrived c.index_mut.result.now c.arrive.new.self (Feed (suc k)) next.message 0 c.in_ok-arrive.field-0 = record {
-      step = (λ i. fair_step c.index_mut.result.now.setting c.index_mut.result.now.state (Feed (number i)) (sym message i) 0) ∙ c.in_ok-arrive.ensures.step;
+    let arrived : Arrived c.index_mut-2.result.now c.arrive.new.self (Feed (suc k)) next.message 0 c.in_ok-arrive.field-0 = record {
+      step = (λ i. fair_step c.index_mut-2.result.now.setting c.index_mut-2.result.now.state (Feed (number i)) (sym message i) 0) ∙ c.in_ok-arrive.ensures.step;
       setting = c.in_ok-arrive.ensures.setting;
       outbox = c.in_ok-arrive.ensures.outbox;
       lent = c.in_ok-arrive.ensures.lent;
     } in
-    let is = fed_arrives s sound c.args.target k in_plan exists c.as_slice-posts.result.now feed c.index-2.result.now place c.in-Some.place next c.index_mut.result.now here c.arrive.new.self c.in_ok-arrive.field-0 arrived in
-    let again = get_row c.self.inside.places.items k c.index_mut-2.result.now (omega (arith, rows, sound.members.rows, exists)) c.index_mut-2.ensures.value in
-    let places = rows_set c.self.inside.places.items k c.args.target (c.in-Some.place + 1) c.index_mut-2.result.now again (with_item c.index_mut-2.result.now c.args.target (c.in-Some.place + 1)) refl in
+    let is = fed_arrives s sound c.args.target k in_plan exists c.as_slice-posts.result.now feed c.index-2.result.now place c.in-Some.place next c.index_mut-2.result.now here c.arrive.new.self c.in_ok-arrive.field-0 arrived in
+    let again = get_row c.self.inside.places.items k c.index_mut-3.result.now (omega (arith, rows, sound.members.rows, exists)) c.index_mut-3.ensures.value in
+    let places = rows_set c.self.inside.places.items k c.args.target (c.in-Some.place + 1) c.index_mut-3.result.now again (with_item c.index_mut-3.result.now c.args.target (c.in-Some.place + 1)) refl in
     let list : List Held = slice_set s.actors c.args.target c.arrive.new.self in
     let at = subst (λ (ps : List (List ℕ)). IsSound (record { plan = s.plan; limits = s.limits; feeds = s.feeds; places = ps; actors = list })) (sym places) is.sound in
     record { sound = at; few = c.self.invariant.few; none = c.self.invariant.none; room = c.self.invariant.room }
@@ -166,24 +207,24 @@ returns-clause-served g c =
     let wide = row_of (length s.plan.actors) c.self.inside.places.items k c.index.result.now row sound.members.row in
     let place = place_read c.self.inside.places.items k c.args.target c.index.result.now row c.index-2.result.now c.index-2.result.now (omega (arith, wide, in_plan)) c.index-2.ensures in
     let next : IsNext c.as_slice-posts.result.now c.index-2.result.now c.args.target c.in-Some.place = c.in-Some.ensures.next in
-    let here = member_at s sound c.args.target in_plan c.index_mut.result.now c.index_mut.ensures.value in
+    let here = member_at s sound c.args.target in_plan c.index_mut-2.result.now c.index_mut-2.ensures.value in
     let message = message_at c.as_slice-posts.result.now c.in-Some.place c.args.target next.message next.here c.index-posts-place.result in
-    let arrived : Arrived c.index_mut.result.now c.arrive.new.self (Feed (suc k)) next.message 0 c.in_ok-arrive.field-0 = record {
-      step = (λ i. fair_step c.index_mut.result.now.setting c.index_mut.result.now.state (Feed (number i)) (sym message i) 0) ∙ c.in_ok-arrive.ensures.step;
+    let arrived : Arrived c.index_mut-2.result.now c.arrive.new.self (Feed (suc k)) next.message 0 c.in_ok-arrive.field-0 = record {
+      step = (λ i. fair_step c.index_mut-2.result.now.setting c.index_mut-2.result.now.state (Feed (number i)) (sym message i) 0) ∙ c.in_ok-arrive.ensures.step;
       setting = c.in_ok-arrive.ensures.setting;
       outbox = c.in_ok-arrive.ensures.outbox;
       lent = c.in_ok-arrive.ensures.lent;
     } in
-    let is = fed_arrives s sound c.args.target k in_plan exists c.as_slice-posts.result.now feed c.index-2.result.now place c.in-Some.place next c.index_mut.result.now here c.arrive.new.self c.in_ok-arrive.field-0 arrived in
-    let again = get_row c.self.inside.places.items k c.index_mut-2.result.now (omega (arith, rows, sound.members.rows, exists)) c.index_mut-2.ensures.value in
-    let places = rows_set c.self.inside.places.items k c.args.target (c.in-Some.place + 1) c.index_mut-2.result.now again (with_item c.index_mut-2.result.now c.args.target (c.in-Some.place + 1)) refl in
+    let is = fed_arrives s sound c.args.target k in_plan exists c.as_slice-posts.result.now feed c.index-2.result.now place c.in-Some.place next c.index_mut-2.result.now here c.arrive.new.self c.in_ok-arrive.field-0 arrived in
+    let again = get_row c.self.inside.places.items k c.index_mut-3.result.now (omega (arith, rows, sound.members.rows, exists)) c.index_mut-3.ensures.value in
+    let places = rows_set c.self.inside.places.items k c.args.target (c.in-Some.place + 1) c.index_mut-3.result.now again (with_item c.index_mut-3.result.now c.args.target (c.in-Some.place + 1)) refl in
     let list : List Held = slice_set s.actors c.args.target c.arrive.new.self in
     let at = subst (λ (ps : List (List ℕ)). StandsAt s.plan s.limits s.feeds (after_link s.plan s.limits (system_in s) (c.args.target, Feed (suc k))) (record { plan = s.plan; limits = s.limits; feeds = s.feeds; places = ps; actors = list })) (sym places) is.stands in
     let final : Serving = record {
       plan = s.plan;
       limits = s.limits;
       feeds = s.feeds;
-      places = map (λ r. r.items) (slice_set c.self.inside.places.items k (with_item c.index_mut-2.result.now c.args.target (c.in-Some.place + 1)));
+      places = map (λ r. r.items) (slice_set c.self.inside.places.items k (with_item c.index_mut-3.result.now c.args.target (c.in-Some.place + 1)));
       actors = list;
     } in
     stands_of s c.args.self.now c.self.view_is (c.args.target, Feed c.args.feed) final (subst (λ (n : ℕ). StandsAt s.plan s.limits s.feeds (after_link s.plan s.limits (system_in s) (c.args.target, Feed n)) final) number at)
