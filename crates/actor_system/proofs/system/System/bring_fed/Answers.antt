@@ -18,7 +18,7 @@ use Rattle.actor_system.proofs.system.System.bring_fed.Goals as goal
 feeds_of : (s now : Serving) → s ≡ now → (k : ℕ) → k ≤ length now.feeds → k ≤ length s.feeds
 feeds_of s now is k l = subst (λ (v : Serving). k ≤ length v.feeds) (sym is) l
 
--- src/system.rt:86:58
+-- src/system.rt:102:58
 pub index-requires-2 : goal.index-requires-2
 index-requires-2 g c =
     let s : Serving = serving_of c.self.inside in
@@ -29,7 +29,7 @@ index-requires-2 g c =
     let row = get_row c.self.inside.places.items (c.args.feed - 1) c.index.result.now (omega (arith, rows, sound.members.rows, fits, c.requires.exists.0)) c.index.ensures in
     omega (arith, row_of (length s.plan.actors) c.self.inside.places.items (c.args.feed - 1) c.index.result.now row sound.members.row, in_plan)
 
--- src/system.rt:88:13
+-- src/system.rt:104:13
 pub index_mut-requires-in_default : goal.index_mut-requires-in_default
 index_mut-requires-in_default g c =
     let s : Serving = serving_of c.self.inside in
@@ -42,7 +42,7 @@ index_mut-requires-in_default g c =
     let again = get_row c.self.inside.places.items k c.index_mut.result.now (omega (arith, rows, sound.members.rows, exists)) c.index_mut.ensures.value in
     omega (arith, row_of (length s.plan.actors) c.self.inside.places.items k c.index_mut.result.now again sound.members.row, in_plan)
 
--- src/system.rt:89:13
+-- src/system.rt:105:13
 pub invariant_of-self : goal.invariant_of-self
 invariant_of-self g c =
     let s : Serving = serving_of c.self.inside in
@@ -105,7 +105,7 @@ returns-in_default-clause-taken g c =
     let place = place_read c.self.inside.places.items k c.args.target c.index.result.now row c.index-2.result.now c.index-2.result.now (omega (arith, wide, in_plan)) c.index-2.ensures in
     waits_of s c.args.self.now c.self.view_is (c.args.target, Feed c.args.feed) _ (fed_nothing s sound c.args.target k in_plan exists c.as_slice-posts.result.now feed c.index-2.result.now place c.in_default.ensures.next ∙ ap (λ (n : ℕ). waits_on (system_in s) (c.args.target, Feed n)) number)
 
--- src/system.rt:89:24
+-- src/system.rt:107:24
 pub offset_bounds-posts-place : goal.offset_bounds-posts-place
 offset_bounds-posts-place g c =
     let next : IsNext c.as_slice-posts.result.now c.index-2.result.now c.args.target c.in-Some.place = c.in-Some.ensures.next in
@@ -117,7 +117,7 @@ bounds-posts-place g c =
     let next : IsNext c.as_slice-posts.result.now c.index-2.result.now c.args.target c.in-Some.place = c.in-Some.ensures.next in
     slice_get_within c.as_slice-posts.result.now c.in-Some.place (c.args.target, next.message) next.here
 
--- src/system.rt:90:30
+-- src/system.rt:108:30
 pub arrive-requires : goal.arrive-requires
 arrive-requires g c =
     let s : Serving = serving_of c.self.inside in
@@ -136,14 +136,14 @@ arrive-requires g c =
     let here = member_at s sound c.args.target in_plan c.index_mut-2.result.now c.index_mut-2.ensures.value in
     record { exists = subst (λ (n : ℕ). HasCount c.index_mut-2.result.now.state.late (Feed n)) number (fed_may s sound c.args.target k in_plan exists c.as_slice-posts.result.now feed c.index-2.result.now place c.in-Some.place next c.index_mut-2.result.now here) }
 
--- src/system.rt:91:36
+-- src/system.rt:109:36
 pub overflow_add-place : goal.overflow_add-place
 overflow_add-place g c =
     let next : IsNext c.as_slice-posts.result.now c.index-2.result.now c.args.target c.in-Some.place = c.in-Some.ensures.next in
     let within = slice_get_within c.as_slice-posts.result.now c.in-Some.place (c.args.target, next.message) next.here in
     omega (arith, within, c.as_slice-posts.type_inv.1)
 
--- src/system.rt:91:9
+-- src/system.rt:109:9
 pub index_mut-requires-4 : goal.index_mut-requires-4
 index_mut-requires-4 g c =
     let s : Serving = serving_of c.self.inside in
@@ -191,7 +191,7 @@ invariant_of-self-2 g c =
     let at = subst (λ (ps : List (List ℕ)). IsSound (record { plan = s.plan; limits = s.limits; feeds = s.feeds; places = ps; actors = list })) (sym places) is.sound in
     record { sound = at; few = c.self.invariant.few; none = c.self.invariant.none; room = c.self.invariant.room }
 
--- src/system.rt:72:5
+-- src/system.rt:85:5
 pub returns-clause-served : goal.returns-clause-served
 returns-clause-served g c =
     let s : Serving = serving_of c.self.inside in
