@@ -11,8 +11,8 @@
 //! tallies that were found and left what it answers; a worker made a claim for each ticket that it took. Between any two atomic
 //! steps, in every schedule, a cell that nobody has the turn of is lawful, by the rule of the lock.
 //!
-//! Only tested: that the calls answer `Ok` where memory is ample, and that feeds and workers on threads come to their end. Not
-//! said: that a turn is ever got, who announces whom, or that `feed`, `work` and `announce` return.
+//! Not said: that the calls answer `Ok` where memory is ample, that a turn is ever got, who announces whom, or that `feed`, `work`
+//! and `announce` return. The crate has no tests.
 #![tactic(auto)]
 
 mod announcing;
