@@ -8,7 +8,7 @@
 //! A contract sees all three as values of specs/: `load_plan` writes the kinds, the actors and the rules out, `load_feed` each row by
 //! its place, and `summary_text` the lines.
 //!
-//! Not tested yet: that the plan is that of its script as text.
+//! Only tested: that the plan is that of its script as text (in `join_tool`, which reads scripts).
 #![tactic(auto)]
 
 mod feed;
@@ -19,3 +19,6 @@ mod totals;
 pub use feed::{load_feed, load_feeds};
 pub use plan::load_plan;
 pub use totals::summary;
+
+#[cfg(test)]
+mod tests;

@@ -6,6 +6,7 @@ pub const USAGE: &[u8] = b"usage:
   check SCRIPT       prints the plan of the script
   replay SCRIPT LOG  checks a log against its script
   lint SCRIPT        lists the definitions of the script that can never fire
+  load N             runs a building of its own on N rows for each of four halls, N from 1 to 20000
 ";
 
 pub const NO_MEMORY: &[u8] = b"joinactors: there was not enough memory\n";

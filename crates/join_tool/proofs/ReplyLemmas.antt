@@ -4,7 +4,7 @@ use Rattle.std.proofs.lemmas.List.{append-nil}
 use Rattle.std.specs.Prelude.{Result, Ok, Err}
 use Rattle.join_base.specs.Outside.{Files, Told, with_asked}
 use Rattle.script_types.specs.declared.plan.Plan.{Plan}
-use Rattle.command_words.specs.Command.{Command, RunWords, Run, Check, Replay, Lint}
+use Rattle.command_words.specs.Command.{Command, RunWords, Run, Check, Replay, Load, Lint}
 use Rattle.join_tool.specs.declared.reply.Reply.{Reply}
 use Rattle.join_tool.specs.declared.reply.Reply.TheVariants as reply
 use Rattle.join_tool.specs.declared.stop.Stop.{Stop}
@@ -17,6 +17,12 @@ use Rattle.join_tool.specs.Replying.{OfStop, Replies, replied_with}
 
 asked_none : (before : Told) → before ≡ record { files = before.files; asked = before.asked ++ [] }
 asked_none before = λ i. record { files = before.files; asked = sym (append-nil before.asked) i }
+
+-- ---- `load`, which asks for nothing
+
+pub load_replied : (rows : ℕ) (told : Option Told) → Tells told told (λ b n. Replies (Load rows) b n (Ok (reply.Load rows)))
+load_replied rows None = tt
+load_replied rows (Some before) = record { asked = []; told_is = asked_none before; may_ask = refl; verdict = refl }
 
 -- ---- a script that stops its command
 

@@ -126,7 +126,7 @@ module _ (one : HaveOneAnswer) where
   command_once files (Check script) v w a b = script_once (file_of files script) (λ plan verdict. verdict ≡ Checks plan) (λ plan one other x y. x ∙ sym y) v w a b
   command_once files (Replay script log) v w a b =
       script_once (file_of files script) (λ plan verdict. IsTyped plan × OfLog plan (log_of files log) verdict) (λ plan first other x y. log_once plan x.0 (log_of files log) first other x.1 y.1) v w a b
-  command_once files (Load rows) v w a b = absurd a
+  command_once files (Load rows) v w a b = a ∙ sym b
   command_once files (Watch run monitors) v w a b = absurd a
   command_once files (Lint script) v w a b = script_once (file_of files script) (λ plan verdict. verdict ≡ Lints plan) (λ plan one other x y. x ∙ sym y) v w a b
   command_once files (Ask run) v w a b = absurd a

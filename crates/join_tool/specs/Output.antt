@@ -9,6 +9,7 @@ use Rattle.fair_semantics.specs.declared.run.Run.{Run}
 use Rattle.fair_semantics.specs.declared.run.Ending.{Ending}
 use Rattle.fair_semantics.specs.declared.run.Ending.TheVariants as ending
 use Rattle.fair_semantics.specs.Linked.{IsLinked}
+use Rattle.run_order.specs.Order.{IsScheduled}
 use Rattle.arrival_log.specs.LogText.{log_text}
 use Rattle.script_grammar.specs.declared.fault.ScriptCause.{ScriptCause}
 use Rattle.script_grammar.specs.declared.fault.ScriptCause.TheVariants as cause
@@ -16,11 +17,14 @@ use Rattle.sensor_feed.specs.declared.fault.FeedCause.{FeedCause}
 use Rattle.sensor_feed.specs.declared.fault.FeedCause.TheVariants as row_cause
 use Rattle.join_tool.specs.declared.stop.LogCause.{LogCause}
 use Rattle.join_tool.specs.declared.stop.LogCause.TheVariants as log_cause
+use Rattle.building_load.specs.Building.{load_plan}
+use Rattle.building_load.specs.Rows.{load_feeds}
+use Rattle.building_load.specs.Summary.{summary_text}
 use Rattle.plan_text.specs.PlanText.{plan_text}
 use Rattle.join_tool.specs.declared.status.Status.{Status}
 use Rattle.join_tool.specs.declared.status.Status.TheVariants as status
 use Rattle.join_tool.specs.LintText.{lint_text}
-use Rattle.join_tool.specs.Verdict.{Feeds, Verdict, Usage, TooLong, ScriptRefused, FeedRefused, Checks, Lints, Runs, Accepts, LogRefused}
+use Rattle.join_tool.specs.Verdict.{Feeds, Verdict, Usage, TooLong, ScriptRefused, FeedRefused, Checks, Lints, Runs, Loads, Accepts, LogRefused}
 
 abbrev pub line : List ℕ → List ℕ
 line text = text ++ 10 ∷ []
@@ -86,12 +90,26 @@ meets_limits run = list_any (λ (actor : ActorRun). met_limit actor.ending) run.
 abbrev pub run_status : Run → Status
 run_status run = if meets_limits run then status.Limits else status.Done
 
--- the output is the log, of version 2, of a run that is linked to the feeds
+-- the output is the log, of version 2, of a run that is linked to the feeds and that is that of one schedule of single steps
 pub record IsLog (plan : Plan) (limits : Limits) (feeds : Feeds) (answer : Status) (output : List ℕ) : Type 0 where
   pub run : Run
   pub version : run.version ≡ 2
   pub linked : IsLinked plan limits feeds run
+  pub scheduled : IsScheduled plan limits feeds run
   pub text : output ≡ log_text plan run
+  pub told : answer ≡ run_status run
+
+-- the limits of `run` where it is given none
+abbrev pub load_limits : Limits
+load_limits = record { arrivals = 50000; partials = 65536 }
+
+-- the output is the summary of a run of the building that is linked to its feeds of so many rows, and that is that of one schedule
+pub record IsSummary (rows : ℕ) (answer : Status) (output : List ℕ) : Type 0 where
+  pub run : Run
+  pub version : run.version ≡ 2
+  pub linked : IsLinked load_plan load_limits (load_feeds rows) run
+  pub scheduled : IsScheduled load_plan load_limits (load_feeds rows) run
+  pub text : output ≡ summary_text rows load_plan run
   pub told : answer ≡ run_status run
 
 -- ---- logs
@@ -110,6 +128,7 @@ IsOutput (FeedRefused feed row why) answer output = (answer ≡ status.FeedRefus
 IsOutput (Checks plan) answer output = (answer ≡ status.Done) × (output ≡ plan_text plan)
 IsOutput (Lints plan) answer output = (answer ≡ status.Done) × (output ≡ lint_text plan)
 IsOutput (Runs plan limits feeds) answer output = IsLog plan limits feeds answer output
+IsOutput (Loads rows) answer output = IsSummary rows answer output
 IsOutput (Accepts arrivals) answer output = (answer ≡ status.Done) × (output ≡ accepted_line arrivals)
 IsOutput (LogRefused number why) answer output = (answer ≡ status.LogRefused) × (output ≡ log_line number why)
 

@@ -1,4 +1,4 @@
--- What words and files come to: the first refusal in the order in which the files are fetched, a plan that is checked or looked at, a run, or a log that is accepted.
+-- What words and files come to: the first refusal in the order in which the files are fetched, a plan that is checked or looked at, a run, the building's run, or a log that is accepted.
 use Rattle.std.specs.Prelude.{◌≡◌, ◌⊎◌, ℕ, ◌+◌, List, [], ◌∷◌, ◌++◌, Option, None, Some, Result, Ok, Err}
 use Rattle.join_base.specs.declared.message.Message.{Message}
 use Rattle.join_base.specs.Outside.{Files}
@@ -39,6 +39,7 @@ pub data Verdict : Type 0 where
   Checks : (plan : Plan) → Verdict
   Lints : (plan : Plan) → Verdict
   Runs : (plan : Plan) (limits : Limits) (feeds : Feeds) → Verdict
+  Loads : (rows : ℕ) → Verdict
   Accepts : (arrivals : ℕ) → Verdict
   LogRefused : (line : ℕ) (cause : LogCause) → Verdict
 
@@ -159,7 +160,7 @@ abbrev pub OfCommand : Files → Command → Verdict → Type 0
 OfCommand files (Run run) verdict = OfRun files run verdict
 OfCommand files (Check script) verdict = OfCheck files script verdict
 OfCommand files (Replay script log) verdict = OfReplay files script log verdict
-OfCommand files (Load rows) verdict = ⊥
+OfCommand files (Load rows) verdict = verdict ≡ Loads rows
 OfCommand files (Watch run monitors) verdict = ⊥
 OfCommand files (Lint script) verdict = OfLint files script verdict
 OfCommand files (Ask run) verdict = ⊥

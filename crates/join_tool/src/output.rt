@@ -1,12 +1,12 @@
 //! What is written, and how it is written.
-ghost use Rattle.std.specs.Prelude.{◌≡◌, ◌<◌, IfOk, codes};
+ghost use Rattle.std.specs.Prelude.{◌≡◌, ◌<◌, ◌≤◌, IfOk, codes};
 ghost use Rattle.std.specs.List.{list_any};
 ghost use Rattle.join_base.specs.Outside.{WriteCause};
 ghost use Rattle.plan_text.specs.PlanText.{plan_text};
 ghost use Rattle.script_types.specs.Typed.{IsTyped};
 ghost use Rattle.join_tool.specs.LintText.{lint_text};
 ghost use Rattle.join_tool.specs.Loading.{refused_as};
-ghost use Rattle.join_tool.specs.Output.{IsLog, IsOutput, IsSettled, accepted_line, cause_name, feed_line, line, log_cause_name, log_line, met_limit, row_cause_name, run_status, script_line, too_long_line};
+ghost use Rattle.join_tool.specs.Output.{IsLog, IsOutput, IsSettled, IsSummary, accepted_line, cause_name, feed_line, line, log_cause_name, log_line, met_limit, row_cause_name, run_status, script_line, too_long_line};
 ghost use Rattle.join_tool.specs.Replying.{AreRunParts, IsRunnable, verdict_of};
 ghost use Rattle.join_tool.specs.Writing.{Writes};
 
@@ -16,6 +16,7 @@ use crate::run::run_feeds;
 use crate::status::Status;
 use crate::stop::{LogCause, Refusal};
 use arrival_log::print_log;
+use building_load::{load_feeds, load_plan, summary};
 use fair_semantics::{ActorRun, Ending, Limits, Run};
 use join_base::{Bytes, Failed, FeedList, NoMemory, Sink};
 use plan_text::print_plan;
@@ -221,6 +222,26 @@ fn run_output(
     Ok((run_status(&run), bytes))
 }
 
+// The limits of `run` where it is given none.
+const LOAD_LIMITS: Limits = Limits {
+    arrivals: 50_000,
+    partials: 65_536,
+};
+
+// The status and the summary of the building over feeds of so many rows.
+fn load_output(alloc: Global, rows: u32) -> Result<(Status, Bytes), NoMemory>
+    requires rows { (1 ≤ rows) × (rows ≤ 20000) }
+    ensures summary { IfOk result (λ p. IsSummary rows p.0 p.1) }
+    ensures settled { IfOk result (λ p. IsSettled p.0) }
+{
+    let plan = load_plan(alloc)?;
+    let feeds = load_feeds(alloc, rows)?;
+    let run = run_feeds(alloc, &plan, LOAD_LIMITS, feeds)?;
+    let mut bytes = Bytes::new(alloc);
+    summary(alloc, rows, &plan, &run, &mut bytes)?;
+    Ok((run_status(&run), bytes))
+}
+
 // The text of a plan.
 fn text_of_plan(alloc: Global, plan: &Plan) -> Result<Bytes, NoMemory>
     ensures { IfOk result (λ bytes. bytes ≡ plan_text plan.now) }
@@ -254,6 +275,7 @@ pub fn output_of(alloc: Global, reply: Reply) -> Result<(Status, Bytes), NoMemor
             limits,
             feeds,
         } => run_output(alloc, &plan, limits, feeds),
+        Reply::Load { rows } => load_output(alloc, rows),
         Reply::Accepted(arrivals) => Ok((Status::Done, accepted_line(alloc, arrivals)?)),
     }
 }

@@ -30,6 +30,10 @@ pub enum Reply {
         limits: Limits,
         feeds: FeedList,
     },
+    /// How many rows each feed of the building has, from 1 to 20,000.
+    Load {
+        rows: u32,
+    },
     /// The number of arrivals of a log that is accepted.
     Accepted(u64),
 }
@@ -125,6 +129,7 @@ pub fn reply_of<I: Inputs>(
         Request::Check { script } => check_reply(alloc, inputs, script),
         Request::Lint { script } => lint_reply(alloc, inputs, script),
         Request::Replay { script, log } => replay_reply(alloc, inputs, script, log),
-        Request::Load { .. } | Request::Watch { .. } | Request::Ask(_) => unreachable!(),
+        Request::Load { rows } => Ok(Reply::Load { rows: *rows }),
+        Request::Watch { .. } | Request::Ask(_) => unreachable!(),
     }
 }

@@ -1,6 +1,7 @@
 //! Running a plan on its feeds.
 ghost use Rattle.std.specs.Prelude.{◌≡◌, ◌<◌, IfOk};
 ghost use Rattle.fair_semantics.specs.Linked.{IsLinked};
+ghost use Rattle.run_order.specs.Order.{IsScheduled};
 ghost use Rattle.join_tool.specs.Replying.{AreRunParts};
 
 use actor_system::System;
@@ -24,6 +25,7 @@ fn run_system<L: Ledger>(
     requires blank_parts { blank.parts ≡ L.parts }
     requires some { 0 < L.parts }
     ensures linked { IfOk result (IsLinked plan.now limits feeds) }
+    ensures scheduled { IfOk result (IsScheduled plan.now limits feeds) }
     ensures version { IfOk result (λ run. run.version ≡ 2) }
 {
     let mut steps = Steps::<L>::new(blank);
@@ -32,7 +34,8 @@ fn run_system<L: Ledger>(
     Ok(system.finish())
 }
 
-/// The run of the plan on its feeds, within the limits, over all actors.
+/// The run of the plan on its feeds, within the limits, over all actors. It is linked to the feeds, and it is that of one
+/// schedule of single steps: the logs of its actors may be read as those of a run on one thread, step after step.
 pub fn run_feeds(
     alloc: Global,
     plan: &Plan,
@@ -41,6 +44,7 @@ pub fn run_feeds(
 ) -> Result<Run, NoMemory>
     requires parts { AreRunParts plan.now limits feeds }
     ensures linked { IfOk result (IsLinked plan.now limits feeds) }
+    ensures scheduled { IfOk result (IsScheduled plan.now limits feeds) }
     ensures version { IfOk result (λ run. run.version ≡ 2) }
 {
     run_system::<Brand>(alloc, plan, limits, feeds, Blank::new(1))

@@ -410,7 +410,7 @@ fn rows_are_read(rt: HostRuntime) -> Result<(), Fail> {
 fn words_are_a_command_or_are_refused(rt: HostRuntime) -> Result<(), Fail> {
     let alloc = rt.alloc();
     let mut inputs = inputs_of(alloc, SCRIPT, FEED)?;
-    let refused: [&[&str]; 18] = [
+    let refused: [&[&str]; 20] = [
         &[],
         &["run"],
         &["run", "s"],
@@ -431,7 +431,9 @@ fn words_are_a_command_or_are_refused(rt: HostRuntime) -> Result<(), Fail> {
         &["lint", "s", "f"],
         &["check", "--arrivals", "2000", "s"],
         &["replay", "s"],
-        &["load", "3"],
+        &["load", "0"],
+        &["load", "20001"],
+        &["load", "--arrivals", "2000", "3"],
     ];
     for words in refused {
         answers(

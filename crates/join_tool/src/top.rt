@@ -90,6 +90,8 @@ fn prepare<I: Inputs>(
 /// `--partials` give, and writes the log of that run. `check SCRIPT` fetches the script, and writes its plan. `lint SCRIPT`
 /// fetches the script, and writes a line for each definition that can never fire and for each kind that no other one takes,
 /// and then their number. `replay SCRIPT LOG` fetches the script and then the log, and writes how many arrivals the log has.
+/// `load N` fetches nothing, runs the building of `building_load` on feeds of N rows within the limits of a `run` without
+/// options, and writes the summary of that run.
 ///
 /// The first refusal ends the call: `Usage` where the words are no command, `TooLong` where a file has more than
 /// 16,777,216 bytes, or a log more than 268,435,456, `ScriptRefused` where the script has a fault, `FeedRefused` where a feed
@@ -105,8 +107,9 @@ pub fn join_main<R, I: Inputs, S: Sink, G: Gate>(
     _gate: &G,
 ) -> Status
     // The status and the bytes written are those of the verdict on the words and the files. For a run they are the log
-    // of a run that is linked to the posts of the feeds, for a check the text of the script's plan, for a lint that of its
-    // findings, and for a replay the number of arrivals of the log, which is that of a run no line of which is in fault.
+    // of a run that is linked to the posts of the feeds and is that of one schedule of single steps, for a check the text of the
+    // script's plan, for a lint that of its findings, for `load` the summary of such a run of the building, and for a replay
+    // the number of arrivals of the log, which is that of a run no line of which is in fault.
     ensures answer { AnswersWhereTold words.now (I.tells inputs.old) (S.taken out.old) (I.tells inputs.new) (S.taken out.new) result }
 
     // Inputs that tell were asked only for names that the order fetches, whatever the sink tells.

@@ -1,9 +1,17 @@
-use Rattle.std.proofs.Common.{rules, ◌≡◌, ◌+◌, ◌∷◌, [], ◌++◌, length, drop}
+use Rattle.std.proofs.Common.{rules, ◌≡◌, ◌+◌, ◌∷◌, [], ◌++◌, length, drop, refl}
 use Rattle.std.specs.Prelude.{Err}
 use Rattle.command_words.specs.Views.{words_in}
 use Rattle.join_tool.specs.declared.stop.Stop.TheVariants.{NoMemory}
-use Rattle.join_tool.proofs.FeedsLemmas.{feed_more, feed_stopped, feeds_cut}
+use Rattle.join_tool.proofs.FeedsLemmas.{feed_more, feed_stopped, feeds_cut, none_so_far}
 use Rattle.join_tool.proofs.load.load_feeds.Goals as goal
+
+pub loop-name-init : goal.loop-name-init
+loop-name-init g c = rw c.new-feeds.ensures.empty (record {
+  told = none_so_far c.args.plan.now (words_in c.args.names.now) (g.I.Inputs.tells c.args.inputs.now);
+  count = refl;
+  fits = tt;
+  quiet = refl;
+})
 
 pub returns-in_err-push-in-Ok-clause-told : goal.returns-in_err-push-in-Ok-clause-told
 returns-in_err-push-in-Ok-clause-told g c =
