@@ -1,0 +1,4 @@
+pub mod StandLemmas
+pub mod EndLemmas
+pub mod FlatLemmas
+pub mod StartLemmas

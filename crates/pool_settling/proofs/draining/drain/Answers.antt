@@ -1,0 +1,44 @@
+use Rattle.std.proofs.Common.{◌∙◌, refl, sym, subst}
+use Rattle.join_base.specs.declared.message.Stamped.{Stamped}
+use Rattle.post_ring.specs.Links.{received}
+use Rattle.std.specs.Prelude.{List}
+use Rattle.pool_settling.specs.Standing.{Arrives}
+use Rattle.pool_settling.proofs.StandLemmas.{all_after, arrives_more, arrives_none, fewer_wait, nothing_waits, steps_by}
+use Rattle.pool_settling.proofs.draining.drain.Goals as goal
+
+pub loop-stamped-init : goal.loop-stamped-init
+loop-stamped-init g c = record {
+  met = c.meet.ensures.met;
+  identity = refl;
+  all = c.meet.ensures.all;
+  known = c.requires.known;
+  arrived = arrives_none c.args.source (received c.meet.new.second) c.args.actor.now;
+}
+
+pub loop-stamped-preserved : goal.loop-stamped-preserved
+loop-stamped-preserved g c =
+    let before = c.loop-stamped.invariant in
+    let take = c.in-Some.ensures.taken in
+    let step = c.in_ok-arrive.ensures in
+    record {
+      met = take.still_met ∙ before.met;
+      identity = take.identity ∙ before.identity;
+      all = all_after _ _ _ _ take before.met before.all;
+      known = step.sources c.args.source before.known;
+      arrived = arrives_more _ _ _ _ _ _ _ _ before.arrived (steps_by _ _ _ _ _ step.setting step.step step.outbox) take.taken;
+    }
+
+pub loop-stamped-smaller : goal.loop-stamped-smaller
+loop-stamped-smaller g c = fewer_wait _ _ _ (c.in-Some.ensures.taken) (c.loop-stamped.invariant.met)
+
+pub returns-clause-second : goal.returns-clause-second
+returns-clause-second g c =
+    let before = c.loop-stamped.invariant in
+    let empty = c.in_default.ensures.taken in
+    (empty.identity ∙ before.identity ∙ c.meet.ensures.second.0, nothing_waits _ _ _ empty before.all ∙ c.meet.ensures.first.1)
+
+pub returns-clause-arrived : goal.returns-clause-arrived
+returns-clause-arrived g c =
+    let before = c.loop-stamped.invariant in
+    let empty = c.in_default.ensures.taken in
+    subst (λ (x : List Stamped × List Stamped). Arrives c.args.source x.0 x.1 c.args.actor.now c.loop-stamped.actor) (λ i. (c.meet.ensures.second.1 i, sym empty.taken i)) before.arrived
