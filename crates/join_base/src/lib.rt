@@ -9,7 +9,7 @@
 //! - **Integers**: `read_integer` and `write_number`, in decimal.
 //! - **The outside**: the traits `Inputs` and `Sink`, with `MemoryInputs` and `MemorySink` over memory.
 //!
-//! Only tested: that calls succeed where memory is ample, and what the texts of errors say.
+//! Only tested: that calls succeed where memory is ample.
 #![tactic(auto)]
 
 mod integer;
