@@ -24,4 +24,6 @@ pub use law::lint_law;
 pub use report::lint;
 
 #[cfg(test)]
+mod random_tests;
+#[cfg(test)]
 mod tests;

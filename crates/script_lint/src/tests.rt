@@ -41,7 +41,7 @@ fn guard(alloc: Global, bounds: &[(u32, Relation, i64)]) -> Result<ConjunctList,
 }
 
 // A rule whose patterns take these kinds, with an empty body.
-fn rule(
+pub fn rule(
     alloc: Global,
     kinds: &[u32],
     bounds: &[(u32, Relation, i64)],
@@ -67,7 +67,7 @@ fn kind(alloc: Global, name: Name) -> Result<Kind, Fail> {
 }
 
 // Two kinds, and one actor with these rules.
-fn found(alloc: Global, rules: Items<Rule>) -> Result<Items<Finding>, Fail> {
+pub fn found(alloc: Global, rules: Items<Rule>) -> Result<Items<Finding>, Fail> {
     if rules.len() > 16 {
         return Ok(Items::new(alloc));
     }
