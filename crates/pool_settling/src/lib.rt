@@ -11,5 +11,8 @@
 mod apart;
 mod draining;
 mod ends;
+mod rounds;
+mod settling;
 
 pub use draining::drain_links;
+pub use settling::{settle, settle_with};
