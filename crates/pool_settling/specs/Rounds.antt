@@ -85,7 +85,7 @@ NoneWait helds sender = (target : ℕ) → target < length helds → NoneWaits h
 
 -- these posts of the feed came too, each to its actor
 abbrev pub fed_more : ℕ → List (ℕ × Message) → (ℕ → ℕ → List Stamped) → ℕ → ℕ → List Stamped
-fed_more feed posts fed actor other = if other == feed then fed actor other ++ filter_map (post_for actor) posts else fed actor other
+fed_more feed posts fed actor other = if feed == other then fed actor other ++ filter_map (post_for actor) posts else fed actor other
 
 abbrev pub IsFedMore : ℕ → List (ℕ × Message) → List Held → List Held → Type 0
 IsFedMore feed posts olds nows = (fed : ℕ → ℕ → List Stamped) → StandFed fed olds → StandFed (fed_more feed posts fed) nows
