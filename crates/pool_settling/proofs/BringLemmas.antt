@@ -2,6 +2,7 @@
 use Rattle.std.proofs.Common.{◌≡◌, ◌∙◌, ◌⊎◌, inl, inr, ℕ, zero, suc, ◌+◌, ◌-◌, ◌*◌, ◌<◌, ◌≤◌, List, [], ◌∷◌, ◌++◌, length, map, set, get_or, Bool, true, false, Option, None, Some, slice_get, refl, ap, sym, subst, arith, append_assoc}
 use Rattle.std.specs.Prelude.{if◌then◌else◌, ◌==◌, ◌&&◌, ◌||◌}
 use Rattle.std.specs.List.{AllByRecursion, sum_by}
+use Rattle.std.proofs.lemmas.Bool.{cases_lt}
 use Rattle.std.proofs.lemmas.List.{length-set}
 use Rattle.std.proofs.lemmas.Option.{slice_get-get_or}
 use mathlib.Core.List.{IsPrefix}
@@ -95,7 +96,7 @@ module _ (source : Source) (post : Stamped) (before after : Held) (step : Steps 
 
 -- ---- a post that was taken
 
-other_is : (j k : ℕ) → ¬ (k ≡ j) → (j == k) ≡ false
+pub other_is : (j k : ℕ) → ¬ (k ≡ j) → (j == k) ≡ false
 other_is j k o = by (j == k) refl
   where
     by : (b : Bool) → (j == k) ≡ b → b ≡ false
@@ -184,21 +185,21 @@ and_true : (b : Bool) → (b && true) ≡ b
 and_true true = refl
 and_true false = refl
 
-abbrev one_came : Came → Source → ℕ → Stamped → Came
+abbrev pub one_came : Came → Source → ℕ → Stamped → Came
 one_came came source target post actor other = if same_source source other && (target == actor) then came actor other ++ post ∷ [] else came actor other
 
 -- to another nothing came, and to the target this
-came_other : (came : Came) (source : Source) (target : ℕ) (post : Stamped) (actor : ℕ) → ¬ (actor ≡ target) → (other : Source) → one_came came source target post actor other ≡ came actor other
+pub came_other : (came : Came) (source : Source) (target : ℕ) (post : Stamped) (actor : ℕ) → ¬ (actor ≡ target) → (other : Source) → one_came came source target post actor other ≡ came actor other
 came_other came source target post actor o other =
     ap (λ (b : Bool). if same_source source other && b then came actor other ++ post ∷ [] else came actor other) (other_is target actor o)
     ∙ ap (λ (b : Bool). if b then came actor other ++ post ∷ [] else came actor other) (and_false (same_source source other))
 
-came_here : (came : Came) (source : Source) (target : ℕ) (post : Stamped) (other : Source) → one_came came source target post target other ≡ (if same_source source other then came target other ++ post ∷ [] else came target other)
+pub came_here : (came : Came) (source : Source) (target : ℕ) (post : Stamped) (other : Source) → one_came came source target post target other ≡ (if same_source source other then came target other ++ post ∷ [] else came target other)
 came_here came source target post other =
     ap (λ (b : Bool). if same_source source other && b then came target other ++ post ∷ [] else came target other) (is_itself target)
     ∙ ap (λ (b : Bool). if b then came target other ++ post ∷ [] else came target other) (and_true (same_source source other))
 
-module _ (helds : List Held) (members : AreMembers helds) (sender target : ℕ) (before after b c : Held) (post : Stamped) (posts : List Stamped) (within : target < length helds) (at : slice_get helds sender ≡ Some before) (takes : Takes target post posts before after)
+module _ (helds : List Held) (members : AreMembers helds) (sender target : ℕ) (before after b : Held) (post : Stamped) (posts : List Stamped) (within : target < length helds) (at : slice_get helds sender ≡ Some before) (takes : Takes target post posts before after)
     (here : slice_get (set helds sender after) target ≡ Some b) where
   abbrev mid : List Held
   mid = set helds sender after
@@ -213,7 +214,7 @@ module _ (helds : List Held) (members : AreMembers helds) (sender target : ℕ) 
       let known = (mid_members target b here).known in
       omega (arith, l, n, known)
 
-  module _ (step : Steps (Actor sender) post b c) where
+  module _ (c : Held) (step : Steps (Actor sender) post b c) where
     abbrev last : List Held
     last = set mid target c
 
@@ -297,6 +298,17 @@ pub neither : (f g : Bool) → (f || g) ≡ false → (f ≡ false) × (g ≡ fa
 neither false false e = (refl, refl)
 neither false true e = absurd cc
 neither true g e = absurd cc
+
+-- where nothing was found so far and nothing here, it is so of one place more
+pub all_below : (P : List Held → ℕ → Type 0) (f g : Bool) (b c : List Held) (place : ℕ) → (g ≡ false → c ≡ b) → (f ≡ false → (k : ℕ) → k < place → P b k) → (g ≡ false → P c place) → (f || g) ≡ false → (k : ℕ) → k < place + 1 → P c k
+all_below P f g b c place same before here e k l = by (cases_lt k place)
+  where
+    none : (f ≡ false) × (g ≡ false)
+    none = neither f g e
+
+    by : (k < place) ⊎ (place ≤ k) → P c k
+    by (inl m) = subst (λ (hs : List Held). P hs k) (sym (same none.1)) (before none.0 k m)
+    by (inr m) = let is : place ≡ k = omega (arith, l, m) in subst (P c) is (here none.1)
 
 -- ---- none that could be taken
 

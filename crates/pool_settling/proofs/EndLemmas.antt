@@ -58,10 +58,10 @@ get_here (y ∷ xs) (suc k) x l e = get_here xs k x (omega arith) e
 pub within_map : {X Y : Type 0} (f : X → Y) (xs : List X) (k : ℕ) → k < length xs → k < length (map f xs)
 within_map f xs k l = subst (λ (n : ℕ). k < n) (sym (length-map xs f)) l
 
-some_is : {X : Type 0} (x y : X) → Some x ≡ Some y → x ≡ y
+pub some_is : {X : Type 0} (x y : X) → Some x ≡ Some y → x ≡ y
 some_is x y h = cc
 
-same_or_not : (j k : ℕ) → (j ≡ k) ⊎ (¬ (j ≡ k))
+pub same_or_not : (j k : ℕ) → (j ≡ k) ⊎ (¬ (j ≡ k))
 same_or_not j k = by (j == k) refl
   where
     by : (b : Bool) → (j == k) ≡ b → (j ≡ k) ⊎ (¬ (j ≡ k))

@@ -28,6 +28,17 @@ Fed = ℕ → ℕ → List Stamped
 pub fed_same : (fed these : Fed) (helds : List Held) → ((actor feed : ℕ) → actor < length helds → these actor feed ≡ fed actor feed) → StandFed fed helds → StandFed these helds
 fed_same fed these helds same s = record { came = s.came; from_feeds = λ actor feed l. s.from_feeds actor feed l ∙ sym (same actor feed l); stand = s.stand }
 
+-- ---- feeds stay
+
+pub have_on : (feeds : ℕ) (olds nows : List Held) → HaveFeeds feeds olds → GoOn olds nows → HaveFeeds feeds nows
+have_on feeds olds nows have on actor held is =
+    let l = get_within nows actor held is in
+    let n = on.count in
+    let w = there olds actor (omega (arith, l, n)) in
+    let same = (on.each actor w.0 held w.1 is).feeds in
+    let few = have actor w.0 w.1 in
+    omega (arith, same, few)
+
 -- ---- a post that arrived
 
 module _ (helds : List Held) (members : AreMembers helds) (target feed : ℕ) (post : Stamped) (b c : Held) (here : slice_get helds target ≡ Some b) (step : Steps (Feed feed) post b c) (some : 1 ≤ feed) (known : feed ≤ feed_count b) where
@@ -103,6 +114,27 @@ module _ (feed : ℕ) (posts : List (ℕ × Message)) (place : ℕ) (x : ℕ × 
           by true c e = ap (λ (d : Bool). if d then done fed actor other ++ record { message = x.1; stamp = 0 } ∷ [] else done fed actor other) e
           by false c e = refl
 
+-- the first posts of the feed came
+pub record Feeds (feed count : ℕ) (posts : List (ℕ × Message)) (olds nows : List Held) : Type 0 where
+  pub members : AreMembers nows
+  pub have : HaveFeeds feed nows
+  pub fed : IsFedMore feed (take count posts) olds nows
+  pub on : GoOn olds nows
+
+module _ (feed place : ℕ) (posts : List (ℕ × Message)) (x : ℕ × Message) (at : slice_get posts place ≡ Some x) (olds helds : List Held) (before : Feeds feed place posts olds helds) where
+  pub feeds_one : (b c : Held) → slice_get helds x.0 ≡ Some b → Steps (Feed feed) record { message = x.1; stamp = 0 } b c → 1 ≤ feed → Feeds feed (place + 1) posts olds (set helds x.0 c)
+  feeds_one b c here step some =
+      let on = fed_on helds before.members x.0 feed record { message = x.1; stamp = 0 } b c here step some (before.have x.0 b here) in
+      record {
+        members = fed_members helds before.members x.0 feed record { message = x.1; stamp = 0 } b c here step some (before.have x.0 b here);
+        have = have_on feed helds (set helds x.0 c) before.have on;
+        fed = fed_one feed posts place x at olds helds before.fed before.members b c here step some (before.have x.0 b here);
+        on = go_trans olds helds (set helds x.0 c) before.on on;
+      }
+
+  pub feeds_skip : length helds ≤ x.0 → Feeds feed (place + 1) posts olds helds
+  feeds_skip past = record { members = before.members; have = before.have; fed = fed_skip feed posts place x at olds helds before.fed past; on = before.on }
+
 -- ---- one list after the other
 
 take_last : {X : Type 0} (xs : List X) (n : ℕ) (x : X) → slice_get xs n ≡ Some x → slice_get (take (suc n) xs) n ≡ Some x
@@ -146,14 +178,3 @@ module _ (rest : List (List (ℕ × Message))) (n : ℕ) (posts : List (ℕ × M
       let now : IsFedMore (suc n) posts helds nows = subst (λ (m : ℕ). IsFedMore m posts helds nows) (sym is) later in
       subst (λ (m : ℕ). IsFedRest (take m rest) olds nows) is
       (λ fed s. fed_same (fed_more (suc n) posts (fed_rest (take n rest) fed)) (fed_rest (take (suc n) rest) fed) nows (λ actor other l. rest_next fed actor other) (now (fed_rest (take n rest) fed) (first fed s)))
-
--- ---- feeds stay
-
-pub have_on : (feeds : ℕ) (olds nows : List Held) → HaveFeeds feeds olds → GoOn olds nows → HaveFeeds feeds nows
-have_on feeds olds nows have on actor held is =
-    let l = get_within nows actor held is in
-    let n = on.count in
-    let w = there olds actor (omega (arith, l, n)) in
-    let same = (on.each actor w.0 held w.1 is).feeds in
-    let few = have actor w.0 w.1 in
-    omega (arith, same, few)

@@ -126,7 +126,7 @@ module _ (setting : Setting) (small : AreSmall setting.rules) (outbox : List (Li
       by false = one_new arrival.state (recorded arrival None (live_with arrival) ending.Running) (entry_with arrival None) refl room (unfired_few arrival)
   recorded_work arrival (Some c) room = by (stops (body_at setting.rules c.rule))
     where
-      abbrev firing : Option Firing
+      firing : Option Firing
       firing = firing_of setting.rules (letters_with arrival) (Some c)
 
       by : (b : Bool) → AddsNoWork arrival.state (if b then recorded arrival firing [] ending.Stopped else recorded arrival firing (without (live_with arrival) c.taken) ending.Running)

@@ -31,5 +31,5 @@ returns-clause-brought g c =
     let took = takes_first c.args.target c.in-Some.post c.index_mut.result.now c.take_post.new.self (sym (sym c.take_post.ensures.first ∙ c.in-Some.is)) c.take_post.ensures.taken in
     let here = get_here (set helds c.args.sender c.take_post.new.self) c.args.target c.index_mut-2.result.now (omega (arith, c.requires.target, length-set helds c.args.sender c.take_post.new.self)) (sym c.index_mut-2.ensures.value) in
     let step = c.in_ok-arrive.ensures in
-    post_brought helds c.requires.members c.args.sender c.args.target c.index_mut.result.now c.take_post.new.self c.index_mut-2.result.now c.arrive.new.self c.in-Some.post took.0 c.requires.target at took.1 here
-    (steps_by _ _ _ _ _ step.setting step.step step.outbox)
+    post_brought helds c.requires.members c.args.sender c.args.target c.index_mut.result.now c.take_post.new.self c.index_mut-2.result.now c.in-Some.post took.0 c.requires.target at took.1 here
+    c.arrive.new.self (steps_by _ _ _ _ _ step.setting step.step step.outbox)
