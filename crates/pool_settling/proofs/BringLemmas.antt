@@ -1,17 +1,16 @@
 -- Actors that stand by what came and went: a post that was taken, and one that arrived.
-use Rattle.std.proofs.Common.{◌≡◌, ◌∙◌, ◌⊎◌, inl, inr, ℕ, zero, suc, ◌+◌, ◌-◌, ◌*◌, ◌<◌, ◌≤◌, List, [], ◌∷◌, ◌++◌, length, map, set, get_or, Bool, true, false, Option, None, Some, slice_get, refl, ap, sym, subst, arith, append_assoc}
+use Rattle.std.proofs.Common.{◌≡◌, ◌∙◌, ◌⊎◌, inl, inr, ℕ, zero, suc, ◌+◌, ◌-◌, ◌*◌, ◌<◌, ◌≤◌, List, [], ◌∷◌, ◌++◌, length, map, set, Bool, true, false, None, Some, slice_get, refl, ap, sym, subst, arith, append_assoc}
 use Rattle.std.specs.Prelude.{if◌then◌else◌, ◌==◌, ◌&&◌, ◌||◌}
 use Rattle.std.specs.List.{AllByRecursion, sum_by}
 use Rattle.std.proofs.lemmas.Bool.{cases_lt}
 use Rattle.std.proofs.lemmas.List.{length-set}
 use Rattle.std.proofs.lemmas.Option.{slice_get-get_or}
 use mathlib.Core.List.{IsPrefix}
-use Rattle.join_base.specs.Late.{HasCount}
 use Rattle.join_base.specs.declared.message.Source.{Source}
-use Rattle.join_base.specs.declared.message.Source.TheVariants.{Feed, Actor}
+use Rattle.join_base.specs.declared.message.Source.TheVariants.{Actor}
 use Rattle.join_base.specs.declared.message.Stamped.{Stamped}
 use Rattle.script_types.specs.declared.plan.Rule.{Rule}
-use Rattle.fair_semantics.specs.Step.{Setting, State, fair_step}
+use Rattle.fair_semantics.specs.Step.{Setting, State}
 use Rattle.fair_semantics.specs.Linked.{same_source}
 use Rattle.run_order.proofs.EventLemmas.{same_number}
 use Rattle.run_order.proofs.SourceLemmas.{is_itself}
@@ -19,11 +18,10 @@ use Rattle.actor_turn.specs.Held.{Held, first_of, new_entries, posts_behind, pos
 use Rattle.actor_turn.proofs.PostsLemmas.{length-posts_behind}
 use Rattle.actor_cells.specs.Lawful.{IsAmong, noted}
 use Rattle.actor_cells.proofs.CellLemmas.{prefix-refl}
-use Rattle.actor_cells.proofs.LinkLemmas.{has_count}
 use Rattle.pool_settling.specs.Standing.{GoesOn, StandsBy, actor_count, arrivals_of, feed_count}
 use Rattle.pool_settling.specs.Ends.{GoOn}
-use Rattle.pool_settling.specs.Rounds.{AreMembers, Brings, BringsPosts, Came, HaveFeeds, IsMember, NoneWait, NoneWaits, StandAs, StandFed, Went, all_work, work_of}
-use Rattle.pool_settling.proofs.EndLemmas.{get_here, go_refl, go_trans, same_or_not, set_get, set_get_other, set_or, set_or_other, some_is}
+use Rattle.pool_settling.specs.Rounds.{AreMembers, Brings, BringsPosts, Came, IsMember, NoneWaits, StandAs, StandFed, all_work, work_of}
+use Rattle.pool_settling.proofs.EndLemmas.{go_refl, go_trans, same_or_not, set_get, set_get_other, set_or, set_or_other, some_is}
 use Rattle.pool_settling.proofs.StandLemmas.{Steps, on_refl, stepped, stepped_on}
 use Rattle.pool_settling.proofs.WorkLemmas.{step_work, sum_set}
 

@@ -1,21 +1,17 @@
 -- What is left of feeds: a post that arrived, and the posts of one list after the other.
-use Rattle.std.proofs.Common.{◌≡◌, ◌∙◌, ◌⊎◌, inl, inr, ℕ, zero, suc, ◌+◌, ◌<◌, ◌≤◌, List, [], ◌∷◌, ◌++◌, length, map, set, take, Bool, true, false, Option, None, Some, slice_get, refl, ap, sym, subst, arith, append_assoc}
+use Rattle.std.proofs.Common.{◌≡◌, ◌∙◌, inr, ℕ, zero, suc, ◌+◌, ◌<◌, ◌≤◌, List, [], ◌∷◌, ◌++◌, length, set, take, Bool, true, false, Option, None, Some, slice_get, refl, ap, sym, subst, arith, append_assoc}
 use Rattle.std.specs.Prelude.{if◌then◌else◌, ◌==◌, ◌&&◌}
 use Rattle.std.specs.List.{cons_option, filter_map}
 use Rattle.std.proofs.lemmas.List.{append-nil, length-set}
 use Rattle.std.proofs.lemmas.List.Elements.{filter_map-append}
-use Rattle.join_base.specs.Late.{HasCount}
 use Rattle.join_base.specs.declared.message.Message.{Message}
-use Rattle.join_base.specs.declared.message.Source.{Source}
 use Rattle.join_base.specs.declared.message.Source.TheVariants.{Feed, Actor}
 use Rattle.join_base.specs.declared.message.Stamped.{Stamped}
-use Rattle.fair_semantics.specs.Linked.{feed_posts, post_for, same_source}
+use Rattle.fair_semantics.specs.Linked.{feed_posts, post_for}
 use Rattle.run_order.proofs.EventLemmas.{same_number}
 use Rattle.run_order.proofs.SourceLemmas.{is_itself, not_equal}
 use Rattle.actor_turn.specs.Held.{Held}
-use Rattle.actor_cells.specs.Lawful.{IsAmong}
-use Rattle.actor_cells.proofs.LinkLemmas.{has_count}
-use Rattle.pool_settling.specs.Standing.{GoesOn, StandsBy, actor_count, feed_count}
+use Rattle.pool_settling.specs.Standing.{StandsBy, feed_count}
 use Rattle.pool_settling.specs.Ends.{GoOn}
 use Rattle.pool_settling.specs.Rounds.{AreMembers, Came, HaveFeeds, IsFedMore, IsFedRest, StandAs, StandFed, fed_more, fed_rest}
 use Rattle.pool_settling.proofs.EndLemmas.{go_trans}

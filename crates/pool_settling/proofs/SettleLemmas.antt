@@ -13,7 +13,7 @@ use Rattle.join_base.specs.declared.message.Source.TheVariants.{Feed, Actor}
 use Rattle.join_base.specs.declared.message.Stamped.{Stamped}
 use Rattle.script_types.specs.declared.plan.Plan.{Plan}
 use Rattle.script_types.specs.declared.plan.Rule.{Rule}
-use Rattle.script_types.specs.Typed.{IsTyped, kind_types}
+use Rattle.script_types.specs.Typed.{IsTyped}
 use Rattle.fair_semantics.specs.declared.run.ActorRun.{ActorRun}
 use Rattle.fair_semantics.specs.declared.run.Limits.{Limits}
 use Rattle.fair_semantics.specs.declared.run.Run.{Run}
@@ -30,20 +30,19 @@ use Rattle.schedule_law.specs.Given.{AreFair, IsFairOf, sent_by}
 use Rattle.schedule_law.specs.Reached.{IsServable, NothingWaits}
 use Rattle.schedule_law.proofs.FairLemmas.{fair_is_linked}
 use Rattle.schedule_law.proofs.WorkLemmas.{small_rules}
-use Rattle.actor_turn.specs.Held.{AreLimits, Held, posts_for}
+use Rattle.actor_turn.specs.Held.{AreLimits, Held}
 use Rattle.cell_links.specs.declared.poster.Poster.{Poster}
-use Rattle.cell_links.specs.Ends.{poster_links, sent_to}
+use Rattle.cell_links.specs.Ends.{sent_to}
 use Rattle.actor_cells.specs.declared.cell.Cell.{Cell}
-use Rattle.actor_cells.specs.declared.cell.CellTag.{CellTag}
 use Rattle.actor_cells.specs.Lawful.{IsAmong, cell_tag, history_of, noted}
 use Rattle.actor_cells.proofs.CellLemmas.{prefix-trans}
 use Rattle.cell_settling.specs.Settled.{AreTagsOf, IsTagOf, cell_sent, poster_sent, went}
-use Rattle.pool_settling.specs.Standing.{GoesOn, StandsBy, actor_count, arrivals_of, feed_count}
+use Rattle.pool_settling.specs.Standing.{actor_count, arrivals_of, feed_count}
 use Rattle.pool_settling.specs.Drained.{AreDrained}
 use Rattle.pool_settling.specs.Ends.{GoOn}
-use Rattle.pool_settling.specs.Rounds.{AreMembers, BringsPosts, HaveFeeds, IsFedRest, IsMember, NoneWait, StandFed, fed_rest, run_in}
-use Rattle.pool_settling.specs.Settling.{AreFeedsWith, GoesOnFrom, IsLinkedToAll, IsScheduledOverAll}
-use Rattle.pool_settling.proofs.EndLemmas.{go_trans, some_is}
+use Rattle.pool_settling.specs.Rounds.{AreMembers, BringsPosts, HaveFeeds, IsFedRest, NoneWait, StandFed, fed_rest, run_in}
+use Rattle.pool_settling.specs.Settling.{GoesOnFrom, IsLinkedToAll, IsScheduledOverAll}
+use Rattle.pool_settling.proofs.EndLemmas.{go_trans}
 use Rattle.pool_settling.proofs.BringLemmas.{get_within, stands_to, there}
 
 -- ---- lists

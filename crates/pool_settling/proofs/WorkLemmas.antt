@@ -1,7 +1,7 @@
 -- An arrival leaves no more work: it records a message only where there is room, and a body makes at most 16 posts.
-use Rattle.std.proofs.Common.{◌≡◌, ◌∙◌, ℕ, zero, suc, ◌+◌, ◌-◌, ◌*◌, ◌<◌, ◌≤◌, List, [], ◌∷◌, ◌++◌, length, length-append, set, get_or, drop, Bool, true, false, Option, None, Some, slice_get, refl, ap, sym, subst, arith}
+use Rattle.std.proofs.Common.{◌≡◌, ◌∙◌, ℕ, zero, suc, ◌+◌, ◌-◌, ◌*◌, ◌<◌, ◌≤◌, List, [], ◌∷◌, ◌++◌, length, length-append, set, drop, Bool, true, false, Option, None, Some, slice_get, refl, ap, sym, arith}
 use Rattle.std.specs.Prelude.{if◌then◌else◌, nat_le, nat_lt}
-use Rattle.std.specs.List.{AllByRecursion, cons_option, filter_map, sum_by}
+use Rattle.std.specs.List.{AllByRecursion, sum_by}
 use Rattle.std.proofs.lemmas.Bool.Decides.{nat_tests}
 use Rattle.std.proofs.lemmas.List.Sums.{sum_by-cons}
 use Rattle.std.proofs.Math.Seq.{drop-append_seam}
@@ -21,11 +21,10 @@ use Rattle.fair_semantics.specs.Body.{effects_of, stops}
 use Rattle.fair_semantics.specs.Step.{Arrival, Setting, State, Stepped, body_at, body_of, by_choice, definitions_of, entry_with, fair_step, firing_of, is_refused, is_running, letters_with, live_with, recorded, running_step, step_by}
 use Rattle.fair_semantics.proofs.ListLemmas.{each_at}
 use Rattle.fair_semantics.proofs.TakenLemmas.{or_parts}
-use Rattle.actor_turn.specs.Held.{Held, new_entries, posts_behind, posts_for}
-use Rattle.actor_turn.specs.Sent.{delivered, post_of, sent_by}
+use Rattle.actor_turn.specs.Held.{new_entries, posts_behind, posts_for}
+use Rattle.actor_turn.specs.Sent.{delivered, sent_by}
 use Rattle.actor_turn.proofs.BodiesLemmas.{posts_few}
 use Rattle.actor_turn.proofs.PostsLemmas.{fired_posts, no_posts, unfired_posts}
-use Rattle.pool_settling.specs.Rounds.{all_work, work_of}
 
 -- ---- sums
 

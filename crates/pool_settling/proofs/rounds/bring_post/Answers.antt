@@ -1,4 +1,4 @@
-use Rattle.std.proofs.Common.{◌∙◌, List, set, sym, subst, arith}
+use Rattle.std.proofs.Common.{◌∙◌, List, set, sym, arith}
 use Rattle.std.proofs.lemmas.List.{length-set}
 use Rattle.actor_turn.specs.Held.{Held}
 use Rattle.pool_settling.proofs.EndLemmas.{get_here}

@@ -1,6 +1,4 @@
-use Rattle.std.proofs.Common.{◌≡◌, length, map, refl, arith}
-use Rattle.fair_semantics.specs.declared.run.Run.{Run}
-use Rattle.pool_settling.specs.Rounds.{run_in}
+use Rattle.std.proofs.Common.{◌≡◌, length, arith}
 use Rattle.pool_settling.proofs.SettleLemmas.{drained_feeds, drained_members, run_from, run_linked, run_scheduled}
 use Rattle.pool_settling.proofs.settling.settle_with.Goals as goal
 
