@@ -4,7 +4,7 @@ use Rattle.std.specs.Prelude.{if◌then◌else◌, ◌==◌, ◌&&◌, ◌||◌}
 use Rattle.std.specs.List.{AllByRecursion, sum_by}
 use Rattle.std.proofs.lemmas.Bool.{cases_lt}
 use Rattle.std.proofs.lemmas.List.{length-set}
-use Rattle.std.proofs.lemmas.Option.{slice_get-get_or}
+use Rattle.std.proofs.lemmas.Option.{slice_get-get_or, slice_get_within}
 use mathlib.Core.List.{IsPrefix}
 use Rattle.join_base.specs.declared.message.Source.{Source}
 use Rattle.join_base.specs.declared.message.Source.TheVariants.{Actor}
@@ -27,11 +27,6 @@ use Rattle.pool_settling.proofs.WorkLemmas.{step_work, sum_set}
 
 -- ---- one actor of a list
 
-pub get_within : {X : Type 0} (xs : List X) (k : ℕ) (x : X) → slice_get xs k ≡ Some x → k < length xs
-get_within [] k x e = absurd cc
-get_within (y ∷ xs) zero x e = omega arith
-get_within (y ∷ xs) (suc k) x e = let l = get_within xs k x e in omega (arith, l)
-
 pub there : {X : Type 0} (xs : List X) (k : ℕ) → k < length xs → (x : X) × (slice_get xs k ≡ Some x)
 there [] k l = absurd (omega arith)
 there (x ∷ xs) zero l = (x, refl)
@@ -48,7 +43,7 @@ module _ (helds : List Held) (k : ℕ) (before after : Held) (at : slice_get hel
       by : (actor ≡ k) ⊎ (¬ (actor ≡ k)) → P actor held
       by (inr other) = others actor held other (sym (set_get_other helds k actor after other) ∙ is)
       by (inl e) =
-          let is_after : after ≡ held = some_is after held (sym (set_get helds k after (get_within helds k before at)) ∙ ap (slice_get nows) (sym e) ∙ is) in
+          let is_after : after ≡ held = some_is after held (sym (set_get helds k after (slice_get_within helds k before at)) ∙ ap (slice_get nows) (sym e) ∙ is) in
           subst (λ (x : ℕ × Held). P x.0 x.1) (λ i. (sym e i, is_after i)) mine
 
   pub go_set : GoesOn before after → GoOn helds nows
@@ -207,7 +202,7 @@ module _ (helds : List Held) (members : AreMembers helds) (sender target : ℕ) 
 
   pub from_known : IsAmong (feed_count b) (actor_count b) (Actor sender)
   from_known =
-      let l = get_within helds sender before at in
+      let l = slice_get_within helds sender before at in
       let n = length-set helds sender after in
       let known = (mid_members target b here).known in
       omega (arith, l, n, known)

@@ -4,6 +4,7 @@ use Rattle.std.specs.Prelude.{if◌then◌else◌, ◌==◌, ◌&&◌}
 use Rattle.std.specs.List.{cons_option, filter_map}
 use Rattle.std.proofs.lemmas.List.{append-nil, length-set}
 use Rattle.std.proofs.lemmas.List.Elements.{filter_map-append}
+use Rattle.std.proofs.lemmas.Option.{slice_get_within}
 use Rattle.join_base.specs.declared.message.Message.{Message}
 use Rattle.join_base.specs.declared.message.Source.TheVariants.{Feed, Actor}
 use Rattle.join_base.specs.declared.message.Stamped.{Stamped}
@@ -16,7 +17,7 @@ use Rattle.pool_settling.specs.Ends.{GoOn}
 use Rattle.pool_settling.specs.Rounds.{AreMembers, Came, HaveFeeds, IsFedMore, IsFedRest, StandAs, StandFed, fed_more, fed_rest}
 use Rattle.pool_settling.proofs.EndLemmas.{go_trans}
 use Rattle.pool_settling.proofs.StandLemmas.{Steps, stepped, stepped_on}
-use Rattle.pool_settling.proofs.BringLemmas.{came_here, came_other, each_set, get_within, go_set, members_set, one_came, other_is, stands_to, step_boxes, there}
+use Rattle.pool_settling.proofs.BringLemmas.{came_here, came_other, each_set, go_set, members_set, one_came, other_is, stands_to, step_boxes, there}
 
 abbrev Fed : Type 0
 Fed = ℕ → ℕ → List Stamped
@@ -28,7 +29,7 @@ fed_same fed these helds same s = record { came = s.came; from_feeds = λ actor 
 
 pub have_on : (feeds : ℕ) (olds nows : List Held) → HaveFeeds feeds olds → GoOn olds nows → HaveFeeds feeds nows
 have_on feeds olds nows have on actor held is =
-    let l = get_within nows actor held is in
+    let l = slice_get_within nows actor held is in
     let n = on.count in
     let w = there olds actor (omega (arith, l, n)) in
     let same = (on.each actor w.0 held w.1 is).feeds in

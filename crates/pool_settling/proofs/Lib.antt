@@ -6,3 +6,4 @@ pub mod WorkLemmas
 pub mod BringLemmas
 pub mod FeedLemmas
 pub mod SettleLemmas
+pub mod TestLemmas

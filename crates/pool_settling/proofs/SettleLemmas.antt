@@ -5,7 +5,7 @@ use Rattle.std.specs.List.{AllByRecursion, flat_map}
 use Rattle.std.proofs.lemmas.Bool.{cases_lt}
 use Rattle.std.proofs.lemmas.Bool.Decides.{nat_tests}
 use Rattle.std.proofs.lemmas.List.{append-nil, length-map}
-use Rattle.std.proofs.lemmas.Option.{slice_get_past}
+use Rattle.std.proofs.lemmas.Option.{slice_get_past, slice_get_within}
 use mathlib.Core.List.{IsPrefix}
 use Rattle.join_base.specs.declared.message.Message.{Message}
 use Rattle.join_base.specs.declared.message.Source.{Source}
@@ -43,14 +43,10 @@ use Rattle.pool_settling.specs.Ends.{GoOn}
 use Rattle.pool_settling.specs.Rounds.{AreMembers, BringsPosts, HaveFeeds, IsFedRest, NoneWait, StandFed, fed_rest, run_in}
 use Rattle.pool_settling.specs.Settling.{GoesOnFrom, IsLinkedToAll, IsScheduledOverAll}
 use Rattle.pool_settling.proofs.EndLemmas.{go_trans}
-use Rattle.pool_settling.proofs.BringLemmas.{get_within, stands_to, there}
+use Rattle.pool_settling.proofs.StartLemmas.{map_get}
+use Rattle.pool_settling.proofs.BringLemmas.{stands_to, there}
 
 -- ---- lists
-
-map_get : {X Y : Type 0} (f : X → Y) (xs : List X) (k : ℕ) (x : X) → slice_get xs k ≡ Some x → slice_get (map f xs) k ≡ Some (f x)
-map_get f [] k x e = absurd cc
-map_get {X} f (y ∷ xs) zero x e = let same : y ≡ x = cc in ap (λ (z : X). Some (f z)) same
-map_get f (y ∷ xs) (suc k) x e = map_get f xs k x e
 
 none_past : {X : Type 0} (xs : List X) (k : ℕ) → slice_get xs k ≡ None → length xs ≤ k
 none_past [] k e = omega arith
@@ -75,7 +71,7 @@ of_on plan limits feeds olds nows are on = record {
 }
   where
     was : (actor : ℕ) (held : Held) → slice_get nows actor ≡ Some held → (x : Held) × (slice_get olds actor ≡ Some x)
-    was actor held is = let l = get_within nows actor held is in let n = on.count in there olds actor (omega (arith, l, n))
+    was actor held is = let l = slice_get_within nows actor held is in let n = on.count in there olds actor (omega (arith, l, n))
 
 -- ---- drained actors
 
@@ -84,7 +80,7 @@ module _ (plan : Plan) (limits : Limits) (posters : List Poster) (cells : List C
   cell_count = sym (length-map cells cell_tag) ∙ tags.count
 
   cell_of : (actor : ℕ) (held : Held) → slice_get helds actor ≡ Some held → (c : Cell) × (slice_get cells actor ≡ Some c)
-  cell_of actor held is = let l = get_within helds actor held is in let n = drained.count in there cells actor (omega (arith, l, n))
+  cell_of actor held is = let l = slice_get_within helds actor held is in let n = drained.count in there cells actor (omega (arith, l, n))
 
   tag_of : (actor : ℕ) (c : Cell) → slice_get cells actor ≡ Some c → IsTagOf plan limits (length posters) actor (cell_tag c)
   tag_of actor c at = tags.each actor (cell_tag c) (map_get cell_tag cells actor c at)
@@ -199,7 +195,7 @@ module _ (plan : Plan) (limits : Limits) (feeds : List (List (ℕ × Message))) 
             | inr k ↦ absurd (omega (arith, k, past, are.count, are.actor_counts actor h.0 h.1))
           ]
       by (Some held) e =
-          sym (append-nil (s.came actor (Actor a))) ∙ ap (λ (posts : List Stamped). s.came actor (Actor a) ++ posts) (sym (none a (get_within helds a held e) actor (subst (λ (n : ℕ). actor < n) (sym are.count) l) held e))
+          sym (append-nil (s.came actor (Actor a))) ∙ ap (λ (posts : List Stamped). s.came actor (Actor a) ++ posts) (sym (none a (slice_get_within helds a held e) actor (subst (λ (n : ℕ). actor < n) (sym are.count) l) held e))
           ∙ (s.stand a held e).posted actor (subst (λ (n : ℕ). actor < n) (sym (are.actor_counts a held e)) l)
 
   came_all : (source : Source) (actor : ℕ) → actor < length plan.actors → s.came actor source ≡ sent_by feeds system source actor
@@ -297,7 +293,7 @@ module _ (plan : Plan) (limits : Limits) (posters : List Poster) (cells : List C
     count = ap (λ (r : Run). length r.actors) is ∙ length-map third run_in ∙ on.count ∙ drained.count;
     history = λ actor cell own at mine.
         let m = mapped_at run_in third actor own (ap (λ (r : Run). slice_get r.actors actor) (sym is) ∙ mine) in
-        let h = there first actor (let l = get_within third actor m.0 m.1 in let n = on.count in omega (arith, l, n)) in
+        let h = there first actor (let l = slice_get_within third actor m.0 m.1 in let n = on.count in omega (arith, l, n)) in
         subst (λ (r : ActorRun). IsPrefix (history_of cell) (map noted r.entries)) m.2
         (prefix-trans (arrivals_of cell.actor) (arrivals_of h.0) (arrivals_of m.0) (drained.each actor cell h.0 at h.1).on.history (on.each actor h.0 m.0 h.1 m.1).history);
   }

@@ -21,6 +21,7 @@ use Rattle.fair_semantics.specs.Body.{effects_of, stops}
 use Rattle.fair_semantics.specs.Step.{Arrival, Setting, State, Stepped, body_at, body_of, by_choice, definitions_of, entry_with, fair_step, firing_of, is_refused, is_running, letters_with, live_with, recorded, running_step, step_by}
 use Rattle.fair_semantics.proofs.ListLemmas.{each_at}
 use Rattle.fair_semantics.proofs.TakenLemmas.{or_parts}
+use Rattle.schedule_law.proofs.WorkLemmas.{AreSmall}
 use Rattle.actor_turn.specs.Held.{new_entries, posts_behind, posts_for}
 use Rattle.actor_turn.specs.Sent.{delivered, sent_by}
 use Rattle.actor_turn.proofs.BodiesLemmas.{posts_few}
@@ -66,10 +67,6 @@ all_more (s ∷ sent) outbox =
     omega (arith, here, later)
 
 -- ---- a step
-
--- no body of these rules has more than 16 statements
-abbrev pub AreSmall : List Rule → Type 0
-AreSmall rules = AllByRecursion (λ (rule : Rule). length rule.body ≤ 16) rules
 
 small_body : (rules : List Rule) (rule : ℕ) → AreSmall rules → length (body_at rules rule) ≤ 16
 small_body rules rule small = by (slice_get rules (rule - 1)) refl

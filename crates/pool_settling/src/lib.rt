@@ -12,7 +12,8 @@
 //! (`AreFeedsWith`), that it is that of one schedule over them, and that each actor's arrivals begin with the history of its cell
 //! (`GoesOnFrom`), so that no run made anew will do. In between it sees of an actor whether it stands by what came and what went
 //! (`StandsBy`): its state is the fair semantics of what came from each source, and what went to each target and then what waits for
-//! it is what its bodies posted. Both sides of each post that is brought grow by it. The crate has no tests.
+//! it is what its bodies posted. Both sides of each post that is brought grow by it. That the calls answer something else than
+//! `NoMemory` is tested, on 600 posts to one actor.
 #![tactic(auto)]
 
 mod apart;
@@ -20,6 +21,8 @@ mod draining;
 mod ends;
 mod rounds;
 mod settling;
+#[cfg(test)]
+mod tests;
 
 pub use draining::drain_links;
 pub use settling::{settle, settle_with};
