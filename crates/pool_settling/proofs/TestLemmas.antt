@@ -1,16 +1,14 @@
 -- What the tests need: cells that were prepared and served, and posters that posted.
-use Rattle.std.proofs.Common.{◌≡◌, ◌∙◌, ℕ, zero, suc, List, [], ◌∷◌, length, map, set, Some, slice_get, refl, ap, sym, subst}
+use Rattle.std.proofs.Common.{◌≡◌, ◌∙◌, ℕ, zero, suc, List, [], ◌∷◌, length, map, set, Some, slice_get, ap, subst}
 use Rattle.std.specs.Prelude.{Result}
-use Rattle.std.proofs.lemmas.List.{length-map, length-replicate, length-set}
+use Rattle.std.proofs.lemmas.List.{length-map, length-replicate}
 use Rattle.join_base.specs.declared.items.NoMemory.{NoMemory}
 use Rattle.script_types.specs.declared.plan.Plan.{Plan}
 use Rattle.fair_semantics.specs.declared.run.Limits.{Limits}
 use Rattle.fair_semantics.proofs.ListLemmas.{mapped_at}
 use Rattle.actor_turn.specs.Held.{Held, new_actor}
 use Rattle.cell_links.specs.declared.poster.Poster.{Poster}
-use Rattle.cell_links.specs.Ends.{PosterTag, link_count, outward_tag, poster_links, poster_tag}
 use Rattle.actor_cells.specs.declared.cell.Cell.{Cell}
-use Rattle.actor_cells.specs.declared.cell.CellTag.{CellTag}
 use Rattle.actor_cells.specs.declared.serving.Turned.{Turned}
 use Rattle.actor_cells.specs.Lawful.{cell_tag}
 use Rattle.actor_cells.specs.Prepared.{ArePrepared, IsServedAt}

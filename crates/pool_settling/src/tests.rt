@@ -101,11 +101,7 @@ fn served<L: Ledger>(
 }
 
 // What three serves answer after 600 posts, and the run that is settled then.
-fn settled<L: Ledger>(
-    alloc: Global,
-    plan: &Plan,
-    blank: Blank,
-) -> Result<([Turned; 3], Run), Fail>
+fn settled<L: Ledger>(alloc: Global, plan: &Plan, blank: Blank) -> Result<([Turned; 3], Run), Fail>
     requires name { blank.name ≡ L.name }
     requires parts { blank.parts ≡ L.parts }
     requires some { 0 < L.parts }
