@@ -179,7 +179,7 @@ fn visit_nodes<L: Ledger>(
     if wanted.len() == 0 {
         return Ok(None);
     }
-    let screen = screen_of(offer, slots, pattern, wanted);
+    let screen = screen_of(offer, slots, pattern, wanted, nodes.len());
     for place in 0..nodes.len() {
         let node = &mut nodes[place];
         if is_worth(offer, slots, pattern, &screen, node.number()) {
