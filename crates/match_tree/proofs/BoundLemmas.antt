@@ -1,16 +1,15 @@
 -- Comparisons of sums as comparisons of one leaf.
-use Rattle.std.proofs.Common.{◌≡◌, ◌∙◌, ℕ, Bool, true, false, not, List, [], ◌∷◌, Option, Some, None, pos, neg_ℤ, ◌+ℤ◌, refl, sym, ap, arith}
+use Rattle.std.proofs.Common.{◌≡◌, ◌∙◌, ℕ, Bool, true, false, not, List, [], ◌∷◌, Some, None, pos, neg_ℤ, ◌+ℤ◌, refl, sym, ap, arith}
 use Rattle.std.proofs.lemmas.Int.{ints}
 use Rattle.std.specs.Prelude.{ℤ, int_lt, int_le, if◌then◌else◌}
 use Rattle.std.specs.Ordering.{int_eq}
 use Rattle.std.proofs.lemmas.Bool.Decides.{Decides-int_eq}
-use Rattle.join_base.specs.declared.message.Message.{Message}
 use Rattle.join_base.specs.declared.message.Relation.{Relation}
 use Rattle.join_base.specs.declared.message.Relation.TheVariants.{Equal, NotEqual, Less, LessEqual, Greater, GreaterEqual}
 use Rattle.guard_eval.specs.declared.term.Signed.{Signed}
 use Rattle.guard_eval.specs.Meaning.{Assignment, int_relation, signed_value, term_value}
 use Rattle.match_tree.specs.Offers.{Offered}
-use Rattle.match_tree.specs.Bound.{AddsLeaf, BoundsSplits, IsPair, IsSplit, int_at, meets, own_value, split_value, turned}
+use Rattle.match_tree.specs.Bound.{AddsLeaf, BoundsSplits, IsPair, IsSplit, int_at, own_value, split_value, turned}
 use Rattle.match_tree.specs.declared.bound.Bound.{Bound}
 use Rattle.match_tree.specs.declared.bound.Own.{Own}
 use Rattle.match_tree.specs.declared.bound.Split.{Split}

@@ -1,4 +1,4 @@
-use Rattle.std.proofs.Common.{◌∙◌, sym, ap, subst}
+use Rattle.std.proofs.Common.{subst}
 use Rattle.std.proofs.lemmas.Option.{IfSome_then}
 use Rattle.join_base.specs.declared.message.Relation.{Relation}
 use Rattle.match_tree.specs.Bound.{BoundsSplits}

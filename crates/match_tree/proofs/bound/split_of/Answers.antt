@@ -1,4 +1,4 @@
-use Rattle.std.proofs.Common.{◌≡◌, ◌∙◌, ◌+◌, ℕ, List, [], ◌∷◌, false, pos, sym, ap, arith, drop, get_or, length}
+use Rattle.std.proofs.Common.{◌+◌, ℕ, List, false, pos, arith, drop, get_or}
 use Rattle.std.proofs.lemmas.List.{drop_more, drop_all}
 use Rattle.guard_eval.specs.declared.term.Signed.{Signed}
 use Rattle.guard_eval.specs.declared.term.Leaf.TheVariants.{Number}
