@@ -15,6 +15,7 @@ pub mod RowsLemmas
 pub mod PruneLemmas
 pub mod CountLemmas
 pub mod OpenLemmas
+pub mod SkipLemmas
 pub mod RootLemmas
 pub mod KeptLemmas
 pub mod ReserveLemmas

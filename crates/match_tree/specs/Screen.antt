@@ -1,5 +1,5 @@
 -- A test of the numbers of a row: behind those that fail it, no wanted pattern may take the offered number.
-use Rattle.std.specs.Prelude.{◌≡◌, ℕ, List, [], ◌∷◌, Bool, true, Option, Some, None, IfSome, slice_get}
+use Rattle.std.specs.Prelude.{false, ◌≡◌, ℕ, List, [], ◌∷◌, Bool, true, Option, Some, None, IfSome, slice_get, slice_index_or, ◌<◌, ◌≤◌}
 use Rattle.std.specs.List.{AllByRecursion}
 use Rattle.std.specs.Ordering.{int_eq}
 use Rattle.join_base.specs.declared.message.Message.{Message}
@@ -10,7 +10,7 @@ use Rattle.pattern_core.specs.Members.{IsIn}
 use Rattle.match_tree.specs.declared.bound.Bound.{Bound}
 use Rattle.match_tree.specs.declared.screen.Key.{Key}
 use Rattle.match_tree.specs.declared.screen.Screen.{Screen}
-use Rattle.match_tree.specs.Routes.{with_number}
+use Rattle.match_tree.specs.Routes.{Branch, with_number}
 use Rattle.match_tree.specs.Bound.{Says, int_at}
 use Rattle.match_tree.specs.Offers.{Offered}
 
@@ -50,3 +50,11 @@ passes letters (Some key) number = int_eq (int_at letters number key.field) key.
 pub record IsWith (slots : Assignment) (pattern number : ℕ) (longer : Assignment) : Type 0 where
   pub free : slice_get slots pattern ≡ Some None
   pub is : longer ≡ with_number slots pattern number
+
+abbrev pub key_of : Option Screen → Option Key
+key_of None = None
+key_of (Some screen) = screen.key
+
+-- the nodes between the two places have not the key's value
+abbrev pub AreLacking : List Message → Option Key → List Branch → ℕ → ℕ → Type 0
+AreLacking letters key nodes from to = (i : ℕ) → from ≤ i → i < to → (d : Branch) → passes letters key (slice_index_or nodes i d).number ≡ false

@@ -1,19 +1,21 @@
 //! Tests of the numbers of a row that are cheaper than a try. Which conjuncts are decided by the row's pattern and the wanted one
 //! is found once for the row, and only these are looked at. Where such a conjunct compares one field of the row with what is known,
 //! it is enough to read that field, and an equality is looked at first.
-ghost use Rattle.std.specs.Prelude.{◌≡◌, ◌⊎◌, ◌<◌, ◌++◌, ◌∷◌, [], length, slice_get, Some, None, true, false, not, ◌==◌, nat_le, IfSome};
+ghost use Rattle.std.specs.Prelude.{◌≡◌, ◌⊎◌, ◌<◌, ◌≤◌, ◌++◌, ◌∷◌, [], length, slice_get, Some, None, true, false, not, ◌==◌, nat_le, IfSome};
 ghost use Rattle.std.specs.List.{filter, AllByRecursion};
 ghost use Rattle.pattern_core.specs.Matches.{is_agreeable};
 ghost use Rattle.pattern_core.specs.Suits.{DefinitionSuits, SlotsSuit};
 ghost use Rattle.match_tree.specs.Routes.{with_number};
 ghost use Rattle.match_tree.specs.Offers.{takers};
 ghost use Rattle.match_tree.specs.Offering.{offered, CanOffer};
-ghost use Rattle.match_tree.specs.Screen.{AreTests, IsDecidedAt, IsWith, Screens, as_bound, passes};
+ghost use Rattle.match_tree.specs.Screen.{AreLacking, AreTests, IsDecidedAt, IsWith, Screens, as_bound, key_of};
 
 use crate::bound::{Bound, Bounds, bound_of, int_at, meets_all};
+use crate::node::Node;
 use crate::offer::Offer;
 use guard_eval::{decided, holds};
-use join_base::{Numbers, Relation, Slots};
+use join_base::{Message, Numbers, Relation, Slots};
+use std::collections::VecDeque;
 
 /// The value that a number of the row has to have at a field.
 #[derive(Clone, Copy, PartialEq, Eq, Debug)]
@@ -58,7 +60,7 @@ fn decides(offer: &Offer<'_>, slots: &Slots, place: u32) -> bool
 }
 
 // The equality that the bound is, where it is one.
-fn key_of(bound: Bound) -> Option<Key>
+fn as_key(bound: Bound) -> Option<Key>
     ensures { IfSome result (λ key. as_bound key ≡ bound) }
 {
     if bound.relation != Relation::Equal {
@@ -82,7 +84,7 @@ fn add_bound(screen: &mut Screen, bound: Bound)
     ensures key { (screen.new.key ≡ screen.old.key) ⊎ IfSome screen.new.key (λ key. as_bound key ≡ bound) }
 {
     if screen.key.is_none() {
-        screen.key = key_of(bound);
+        screen.key = as_key(bound);
         if screen.key.is_some() {
             return;
         }
@@ -155,15 +157,37 @@ pub fn screen_of(
     Some(tests_of(offer, pattern, *other, &shorter, &longer))
 }
 
-// Whether the number has the key's value.
-#[inline(always)]
-fn passes(offer: &Offer<'_>, key: Option<Key>, number: u32) -> bool
-    ensures { result ≡ passes offer.now.letters.now key number }
+/// The screen's key.
+pub fn key_of(screen: &Option<Screen>) -> Option<Key>
+    ensures { result ≡ key_of screen.now }
 {
-    match key {
-        None => true,
-        Some(key) => int_at(offer.letters, number, key.field) == key.value,
+    match screen {
+        None => None,
+        Some(screen) => screen.key,
     }
+}
+
+/// The first place from this one on whose number has the key's value, or the row's end.
+pub fn next_place(
+    letters: &[Message],
+    key: Option<Key>,
+    nodes: &VecDeque<Node>,
+    from: usize,
+) -> usize
+    requires within { from ≤ length nodes.now.items }
+    ensures from { from ≤ result }
+    ensures within { result ≤ length nodes.now.items }
+    ensures lacking { AreLacking letters.now key nodes.now.items from result }
+{
+    let Some(wanted) = key else {
+        return from;
+    };
+    for place in from..nodes.len() {
+        if int_at(letters, nodes[place].number(), wanted.field) == wanted.value {
+            return place;
+        }
+    }
+    nodes.len()
 }
 
 // Whether the decided conjunct at the place holds.
@@ -210,9 +234,8 @@ fn agrees(offer: &Offer<'_>, slots: &Slots, pattern: u32, screen: &Screen, numbe
     all_hold(offer, &whole, &screen.tests)
 }
 
-/// Whether a number of a row is worth a visit. It isn't where the definition no longer sees it, or no pattern may take the
-/// offered number behind it.
-#[inline(always)]
+/// Whether a number of a row that has the screen's key is worth a visit. It isn't where the definition no longer sees it, or no
+/// pattern may take the offered number behind it.
 pub fn is_worth(
     offer: &Offer<'_>,
     slots: &Slots,
@@ -232,9 +255,6 @@ pub fn is_worth(
     match screen {
         None => true,
         Some(screen) => {
-            if !passes(offer, screen.key, number) {
-                return false;
-            }
             if !meets_all(offer.letters, &screen.bounds, number) {
                 return false;
             }

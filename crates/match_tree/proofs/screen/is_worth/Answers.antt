@@ -4,18 +4,8 @@ use Rattle.match_tree.specs.declared.screen.Screen.{Screen}
 use Rattle.match_tree.specs.Offering.{offered}
 use Rattle.match_tree.specs.Screen.{Screens}
 use Rattle.match_tree.proofs.SlotsLemmas.{none_is_free}
-use Rattle.match_tree.proofs.ScreenLemmas.{lacks_key, fails_one, others}
+use Rattle.match_tree.proofs.ScreenLemmas.{fails_one, others}
 use Rattle.match_tree.proofs.screen.is_worth.Goals as goal
-
-pub returns-then-not-passes-clause-left_out : goal.returns-then-not-passes-clause-left_out
-returns-then-not-passes-clause-left_out c =
-    let a = c.args in
-    let o = offered a.offer.now in
-    let Is : Option Screen → Type 0 = λ s. IfSome s (Screens o a.slots.now a.pattern (others o a.slots.now a.pattern)) in
-    let screen = c.in-Some.screen in
-    let screens = subst Is c.in-Some.is c.requires.screen in
-    let fails = sym c.passes.ensures ∙ c.if-not-passes.true in
-    λ no. inr (lacks_key o a.slots.now a.pattern a.number screen.other (none_is_free a.slots.now a.pattern c.requires.free) screens.alone screen.key screens.tested.key fails)
 
 pub returns-then-not-meets_all-clause-left_out : goal.returns-then-not-meets_all-clause-left_out
 returns-then-not-meets_all-clause-left_out c =
