@@ -17,8 +17,10 @@ use Rattle.match_tree.specs.Routes.{Branch, node_routes, with_number}
 use Rattle.match_tree.specs.Offers.{Offered, places, is_free, may_take, takers}
 use Rattle.match_tree.specs.Offering.{CanOffer, LeadOn}
 use Rattle.match_tree.specs.Order.{IsOrderedNode}
-use Rattle.match_tree.specs.Bound.{IsPair, meets}
-use Rattle.match_tree.specs.Screen.{AreTests, IsBound, IsDecidedAt, as_bound, passes}
+use Rattle.match_tree.specs.Bound.{IsPair, is_same, meets}
+use Rattle.match_tree.proofs.BoundLemmas.{same_said}
+use Rattle.match_tree.specs.declared.bound.Same.{Same}
+use Rattle.match_tree.specs.Screen.{AreTests, IsBound, IsDecidedAt, IsSaid, as_bound, passes}
 use Rattle.match_tree.specs.declared.screen.Screen.{Screen}
 use Rattle.match_tree.specs.declared.bound.Bound.{Bound}
 use Rattle.match_tree.specs.declared.screen.Key.{Key}
@@ -186,6 +188,15 @@ module _ (o : Offered) (slots : Assignment) (q m p : ℕ) (free : is_free slots 
       by true e later = later (sym (λ i. e i && list_all (λ x. meets o.letters x m) bounds) ∙ fails)
       by false e later = unmet b h.0 e
 
+  -- where its text is another one, none may either
+  pub is_another : (same : Option Same) → IfSome same (IsSaid o (both o.number) q p) → is_same o same m ≡ false → takers o (with_number slots q m) ≡ []
+  is_another None h fails = absurd cc
+  is_another (Some same) h fails =
+      let c = h.conjunct in
+      let decided : is_decided (both m) c ≡ true = (λ i. has_some (needs_of c) && all_alike slots q m o.number p o.number (needs_of c) i) ∙ h.decided in
+      let untrue : is_true o.letters (both m) c ≡ false = same_said o q p m (both m) c same h.says beside ∙ fails in
+      disagrees o slots q m p free alone (not_agreeable o (both m) c (is_agreeable o.letters o.definition.conjuncts (both m)) refl h.is_in decided untrue)
+
 -- ---- a screen with a test more
 
 all_more : {X : Type 0} (P : X → Type 0) (xs : List X) (x : X) → AllByRecursion P xs → P x → AllByRecursion P (xs ++ x ∷ [])
@@ -197,9 +208,9 @@ key_is P None bound p h = tt
 key_is P (Some k) bound p h = subst P (sym h) p
 
 pub bound_more : (o : Offered) (whole : Assignment) (pattern : ℕ) (before now : Screen) (bound : Bound) → AreTests o whole pattern before → IsBound o whole pattern before.other bound
-    → now.other ≡ before.other → now.tests ≡ before.tests → (now.bounds ≡ before.bounds) ⊎ (now.bounds ≡ before.bounds ++ bound ∷ []) → (now.key ≡ before.key) ⊎ IfSome now.key (λ k. as_bound k ≡ bound)
+    → now.other ≡ before.other → now.same ≡ before.same → now.tests ≡ before.tests → (now.bounds ≡ before.bounds) ⊎ (now.bounds ≡ before.bounds ++ bound ∷ []) → (now.key ≡ before.key) ⊎ IfSome now.key (λ k. as_bound k ≡ bound)
     → AreTests o whole pattern now
-bound_more o whole pattern before now bound h is other tests bounds key =
+bound_more o whole pattern before now bound h is other same tests bounds key =
     let P : ℕ → Bound → Type 0 = λ n b. IsBound o whole pattern n b in
     let Keyed : Option Key → Type 0 = λ k. IfSome k (λ x. P before.other (as_bound x)) in
     let All : List Bound → Type 0 = λ bs. AllByRecursion (P before.other) bs in
@@ -214,6 +225,7 @@ bound_more o whole pattern before now bound h is other tests bounds key =
     record {
       key = subst (λ (n : ℕ). IfSome now.key (λ k. P n (as_bound k))) (sym other) keyed;
       bounds = subst (λ (n : ℕ). AllByRecursion (P n) now.bounds) (sym other) all;
+      same = subst (λ (n : ℕ). IfSome now.same (IsSaid o whole pattern n)) (sym other) (subst (λ (x : Option Same). IfSome x (IsSaid o whole pattern before.other)) (sym same) h.same);
       tests = subst (λ (ts : List ℕ). AllByRecursion (IsDecidedAt o whole) ts) (sym tests) h.tests;
     }
 

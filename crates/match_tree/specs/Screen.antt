@@ -8,10 +8,11 @@ use Rattle.guard_eval.specs.Condition.{Condition}
 use Rattle.guard_eval.specs.Meaning.{Assignment, is_decided}
 use Rattle.pattern_core.specs.Members.{IsIn}
 use Rattle.match_tree.specs.declared.bound.Bound.{Bound}
+use Rattle.match_tree.specs.declared.bound.Same.{Same}
 use Rattle.match_tree.specs.declared.screen.Key.{Key}
 use Rattle.match_tree.specs.declared.screen.Screen.{Screen}
 use Rattle.match_tree.specs.Routes.{Branch, with_number}
-use Rattle.match_tree.specs.Bound.{Says, int_at}
+use Rattle.match_tree.specs.Bound.{Says, SaysSame, int_at}
 use Rattle.match_tree.specs.Offers.{Offered}
 
 -- the equality as a bound
@@ -31,10 +32,18 @@ pub record IsBound (o : Offered) (whole : Assignment) (pattern wanted : ℕ) (bo
   pub decided : is_decided whole conjunct ≡ true
   pub says : Says o pattern wanted conjunct bound
 
+-- a decided conjunct of the definition says that these texts are equal
+pub record IsSaid (o : Offered) (whole : Assignment) (pattern wanted : ℕ) (same : Same) : Type 0 where
+  pub conjunct : Condition
+  pub is_in : IsIn conjunct o.definition.conjuncts
+  pub decided : is_decided whole conjunct ≡ true
+  pub says : SaysSame pattern wanted conjunct same
+
 -- the screen tests no more than what decided conjuncts say
 pub record AreTests (o : Offered) (whole : Assignment) (pattern : ℕ) (screen : Screen) : Type 0 where
   pub key : IfSome screen.key (λ k. IsBound o whole pattern screen.other (as_bound k))
   pub bounds : AllByRecursion (IsBound o whole pattern screen.other) screen.bounds
+  pub same : IfSome screen.same (IsSaid o whole pattern screen.other)
   pub tests : AllByRecursion (IsDecidedAt o whole) screen.tests
 
 -- one pattern is wanted, and the screen's tests are decided where it and the row's pattern have a number

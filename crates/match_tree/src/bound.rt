@@ -4,10 +4,10 @@ ghost use Rattle.std.specs.List.{list_all};
 ghost use Rattle.guard_eval.specs.Meaning.{int_relation};
 ghost use Rattle.guard_eval.specs.Shape.{conjunct_condition};
 ghost use Rattle.match_tree.specs.Offering.{offered};
-ghost use Rattle.match_tree.specs.Bound.{AddsLeaf, BoundsSplits, IsSplit, Says, int_at, meets, turned};
+ghost use Rattle.match_tree.specs.Bound.{AddsLeaf, BoundsSplits, IsSplit, Says, SaysSame, are_same, int_at, is_same, meets, turned, words_at, words_operand};
 
 use crate::offer::Offer;
-use guard_eval::{Atom, Conjunct, Leaf, Operand, Signed, Term};
+use guard_eval::{Atom, Conjunct, Leaf, Operand, Place, Signed, Term, WordsLeaf};
 use join_base::{Message, Relation, Value};
 use std::marker::Model;
 
@@ -31,6 +31,13 @@ pub struct Own {
 pub struct Split {
     pub known: i128,
     pub own: Option<Own>,
+}
+
+/// A text field of a number's message is equal to a field of the offered number's.
+#[derive(Clone, Copy, PartialEq, Eq, Debug)]
+pub struct Same {
+    pub field: u32,
+    pub other: u32,
 }
 
 /// At most 4 bounds.
@@ -244,6 +251,81 @@ pub fn bound_of(offer: &Offer<'_>, pattern: u32, wanted: u32, conjunct: &Conjunc
             solved(left, *relation, right)
         }
         _ => None,
+    }
+}
+
+// The text at a field of a recorded message, and the empty one where there is none.
+fn words_at(letters: &[Message], number: u32, field: u32) -> &[u8]
+    ensures { result.now ≡ words_at letters.now number field }
+{
+    let Some(place) = number.checked_sub(1) else {
+        return &[];
+    };
+    let Some(message) = letters.get(place as usize) else {
+        return &[];
+    };
+    match message.fields.as_slice().get(field as usize) {
+        Some(Value::Words(text)) => text.bytes(),
+        _ => &[],
+    }
+}
+
+// The field that an operand is, where it is a text field.
+fn words_field(operand: &Operand) -> Option<Place>
+    ensures { IfSome result (λ place. operand.now ≡ words_operand place) }
+{
+    match operand {
+        Operand::Words(WordsLeaf::Field(place)) => Some(*place),
+        _ => None,
+    }
+}
+
+// The two text fields that a conjunct says are equal, where it says nothing else.
+fn equal_words(conjunct: &Conjunct) -> Option<(Place, Place)>
+    ensures { IfSome result (λ fields. conjunct_condition conjunct.now ≡ are_same fields.0 fields.1) }
+{
+    match conjunct.atoms.as_slice() {
+        [
+            Atom::Compare {
+                left,
+                relation: Relation::Equal,
+                right,
+            },
+        ] => Some((words_field(left)?, words_field(right)?)),
+        _ => None,
+    }
+}
+
+/// The text fields of the row and of the offered number that a conjunct says are equal.
+pub fn same_of(pattern: u32, wanted: u32, conjunct: &Conjunct) -> Option<Same>
+    ensures { IfSome result (SaysSame pattern wanted (conjunct_condition conjunct.now)) }
+{
+    let (first, second) = equal_words(conjunct)?;
+    if first.pattern == pattern && second.pattern == wanted {
+        return Some(Same {
+            field: first.field,
+            other: second.field,
+        });
+    }
+    if second.pattern == pattern && first.pattern == wanted {
+        return Some(Same {
+            field: second.field,
+            other: first.field,
+        });
+    }
+    None
+}
+
+/// Whether the number's text is that of the offered number.
+pub fn is_same(offer: &Offer<'_>, same: Option<Same>, number: u32) -> bool
+    ensures { result ≡ is_same (offered offer.now) same number }
+{
+    match same {
+        None => true,
+        Some(same) => {
+            words_at(offer.letters, number, same.field)
+                == words_at(offer.letters, offer.number, same.other)
+        }
     }
 }
 

@@ -10,7 +10,7 @@ ghost use Rattle.match_tree.specs.Offers.{takers};
 ghost use Rattle.match_tree.specs.Offering.{offered, CanOffer};
 ghost use Rattle.match_tree.specs.Screen.{AreLacking, AreTests, IsDecidedAt, IsWith, Screens, as_bound, key_of};
 
-use crate::bound::{Bound, Bounds, bound_of, int_at, meets_all};
+use crate::bound::{Bound, Bounds, Same, bound_of, int_at, is_same, meets_all, same_of};
 use crate::node::Node;
 use crate::offer::Offer;
 use guard_eval::{decided, holds};
@@ -31,6 +31,7 @@ pub struct Screen {
     pub other: u32,
     pub key: Option<Key>,
     pub bounds: Bounds,
+    pub same: Option<Same>,
     /// The places of further conjuncts, at most 8.
     pub tests: Numbers,
 }
@@ -79,6 +80,7 @@ fn as_key(bound: Bound) -> Option<Key>
 fn add_bound(screen: &mut Screen, bound: Bound)
     requires few { length screen.old.bounds < 4 }
     ensures other { screen.new.other ≡ screen.old.other }
+    ensures same { screen.new.same ≡ screen.old.same }
     ensures tests { screen.new.tests ≡ screen.old.tests }
     ensures bounds { (screen.new.bounds ≡ screen.old.bounds) ⊎ (screen.new.bounds ≡ screen.old.bounds ++ bound ∷ []) }
     ensures key { (screen.new.key ≡ screen.old.key) ⊎ IfSome screen.new.key (λ key. as_bound key ≡ bound) }
@@ -106,6 +108,12 @@ fn add_test(offer: &Offer<'_>, whole: &Slots, pattern: u32, place: u32, screen: 
             return;
         }
     }
+    if screen.same.is_none() {
+        screen.same = same_of(pattern, screen.other, conjunct);
+        if screen.same.is_some() {
+            return;
+        }
+    }
     if screen.tests.len() < 8 {
         screen.tests.push(place);
     }
@@ -123,6 +131,7 @@ fn tests_of(offer: &Offer<'_>, pattern: u32, other: u32, shorter: &Slots, longer
         other,
         key: None,
         bounds: Bounds::new(),
+        same: None,
         tests: Numbers::new(),
     };
     let count = offer.definition.conjuncts.len().min(64) as u32;
@@ -256,6 +265,9 @@ pub fn is_worth(
         None => true,
         Some(screen) => {
             if !meets_all(offer.letters, &screen.bounds, number) {
+                return false;
+            }
+            if !is_same(offer, screen.same, number) {
                 return false;
             }
             agrees(offer, slots, pattern, screen, number)
