@@ -8,12 +8,14 @@ pub mod TriesLemmas
 pub mod FirstLemmas
 pub mod OrderLemmas
 pub mod VisitLemmas
+pub mod BoundLemmas
 pub mod ScreenLemmas
 pub mod WalkLemmas
 pub mod RowsLemmas
 pub mod PruneLemmas
 pub mod CountLemmas
 pub mod OpenLemmas
+pub mod SkipLemmas
 pub mod RootLemmas
 pub mod KeptLemmas
 pub mod ReserveLemmas

@@ -37,7 +37,7 @@ module _ (slots : Assignment) where
   pub open_both : (q : ℕ) (xs ys : List Branch) → AreOpen slots (row_routes q xs) → AreOpen slots (row_routes q ys) → AreOpen slots (row_routes q (xs ++ ys))
   open_both q xs ys h k = subst (AreOpen slots) (sym (row_append q xs ys)) (all_both (IsOpen slots) (row_routes q xs) (row_routes q ys) h k)
 
-  open_one : (q : ℕ) (node : Branch) → AreOpen slots (node_routes q node) → AreOpen slots (row_routes q (node ∷ []))
+  pub open_one : (q : ℕ) (node : Branch) → AreOpen slots (node_routes q node) → AreOpen slots (row_routes q (node ∷ []))
   open_one q node h = all_both (IsOpen slots) (node_routes q node) [] h tt
 
   pub open_node : (q : ℕ) (nodes : List Branch) (i : ℕ) (d : Branch) → i < length nodes → AreOpen slots (row_routes q nodes) → AreOpen slots (node_routes q (get_or nodes i d))

@@ -1,14 +1,10 @@
 -- What fails a screen may be left out: no wanted pattern may take the number behind it.
-use Rattle.std.proofs.Common.{◌≡◌, ◌⊎◌, ◌∙◌, inl, inr, ℕ, zero, suc, ◌<◌, pos, ◌+ℤ◌, List, [], ◌∷◌, map, length, get_or, Bool, true, false, cond, not, ◌&&◌, ◌||◌, Option, Some, None, slice_get, refl, sym, ap, subst, arith}
-use Rattle.std.proofs.lemmas.Int.{ints}
-use Rattle.std.specs.Prelude.{nat_le, slice_index, ◌==◌, ℤ, IfSome}
+use Rattle.std.proofs.Common.{◌≡◌, ◌⊎◌, ◌∙◌, inl, inr, ℕ, zero, suc, ◌<◌, List, [], ◌∷◌, ◌++◌, map, length, get_or, Bool, true, false, cond, not, ◌&&◌, ◌||◌, Option, Some, None, slice_get, refl, sym, ap, subst, arith}
+use Rattle.std.specs.Prelude.{nat_le, slice_index, ◌==◌, IfSome}
 use Rattle.std.specs.List.{filter, list_all, AllByRecursion}
-use Rattle.std.specs.Ordering.{int_eq}
-use Rattle.std.proofs.lemmas.Bool.Decides.{Decides-int_eq}
 use Rattle.join_base.specs.declared.message.Message.{Message}
-use Rattle.guard_eval.specs.declared.term.Place.{Place}
 use Rattle.guard_eval.specs.Condition.{Condition}
-use Rattle.guard_eval.specs.Meaning.{Assignment, Need, letter_at, letter_of, field_of, int_of, number_at, needs_of, has_some, is_slot_filled, is_filled, is_decided, is_true}
+use Rattle.guard_eval.specs.Meaning.{Assignment, Need, letter_at, number_at, needs_of, has_some, is_slot_filled, is_filled, is_decided, is_true}
 use Rattle.guard_eval.proofs.ExtendLemmas.{both_true}
 use Rattle.pattern_core.specs.Matches.{is_of_kind, is_agreeable}
 use Rattle.pattern_core.specs.Members.{IsIn}
@@ -21,7 +17,12 @@ use Rattle.match_tree.specs.Routes.{Branch, node_routes, with_number}
 use Rattle.match_tree.specs.Offers.{Offered, places, is_free, may_take, takers}
 use Rattle.match_tree.specs.Offering.{CanOffer, LeadOn}
 use Rattle.match_tree.specs.Order.{IsOrderedNode}
-use Rattle.match_tree.specs.Screen.{Comes, IsKey, IsDecidedAt, are_equal, int_at, passes}
+use Rattle.match_tree.specs.Bound.{IsPair, is_same, meets}
+use Rattle.match_tree.proofs.BoundLemmas.{same_said}
+use Rattle.match_tree.specs.declared.bound.Same.{Same}
+use Rattle.match_tree.specs.Screen.{AreTests, IsBound, IsDecidedAt, IsSaid, as_bound, passes}
+use Rattle.match_tree.specs.declared.screen.Screen.{Screen}
+use Rattle.match_tree.specs.declared.bound.Bound.{Bound}
 use Rattle.match_tree.specs.declared.screen.Key.{Key}
 use Rattle.match_tree.proofs.SlotsLemmas.{extends_one, free_is_none, free_further, below_apart}
 use Rattle.match_tree.proofs.TakeLemmas.{and_of, takers_further}
@@ -39,7 +40,7 @@ in_at [] i x e = absurd cc
 in_at (y ∷ xs) zero x e = let same : y ≡ x = cc in inl same
 in_at (y ∷ xs) (suc i) x e = inr (in_at xs i x e)
 
--- ---- an equality that an agreeable assignment decides
+-- ---- what an agreeable assignment decides
 
 number_set : (slots : Assignment) (p n : ℕ) → is_free slots p ≡ true → number_at (with_number slots p n) p ≡ Some n
 number_set [] p n free = absurd cc
@@ -54,21 +55,6 @@ agrees_in letters (d ∷ conjuncts) slots c m h =
       | inl e ↦ subst (λ (x : Condition). (not (is_decided slots x) || is_true letters slots x) ≡ true) e parts.0
       | inr later ↦ agrees_in letters conjuncts slots c later parts.1
     ]
-
-or_false : (b : Bool) → (b || false) ≡ true → b ≡ true
-or_false true h = refl
-or_false false h = h
-
-equal_sums : (x y : ℤ) → (int_eq (x +ℤ pos 0) (y +ℤ pos 0) || false) ≡ true → x ≡ y
-equal_sums x y h =
-    let same = (Decides-int_eq (x +ℤ pos 0) (y +ℤ pos 0)).0 (or_false (int_eq (x +ℤ pos 0) (y +ℤ pos 0)) h) in
-    omega (arith, ints)
-
-equal_fields : (letters : List Message) (slots : Assignment) (a b : Place) (m n : ℕ) → number_at slots a.pattern ≡ Some m → number_at slots b.pattern ≡ Some n
-    → (not (is_decided slots (are_equal a b)) || is_true letters slots (are_equal a b)) ≡ true → int_at letters m a.field ≡ int_at letters n b.field
-equal_fields letters slots a b m n ea eb h =
-    let whole = sym (λ i. not (is_slot_filled (ea i) && (is_slot_filled (eb i) && true)) || (int_eq (int_of (field_of (letter_of letters (ea i)) a.field) +ℤ pos 0) (int_of (field_of (letter_of letters (eb i)) b.field) +ℤ pos 0) || false)) ∙ h in
-    equal_sums (int_at letters m a.field) (int_at letters n b.field) whole
 
 -- ---- the wanted pattern
 
@@ -105,40 +91,11 @@ module _ (o : Offered) (slots : Assignment) (q m : ℕ) where
   abbrev longer : Assignment
   longer = with_number slots q m
 
-  taken_is_equal : (c : Condition) (wanted : ℕ) (k : Key) → is_free slots q ≡ true → IsIn c o.definition.conjuncts → Comes o q wanted c k → may_take o longer wanted ≡ true → int_at o.letters m k.field ≡ k.value
-  taken_is_equal c wanted k free is_in comes h =
-      let kind : Bool = is_of_kind (letter_at o.letters o.number) (slice_index o.definition.patterns wanted) in
-      let whole : Assignment = with_number longer wanted o.number in
-      let parts = both_true (is_free longer wanted) (kind && is_agreeable o.letters o.definition.conjuncts whole) h in
-      let agreeable = (both_true kind (is_agreeable o.letters o.definition.conjuncts whole) parts.1).1 in
-      let said = agrees_in o.letters o.definition.conjuncts whole c is_in agreeable in
-      let first : number_at longer q ≡ Some m = number_set slots q m free in
-      let kept : number_at whole q ≡ Some m = extends_one longer wanted o.number parts.0 q (ap is_slot_filled first) ∙ first in
-      let new : number_at whole wanted ≡ Some o.number = number_set longer wanted o.number parts.0 in
-      let here : number_at whole comes.here.pattern ≡ Some m = ap (number_at whole) comes.of_pattern ∙ kept in
-      let there : number_at whole comes.there.pattern ≡ Some o.number = ap (number_at whole) comes.of_wanted ∙ new in
-      let Holds : Condition → Type 0 = λ x. (not (is_decided whole x) || is_true o.letters whole x) ≡ true in
-      let same : int_at o.letters m comes.here.field ≡ int_at o.letters o.number comes.there.field = elim comes.said [
-        | inl e ↦ equal_fields o.letters whole comes.here comes.there m o.number here there (subst Holds e said)
-        | inr e ↦ sym (equal_fields o.letters whole comes.there comes.here o.number m there here (subst Holds e said))
-      ] in
-      ap (int_at o.letters m) comes.field ∙ same ∙ sym comes.value
-
-  none_may : (wanted : ℕ) (k : Key) (b : Bool) → may_take o longer wanted ≡ b → is_free slots q ≡ true → IsKey o q wanted k → int_eq (int_at o.letters m k.field) k.value ≡ false → b ≡ false
-  none_may wanted k false e free is_key fails = refl
-  none_may wanted k true e free is_key fails =
-      absurd (let same = (Decides-int_eq (int_at o.letters m k.field) k.value).1 (taken_is_equal is_key.conjunct wanted k free is_key.is_in is_key.comes e) in let bad = sym same ∙ fails in cc)
-
   -- where the one other pattern may not take the number, none may
   none_taken : (p : ℕ) → is_free slots q ≡ true → others o slots q ≡ p ∷ [] → may_take o longer p ≡ false → takers o longer ≡ []
   none_taken p free alone none =
       let nothing : filter (may_take o longer) (p ∷ []) ≡ [] = λ i. cond (none i) (p ∷ []) [] in
       sym (takers_further o slots q m free) ∙ ap (filter (may_take o longer)) alone ∙ nothing
-
-  -- where a number has not the key's value, no pattern may take the offered one behind it
-  pub lacks_key : (p : ℕ) (key : Option Key) → is_free slots q ≡ true → others o slots q ≡ p ∷ [] → IfSome key (IsKey o q p) → passes o.letters key m ≡ false → takers o longer ≡ []
-  lacks_key p None free alone is_key fails = absurd cc
-  lacks_key p (Some k) free alone is_key fails = none_taken p free alone (none_may p k (may_take o longer p) refl free is_key fails)
 
   and_never : (a b : Bool) → (a && (b && false)) ≡ false
   and_never true true = refl
@@ -196,6 +153,81 @@ pub not_agreeable : (o : Offered) (slots : Assignment) (c : Condition) (b : Bool
 not_agreeable o slots c false e is_in decided fails = refl
 not_agreeable o slots c true e is_in decided fails =
     absurd (let holds = agrees_in o.letters o.definition.conjuncts slots c is_in e in let bad = sym (λ i. not (decided i) || fails i) ∙ holds in cc)
+
+-- ---- a number that fails a bound
+
+module _ (o : Offered) (slots : Assignment) (q m p : ℕ) (free : is_free slots q ≡ true) (alone : others o slots q ≡ p ∷ []) where
+  abbrev both : ℕ → Assignment
+  both n = with_number (with_number slots q n) p o.number
+
+  beside : IsPair o q p m (both m)
+  beside =
+      let other = other_of o slots q p alone in
+      let left : is_free (with_number slots q m) p ≡ true = free_further slots q m p ∙ and_of (is_free slots p) (not (p == q)) other.free other.apart in
+      let first : number_at (with_number slots q m) q ≡ Some m = number_set slots q m free in
+      record { here = extends_one (with_number slots q m) p o.number left q (ap is_slot_filled first) ∙ first; there = number_set (with_number slots q m) p o.number left }
+
+  unmet : (bound : Bound) → IsBound o (both o.number) q p bound → meets o.letters bound m ≡ false → takers o (with_number slots q m) ≡ []
+  unmet bound is fails =
+      let c = is.conjunct in
+      let decided : is_decided (both m) c ≡ true = (λ i. has_some (needs_of c) && all_alike slots q m o.number p o.number (needs_of c) i) ∙ is.decided in
+      let untrue : is_true o.letters (both m) c ≡ false = is.says m (both m) beside ∙ fails in
+      disagrees o slots q m p free alone (not_agreeable o (both m) c (is_agreeable o.letters o.definition.conjuncts (both m)) refl is.is_in decided untrue)
+
+  -- where a number has not the key's value, no pattern may take the offered one behind it
+  pub lacks_key : (key : Option Key) → IfSome key (λ k. IsBound o (both o.number) q p (as_bound k)) → passes o.letters key m ≡ false → takers o (with_number slots q m) ≡ []
+  lacks_key None is fails = absurd cc
+  lacks_key (Some k) is fails = unmet (as_bound k) is fails
+
+  -- where it fails one of the bounds, none may either
+  pub fails_one : (bounds : List Bound) → AllByRecursion (IsBound o (both o.number) q p) bounds → list_all (λ b. meets o.letters b m) bounds ≡ false → takers o (with_number slots q m) ≡ []
+  fails_one [] h fails = absurd cc
+  fails_one (b ∷ bounds) h fails = by (meets o.letters b m) refl (fails_one bounds h.1)
+    where
+      by : (t : Bool) → meets o.letters b m ≡ t → (list_all (λ x. meets o.letters x m) bounds ≡ false → takers o (with_number slots q m) ≡ []) → takers o (with_number slots q m) ≡ []
+      by true e later = later (sym (λ i. e i && list_all (λ x. meets o.letters x m) bounds) ∙ fails)
+      by false e later = unmet b h.0 e
+
+  -- where its text is another one, none may either
+  pub is_another : (same : Option Same) → IfSome same (IsSaid o (both o.number) q p) → is_same o same m ≡ false → takers o (with_number slots q m) ≡ []
+  is_another None h fails = absurd cc
+  is_another (Some same) h fails =
+      let c = h.conjunct in
+      let decided : is_decided (both m) c ≡ true = (λ i. has_some (needs_of c) && all_alike slots q m o.number p o.number (needs_of c) i) ∙ h.decided in
+      let untrue : is_true o.letters (both m) c ≡ false = same_said o q p m (both m) c same h.says beside ∙ fails in
+      disagrees o slots q m p free alone (not_agreeable o (both m) c (is_agreeable o.letters o.definition.conjuncts (both m)) refl h.is_in decided untrue)
+
+-- ---- a screen with a test more
+
+all_more : {X : Type 0} (P : X → Type 0) (xs : List X) (x : X) → AllByRecursion P xs → P x → AllByRecursion P (xs ++ x ∷ [])
+all_more P [] x h p = (p, tt)
+all_more P (y ∷ xs) x h p = (h.0, all_more P xs x h.1 p)
+
+key_is : (P : Bound → Type 0) (key : Option Key) (bound : Bound) → P bound → IfSome key (λ k. as_bound k ≡ bound) → IfSome key (λ k. P (as_bound k))
+key_is P None bound p h = tt
+key_is P (Some k) bound p h = subst P (sym h) p
+
+pub bound_more : (o : Offered) (whole : Assignment) (pattern : ℕ) (before now : Screen) (bound : Bound) → AreTests o whole pattern before → IsBound o whole pattern before.other bound
+    → now.other ≡ before.other → now.same ≡ before.same → now.tests ≡ before.tests → (now.bounds ≡ before.bounds) ⊎ (now.bounds ≡ before.bounds ++ bound ∷ []) → (now.key ≡ before.key) ⊎ IfSome now.key (λ k. as_bound k ≡ bound)
+    → AreTests o whole pattern now
+bound_more o whole pattern before now bound h is other same tests bounds key =
+    let P : ℕ → Bound → Type 0 = λ n b. IsBound o whole pattern n b in
+    let Keyed : Option Key → Type 0 = λ k. IfSome k (λ x. P before.other (as_bound x)) in
+    let All : List Bound → Type 0 = λ bs. AllByRecursion (P before.other) bs in
+    let keyed : Keyed now.key = elim key [
+      | inl e ↦ subst Keyed (sym e) h.key
+      | inr e ↦ key_is (P before.other) now.key bound is e
+    ] in
+    let all : All now.bounds = elim bounds [
+      | inl e ↦ subst All (sym e) h.bounds
+      | inr e ↦ subst All (sym e) (all_more (P before.other) before.bounds bound h.bounds is)
+    ] in
+    record {
+      key = subst (λ (n : ℕ). IfSome now.key (λ k. P n (as_bound k))) (sym other) keyed;
+      bounds = subst (λ (n : ℕ). AllByRecursion (P n) now.bounds) (sym other) all;
+      same = subst (λ (n : ℕ). IfSome now.same (IsSaid o whole pattern n)) (sym other) (subst (λ (x : Option Same). IfSome x (IsSaid o whole pattern before.other)) (sym same) h.same);
+      tests = subst (λ (ts : List ℕ). AllByRecursion (IsDecidedAt o whole) ts) (sym tests) h.tests;
+    }
 
 -- ---- a node that is not worth a visit
 

@@ -12,6 +12,7 @@ pub mod Order
 pub mod Growth
 pub mod Pruned
 pub mod Kept
+pub mod Bound
 pub mod Screen
 -- What the joins and messages of tests are like.
 pub mod Samples

@@ -1,49 +1,23 @@
 -- A test of the numbers of a row: behind those that fail it, no wanted pattern may take the offered number.
-use Rattle.std.specs.Prelude.{◌≡◌, ◌⊎◌, ℕ, ℤ, List, [], ◌∷◌, Bool, true, false, Option, Some, None, IfSome, slice_get}
+use Rattle.std.specs.Prelude.{false, ◌≡◌, ℕ, List, [], ◌∷◌, Bool, true, Option, Some, None, IfSome, slice_get, slice_index_or, ◌<◌, ◌≤◌}
 use Rattle.std.specs.List.{AllByRecursion}
 use Rattle.std.specs.Ordering.{int_eq}
 use Rattle.join_base.specs.declared.message.Message.{Message}
 use Rattle.join_base.specs.declared.message.Relation.TheVariants.{Equal}
-use Rattle.guard_eval.specs.declared.term.Place.{Place}
-use Rattle.guard_eval.specs.declared.term.Leaf.TheVariants as leaf
-use Rattle.guard_eval.specs.declared.term.Operand.{Operand}
-use Rattle.guard_eval.specs.declared.term.Operand.TheVariants as operand
-use Rattle.guard_eval.specs.Condition.{Condition, Never, Compares, Either}
-use Rattle.guard_eval.specs.Meaning.{Assignment, letter_at, field_of, int_of, is_decided}
+use Rattle.guard_eval.specs.Condition.{Condition}
+use Rattle.guard_eval.specs.Meaning.{Assignment, is_decided}
 use Rattle.pattern_core.specs.Members.{IsIn}
+use Rattle.match_tree.specs.declared.bound.Bound.{Bound}
+use Rattle.match_tree.specs.declared.bound.Same.{Same}
 use Rattle.match_tree.specs.declared.screen.Key.{Key}
 use Rattle.match_tree.specs.declared.screen.Screen.{Screen}
-use Rattle.match_tree.specs.Routes.{with_number}
+use Rattle.match_tree.specs.Routes.{Branch, with_number}
+use Rattle.match_tree.specs.Bound.{Says, SaysSame, int_at}
 use Rattle.match_tree.specs.Offers.{Offered}
 
--- the integer at a field of a recorded message, and 0 where there is none
-abbrev pub int_at : List Message → ℕ → ℕ → ℤ
-int_at letters number field = int_of (field_of (letter_at letters number) field)
-
--- an integer field alone
-abbrev pub field_operand : Place → Operand
-field_operand place = operand.Sum (record { minus = false; leaf = leaf.Field place } ∷ [])
-
--- two integer fields are equal, and nothing else is said
-abbrev pub are_equal : Place → Place → Condition
-are_equal a b = Either (Compares (field_operand a) Equal (field_operand b)) Never
-
--- the conjunct says that a field of the pattern, which is the key's, is equal to one of the wanted pattern, and the offered number has the key's
--- value there
-pub record Comes (o : Offered) (pattern wanted : ℕ) (conjunct : Condition) (key : Key) : Type 0 where
-  pub here : Place
-  pub there : Place
-  pub of_pattern : here.pattern ≡ pattern
-  pub of_wanted : there.pattern ≡ wanted
-  pub field : key.field ≡ here.field
-  pub value : key.value ≡ int_at o.letters o.number there.field
-  pub said : (conjunct ≡ are_equal here there) ⊎ (conjunct ≡ are_equal there here)
-
--- the key comes from a conjunct of the definition
-pub record IsKey (o : Offered) (pattern wanted : ℕ) (key : Key) : Type 0 where
-  pub conjunct : Condition
-  pub is_in : IsIn conjunct o.definition.conjuncts
-  pub comes : Comes o pattern wanted conjunct key
+-- the equality as a bound
+abbrev pub as_bound : Key → Bound
+as_bound key = record { field = key.field; relation = Equal; value = key.value }
 
 -- the conjunct at the place is decided
 pub record IsDecidedAt (o : Offered) (slots : Assignment) (place : ℕ) : Type 0 where
@@ -51,11 +25,31 @@ pub record IsDecidedAt (o : Offered) (slots : Assignment) (place : ℕ) : Type 0
   pub at : slice_get o.definition.conjuncts place ≡ Some conjunct
   pub decided : is_decided slots conjunct ≡ true
 
+-- the bound is what a decided conjunct of the definition says
+pub record IsBound (o : Offered) (whole : Assignment) (pattern wanted : ℕ) (bound : Bound) : Type 0 where
+  pub conjunct : Condition
+  pub is_in : IsIn conjunct o.definition.conjuncts
+  pub decided : is_decided whole conjunct ≡ true
+  pub says : Says o pattern wanted conjunct bound
+
+-- a decided conjunct of the definition says that these texts are equal
+pub record IsSaid (o : Offered) (whole : Assignment) (pattern wanted : ℕ) (same : Same) : Type 0 where
+  pub conjunct : Condition
+  pub is_in : IsIn conjunct o.definition.conjuncts
+  pub decided : is_decided whole conjunct ≡ true
+  pub says : SaysSame pattern wanted conjunct same
+
+-- the screen tests no more than what decided conjuncts say
+pub record AreTests (o : Offered) (whole : Assignment) (pattern : ℕ) (screen : Screen) : Type 0 where
+  pub key : IfSome screen.key (λ k. IsBound o whole pattern screen.other (as_bound k))
+  pub bounds : AllByRecursion (IsBound o whole pattern screen.other) screen.bounds
+  pub same : IfSome screen.same (IsSaid o whole pattern screen.other)
+  pub tests : AllByRecursion (IsDecidedAt o whole) screen.tests
+
 -- one pattern is wanted, and the screen's tests are decided where it and the row's pattern have a number
 pub record Screens (o : Offered) (slots : Assignment) (pattern : ℕ) (wanted : List ℕ) (screen : Screen) : Type 0 where
   pub alone : wanted ≡ screen.other ∷ []
-  pub key : IfSome screen.key (IsKey o pattern screen.other)
-  pub tests : AllByRecursion (IsDecidedAt o (with_number (with_number slots pattern o.number) screen.other o.number)) screen.tests
+  pub tested : AreTests o (with_number (with_number slots pattern o.number) screen.other o.number) pattern screen
 
 abbrev pub passes : List Message → Option Key → ℕ → Bool
 passes letters None number = true
@@ -65,3 +59,11 @@ passes letters (Some key) number = int_eq (int_at letters number key.field) key.
 pub record IsWith (slots : Assignment) (pattern number : ℕ) (longer : Assignment) : Type 0 where
   pub free : slice_get slots pattern ≡ Some None
   pub is : longer ≡ with_number slots pattern number
+
+abbrev pub key_of : Option Screen → Option Key
+key_of None = None
+key_of (Some screen) = screen.key
+
+-- the nodes between the two places have not the key's value
+abbrev pub AreLacking : List Message → Option Key → List Branch → ℕ → ℕ → Type 0
+AreLacking letters key nodes from to = (i : ℕ) → from ≤ i → i < to → (d : Branch) → passes letters key (slice_index_or nodes i d).number ≡ false

@@ -1,19 +1,21 @@
-//! Tests of the numbers of a row that are cheaper than a try. Where a conjunct says that a field is equal to one of the
-//! offered number, it is enough to read that field. Which conjuncts are decided by the row's pattern and the wanted one is
-//! found once for the row, and only these are evaluated.
-ghost use Rattle.std.specs.Prelude.{◌≡◌, ◌⊎◌, ◌<◌, [], length, slice_get, Some, None, true, false, not, ◌==◌, nat_le, IfSome};
+//! Tests of the numbers of a row that are cheaper than a try. Which conjuncts are decided by the row's pattern and the wanted one
+//! is found once for the row, and only these are looked at. Where such a conjunct compares one field of the row with what is known,
+//! it is enough to read that field, and an equality is looked at first.
+ghost use Rattle.std.specs.Prelude.{◌≡◌, ◌⊎◌, ◌<◌, ◌≤◌, ◌++◌, ◌∷◌, [], length, slice_get, Some, None, true, false, not, ◌==◌, nat_le, IfSome};
 ghost use Rattle.std.specs.List.{filter, AllByRecursion};
-ghost use Rattle.guard_eval.specs.Shape.{conjunct_condition};
 ghost use Rattle.pattern_core.specs.Matches.{is_agreeable};
 ghost use Rattle.pattern_core.specs.Suits.{DefinitionSuits, SlotsSuit};
 ghost use Rattle.match_tree.specs.Routes.{with_number};
 ghost use Rattle.match_tree.specs.Offers.{takers};
 ghost use Rattle.match_tree.specs.Offering.{offered, CanOffer};
-ghost use Rattle.match_tree.specs.Screen.{Comes, IsKey, IsDecidedAt, IsWith, Screens, are_equal, field_operand, int_at, passes};
+ghost use Rattle.match_tree.specs.Screen.{AreLacking, AreTests, IsDecidedAt, IsWith, Screens, as_bound, key_of};
 
+use crate::bound::{Bound, Bounds, Same, bound_of, int_at, is_same, meets_all, same_of};
+use crate::node::Node;
 use crate::offer::Offer;
-use guard_eval::{Atom, Conjunct, Leaf, Operand, Place, Signed, decided, holds};
-use join_base::{Message, Numbers, Relation, Slots, Value};
+use guard_eval::{decided, holds};
+use join_base::{Message, Numbers, Relation, Slots};
+use std::collections::VecDeque;
 
 /// The value that a number of the row has to have at a field.
 #[derive(Clone, Copy, PartialEq, Eq, Debug)]
@@ -22,96 +24,16 @@ pub struct Key {
     pub value: i64,
 }
 
-/// What is known of a row where one other pattern is wanted, before its numbers are tried.
+/// What is known of a row where one other pattern is wanted, before its numbers are tried: what the conjuncts say that the two
+/// patterns decide together.
 #[derive(Drop)]
 pub struct Screen {
     pub other: u32,
     pub key: Option<Key>,
-    /// The places of conjuncts that the two patterns decide together, at most 8.
+    pub bounds: Bounds,
+    pub same: Option<Same>,
+    /// The places of further conjuncts, at most 8.
     pub tests: Numbers,
-}
-
-// The integer at a field of a recorded message, and 0 where there is none.
-fn int_at(letters: &[Message], number: u32, field: u32) -> i64
-    ensures { result ≡ int_at letters.now number field }
-{
-    let Some(place) = number.checked_sub(1) else {
-        return 0;
-    };
-    let Some(message) = letters.get(place as usize) else {
-        return 0;
-    };
-    match message.fields.as_slice().get(field as usize) {
-        Some(Value::Int(n)) => *n,
-        _ => 0,
-    }
-}
-
-// The field that an operand is, where it is an integer field alone.
-fn field_alone(operand: &Operand) -> Option<Place>
-    ensures { IfSome result (λ place. operand.now ≡ field_operand place) }
-{
-    let Operand::Sum(term) = operand else {
-        return None;
-    };
-    match term.leaves() {
-        [
-            Signed {
-                minus: false,
-                leaf: Leaf::Field(place),
-            },
-        ] => Some(*place),
-        _ => None,
-    }
-}
-
-// The two integer fields that a conjunct says are equal, where it says nothing else.
-fn equal_fields(conjunct: &Conjunct) -> Option<(Place, Place)>
-    ensures { IfSome result (λ fields. conjunct_condition conjunct.now ≡ are_equal fields.0 fields.1) }
-{
-    match conjunct.atoms.as_slice() {
-        [
-            Atom::Compare {
-                left,
-                relation: Relation::Equal,
-                right,
-            },
-        ] => Some((field_alone(left)?, field_alone(right)?)),
-        _ => None,
-    }
-}
-
-// The key that a conjunct gives for the pattern where the other one is wanted.
-fn key_by(offer: &Offer<'_>, pattern: u32, wanted: u32, conjunct: &Conjunct) -> Option<Key>
-    ensures { IfSome result (Comes (offered offer.now) pattern wanted (conjunct_condition conjunct.now)) }
-{
-    let (first, second) = equal_fields(conjunct)?;
-    if first.pattern == pattern && second.pattern == wanted {
-        return Some(Key {
-            field: first.field,
-            value: int_at(offer.letters, offer.number, second.field),
-        });
-    }
-    if second.pattern == pattern && first.pattern == wanted {
-        return Some(Key {
-            field: second.field,
-            value: int_at(offer.letters, offer.number, first.field),
-        });
-    }
-    None
-}
-
-// The first key that a conjunct gives.
-fn key_of(offer: &Offer<'_>, pattern: u32, wanted: u32) -> Option<Key>
-    ensures { IfSome result (IsKey (offered offer.now) pattern wanted) }
-{
-    for conjunct in offer.definition.conjuncts.as_slice() {
-        let key = key_by(offer, pattern, wanted, conjunct);
-        if key.is_some() {
-            return key;
-        }
-    }
-    None
 }
 
 // The assignment in which the pattern has the number too, where there is the pattern and it is free.
@@ -138,64 +60,143 @@ fn decides(offer: &Offer<'_>, slots: &Slots, place: u32) -> bool
     decided(offer.definition.conjuncts.at(place as usize), slots)
 }
 
-// The first conjuncts that the longer of two assignments decides and the shorter doesn't.
-fn newly_decided(offer: &Offer<'_>, shorter: &Slots, longer: &Slots) -> Numbers
+// The equality that the bound is, where it is one.
+fn as_key(bound: Bound) -> Option<Key>
+    ensures { IfSome result (λ key. as_bound key ≡ bound) }
+{
+    if bound.relation != Relation::Equal {
+        return None;
+    }
+    match i64::try_from(bound.value) {
+        Ok(value) => Some(Key {
+            field: bound.field,
+            value,
+        }),
+        Err(_) => None,
+    }
+}
+
+// Adds a bound that a decided conjunct gives. The first equality is the key.
+fn add_bound(screen: &mut Screen, bound: Bound)
+    requires few { length screen.old.bounds < 4 }
+    ensures other { screen.new.other ≡ screen.old.other }
+    ensures same { screen.new.same ≡ screen.old.same }
+    ensures tests { screen.new.tests ≡ screen.old.tests }
+    ensures bounds { (screen.new.bounds ≡ screen.old.bounds) ⊎ (screen.new.bounds ≡ screen.old.bounds ++ bound ∷ []) }
+    ensures key { (screen.new.key ≡ screen.old.key) ⊎ IfSome screen.new.key (λ key. as_bound key ≡ bound) }
+{
+    if screen.key.is_none() {
+        screen.key = as_key(bound);
+        if screen.key.is_some() {
+            return;
+        }
+    }
+    screen.bounds.push(bound);
+}
+
+// Adds the decided conjunct at the place to the screen.
+fn add_test(offer: &Offer<'_>, whole: &Slots, pattern: u32, place: u32, screen: &mut Screen)
+    requires decided { IsDecidedAt (offered offer.now) whole.now place }
+    requires before { AreTests (offered offer.now) whole.now pattern screen.old }
+    ensures other { screen.new.other ≡ screen.old.other }
+    ensures after { AreTests (offered offer.now) whole.now pattern screen.new }
+{
+    let conjunct = offer.definition.conjuncts.at(place as usize);
+    if screen.bounds.len() < 4 {
+        if let Some(bound) = bound_of(offer, pattern, screen.other, conjunct) {
+            add_bound(screen, bound);
+            return;
+        }
+    }
+    if screen.same.is_none() {
+        screen.same = same_of(pattern, screen.other, conjunct);
+        if screen.same.is_some() {
+            return;
+        }
+    }
+    if screen.tests.len() < 8 {
+        screen.tests.push(place);
+    }
+}
+
+// The screen of the conjuncts that the longer of two assignments decides and the shorter doesn't.
+fn tests_of(offer: &Offer<'_>, pattern: u32, other: u32, shorter: &Slots, longer: &Slots) -> Screen
     requires definition { DefinitionSuits offer.now.letters.now offer.now.definition.now }
     requires short { length shorter.now ≡ length offer.now.definition.now.patterns }
     requires long { length longer.now ≡ length offer.now.definition.now.patterns }
-    ensures { AllByRecursion (IsDecidedAt (offered offer.now) longer.now) result }
+    ensures other { result.other ≡ other }
+    ensures tests { AreTests (offered offer.now) longer.now pattern result }
 {
-    let mut tests = Numbers::new();
+    let mut screen = Screen {
+        other,
+        key: None,
+        bounds: Bounds::new(),
+        same: None,
+        tests: Numbers::new(),
+    };
     let count = offer.definition.conjuncts.len().min(64) as u32;
     for place in 0..count {
-        if tests.len() < 8 && decides(offer, longer, place) && !decides(offer, shorter, place) {
-            tests.push(place);
+        if decides(offer, longer, place) && !decides(offer, shorter, place) {
+            add_test(offer, longer, pattern, place, &mut screen);
         }
     }
-    tests
+    screen
 }
 
-// The conjuncts that are decided where both patterns have a number, and are not where the row's alone has one.
-fn tests_of(offer: &Offer<'_>, slots: &Slots, pattern: u32, other: u32) -> Numbers
-    requires can { CanOffer (offered offer.now) slots.now }
-    ensures { AllByRecursion (IsDecidedAt (offered offer.now) (with_number (with_number slots.now pattern offer.now.number) other offer.now.number)) result }
-{
-    let patterns = offer.definition.patterns.len();
-    let Some(shorter) = with_free(slots, patterns, pattern, offer.number) else {
-        return Numbers::new();
-    };
-    let Some(longer) = with_free(&shorter, patterns, other, offer.number) else {
-        return Numbers::new();
-    };
-    newly_decided(offer, &shorter, &longer)
-}
-
-/// The screen of a row of this pattern, where one other is wanted.
-pub fn screen_of(offer: &Offer<'_>, slots: &Slots, pattern: u32, wanted: &Numbers) -> Option<Screen>
+/// The screen of a row of this pattern with so many numbers, where one other is wanted. For one number a screen isn't worth its making.
+pub fn screen_of(
+    offer: &Offer<'_>,
+    slots: &Slots,
+    pattern: u32,
+    wanted: &Numbers,
+    numbers: usize,
+) -> Option<Screen>
     requires can { CanOffer (offered offer.now) slots.now }
     ensures { IfSome result (Screens (offered offer.now) slots.now pattern wanted.now) }
 {
-    if offer.definition.conjuncts.len() == 0 {
+    if offer.definition.conjuncts.len() == 0 || numbers < 2 {
         return None;
     }
     let [other] = wanted.as_slice() else {
         return None;
     };
-    Some(Screen {
-        other: *other,
-        key: key_of(offer, pattern, *other),
-        tests: tests_of(offer, slots, pattern, *other),
-    })
+    let patterns = offer.definition.patterns.len();
+    let shorter = with_free(slots, patterns, pattern, offer.number)?;
+    let longer = with_free(&shorter, patterns, *other, offer.number)?;
+    Some(tests_of(offer, pattern, *other, &shorter, &longer))
 }
 
-// Whether the number has the key's value.
-fn passes(offer: &Offer<'_>, key: Option<Key>, number: u32) -> bool
-    ensures { result ≡ passes offer.now.letters.now key number }
+/// The screen's key.
+pub fn key_of(screen: &Option<Screen>) -> Option<Key>
+    ensures { result ≡ key_of screen.now }
 {
-    match key {
-        None => true,
-        Some(key) => int_at(offer.letters, number, key.field) == key.value,
+    match screen {
+        None => None,
+        Some(screen) => screen.key,
     }
+}
+
+/// The first place from this one on whose number has the key's value, or the row's end.
+pub fn next_place(
+    letters: &[Message],
+    key: Option<Key>,
+    nodes: &VecDeque<Node>,
+    from: usize,
+) -> usize
+    requires within { from ≤ length nodes.now.items }
+    ensures from { from ≤ result }
+    ensures within { result ≤ length nodes.now.items }
+    ensures lacking { AreLacking letters.now key nodes.now.items from result }
+{
+    let Some(wanted) = key else {
+        return from;
+    };
+    for place in from..nodes.len() {
+        if int_at(letters, nodes[place].number(), wanted.field) == wanted.value {
+            return place;
+        }
+    }
+    nodes.len()
 }
 
 // Whether the decided conjunct at the place holds.
@@ -242,8 +243,8 @@ fn agrees(offer: &Offer<'_>, slots: &Slots, pattern: u32, screen: &Screen, numbe
     all_hold(offer, &whole, &screen.tests)
 }
 
-/// Whether a number of a row is worth a visit. It isn't where the definition no longer sees it, or no pattern may take the
-/// offered number behind it.
+/// Whether a number of a row that has the screen's key is worth a visit. It isn't where the definition no longer sees it, or no
+/// pattern may take the offered number behind it.
 pub fn is_worth(
     offer: &Offer<'_>,
     slots: &Slots,
@@ -263,7 +264,13 @@ pub fn is_worth(
     match screen {
         None => true,
         Some(screen) => {
-            passes(offer, screen.key, number) && agrees(offer, slots, pattern, screen, number)
+            if !meets_all(offer.letters, &screen.bounds, number) {
+                return false;
+            }
+            if !is_same(offer, screen.same, number) {
+                return false;
+            }
+            agrees(offer, slots, pattern, screen, number)
         }
     }
 }

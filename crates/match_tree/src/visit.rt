@@ -13,7 +13,7 @@ ghost use Rattle.match_tree.specs.Tries.{tries_behind};
 
 use crate::node::Node;
 use crate::offer::{Offer, best_match, contains, growing, takers, without};
-use crate::screen::{is_worth, screen_of};
+use crate::screen::{is_worth, key_of, next_place, screen_of};
 use join_base::{NoMemory, Numbers, Slots, Steps};
 use pattern_core::{Candidate, better};
 use std::alloc::Global;
@@ -179,8 +179,10 @@ fn visit_nodes<L: Ledger>(
     if wanted.len() == 0 {
         return Ok(None);
     }
-    let screen = screen_of(offer, slots, pattern, wanted);
-    for place in 0..nodes.len() {
+    let screen = screen_of(offer, slots, pattern, wanted, nodes.len());
+    let key = key_of(&screen);
+    let mut place = next_place(offer.letters, key, nodes, 0);
+    while place < nodes.len() {
         let node = &mut nodes[place];
         if is_worth(offer, slots, pattern, &screen, node.number()) {
             let longer = slots.with(pattern, node.number());
@@ -189,6 +191,7 @@ fn visit_nodes<L: Ledger>(
                 return Ok(found);
             }
         }
+        place = next_place(offer.letters, key, nodes, place + 1);
     }
     Ok(None)
 }

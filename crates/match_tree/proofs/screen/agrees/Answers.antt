@@ -35,7 +35,7 @@ all_hold-requires-clause-decided c =
     ap (λ (s : Assignment). with_number s a.screen.now.other o.number) (sym c.with-longer.ensures) ∙ sym c.with-whole.ensures
     in
     let Decided : Assignment → Type 0 = λ s. AllByRecursion (IsDecidedAt o s) a.screen.now.tests in
-    subst Decided whole (tests_alike o a.slots.now a.pattern o.number a.number a.screen.now.other o.number a.screen.now.tests c.requires.screen.tests)
+    subst Decided whole (tests_alike o a.slots.now a.pattern o.number a.number a.screen.now.other o.number a.screen.now.tests c.requires.screen.tested.tests)
 
 pub returns : goal.returns
 returns c =

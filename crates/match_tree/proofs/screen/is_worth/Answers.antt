@@ -4,13 +4,25 @@ use Rattle.match_tree.specs.declared.screen.Screen.{Screen}
 use Rattle.match_tree.specs.Offering.{offered}
 use Rattle.match_tree.specs.Screen.{Screens}
 use Rattle.match_tree.proofs.SlotsLemmas.{none_is_free}
-use Rattle.match_tree.proofs.ScreenLemmas.{lacks_key, others}
+use Rattle.match_tree.proofs.ScreenLemmas.{fails_one, is_another, others}
 use Rattle.match_tree.proofs.screen.is_worth.Goals as goal
 
-pub returns-else-passes-clause-left_out : goal.returns-else-passes-clause-left_out
-returns-else-passes-clause-left_out c =
+pub returns-then-not-meets_all-clause-left_out : goal.returns-then-not-meets_all-clause-left_out
+returns-then-not-meets_all-clause-left_out c =
     let a = c.args in
     let o = offered a.offer.now in
     let Is : Option Screen → Type 0 = λ s. IfSome s (Screens o a.slots.now a.pattern (others o a.slots.now a.pattern)) in
+    let screen = c.in-Some.screen in
     let screens = subst Is c.in-Some.is c.requires.screen in
-    λ no. inr (lacks_key o a.slots.now a.pattern a.number c.in-Some.screen.other c.in-Some.screen.key (none_is_free a.slots.now a.pattern c.requires.free) screens.alone screens.key (sym c.passes.ensures ∙ no))
+    let fails = sym c.meets_all.ensures ∙ c.if-not-meets_all.true in
+    λ no. inr (fails_one o a.slots.now a.pattern a.number screen.other (none_is_free a.slots.now a.pattern c.requires.free) screens.alone screen.bounds screens.tested.bounds fails)
+
+pub returns-then-not-is_same-clause-left_out : goal.returns-then-not-is_same-clause-left_out
+returns-then-not-is_same-clause-left_out c =
+    let a = c.args in
+    let o = offered a.offer.now in
+    let Is : Option Screen → Type 0 = λ s. IfSome s (Screens o a.slots.now a.pattern (others o a.slots.now a.pattern)) in
+    let screen = c.in-Some.screen in
+    let screens = subst Is c.in-Some.is c.requires.screen in
+    let fails = sym c.is_same.ensures ∙ c.if-not-is_same.true in
+    λ no. inr (is_another o a.slots.now a.pattern a.number screen.other (none_is_free a.slots.now a.pattern c.requires.free) screens.alone screen.same screens.tested.same fails)

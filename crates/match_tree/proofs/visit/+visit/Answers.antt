@@ -20,10 +20,11 @@ use Rattle.match_tree.proofs.PruneLemmas.{all_rows, all_rows_drop}
 use Rattle.match_tree.proofs.OpenLemmas.{open_below, open_now, open_node, open_on, open_all, open_push}
 use Rattle.match_tree.specs.Offering.{offered, CanOffer, MayTry, MayTake, LeadOn}
 use Rattle.match_tree.proofs.LeadLemmas.{lead_lasts, lead_node, lead_row, lead_below}
-use Rattle.match_tree.proofs.VisitLemmas.{Passed, passed_none, passed_seen, stays_node, matches_node, quiet_row, quiet_least, quiet_grows, tries_further, all_take, nothing_here, nothing_grows}
+use Rattle.match_tree.proofs.VisitLemmas.{Passed, passed_seen, stays_node, matches_node, quiet_row, quiet_least, quiet_grows, tries_further, all_take, nothing_here, nothing_grows}
 use Rattle.match_tree.proofs.WalkLemmas.{stays_sound, some_of, none_of, steps_behind, all_at, left_item, left_more, stopped, passed_on, left_set, counts_on, counts_all, tries_on, tries_most, found_first}
 use Rattle.match_tree.specs.Screen.{Screens}
 use Rattle.match_tree.proofs.ScreenLemmas.{passed_worthless}
+use Rattle.match_tree.proofs.SkipLemmas.{Walked, walk_first, walk_lacking}
 use Rattle.match_tree.proofs.OrderLemmas.{rows_ordered_behind, rows_sound}
 use Rattle.match_tree.proofs.SlotsLemmas.{free_is_none}
 use Rattle.match_tree.proofs.TakeLemmas.{takers_further}
@@ -55,17 +56,18 @@ visit_nodes-returns-then-len-eq0-clause-grows g t c =
     λ e. quiet_grows o a.slots.now (row_routes a.pattern a.nodes.now.items) (quiet_row o a.slots.now a.pattern a.nodes.now.items (sym c.requires.wanted ∙ none) c.requires.lead)
 
 pub visit_nodes-loop-place-init : goal.visit_nodes-loop-place-init
-visit_nodes-loop-place-init g t c = record {
-  passed = passed_none (offered c.args.offer.now) c.args.slots.now c.args.pattern;
-  opens = tt;
-  left = refl;
-  long = refl;
-  counted = refl;
-  stepped = omega arith;
-}
+visit_nodes-loop-place-init g t c =
+    let a = c.args in
+    let o = offered a.offer.now in
+    let nodes : List Branch = a.nodes.now.items in
+    let Is : List ℕ → Type 0 = λ ps. IfSome c.screen_of-screen.result (Screens o a.slots.now a.pattern ps) in
+    let screens = subst Is c.requires.wanted c.screen_of-screen.ensures in
+    let e = c.next_place-place.ensures in
+    walk_lacking o a.slots.now a.pattern nodes nodes a.count.now a.count.now a.steps.now a.steps.now c.screen_of-screen.result c.key_of-key.result 0 c.next_place-place.result c.requires.sound c.requires.lead c.requires.free_left screens c.key_of-key.ensures
+    e.from e.within e.lacking (walk_first o a.slots.now a.pattern nodes a.count.now a.steps.now)
 
 pub visit_nodes-index_mut-node-requires : goal.visit_nodes-index_mut-node-requires
-visit_nodes-index_mut-node-requires g t c = omega (arith, c.loop-place-test.true, c.len-place-end.ensures, c.loop-place.invariant.long, c.args.nodes.now.ok.0, c.loop-place.nodes.ok.0)
+visit_nodes-index_mut-node-requires g t c = omega (arith, c.loop-place-test.true, c.len-in-loop-place.ensures, c.loop-place.nodes.ok.0)
 
 pub visit_nodes-is_worth-requires : goal.visit_nodes-is_worth-requires
 visit_nodes-is_worth-requires g t c =
@@ -75,7 +77,7 @@ visit_nodes-is_worth-requires g t c =
     let d = c.index_mut-node.result.now in
     let node : Branch = d in
     let is : node ≡ get_or a.nodes.now.items i d = c.index_mut-node.ensures.value ∙ left_item c.loop-place.nodes.items a.nodes.now.items i d c.loop-place.invariant.left in
-    let within : i < length a.nodes.now.items = omega (arith, c.loop-place-test.true, c.len-place-end.ensures, a.nodes.now.ok.0) in
+    let within : i < length a.nodes.now.items = omega (arith, c.loop-place-test.true, c.len-in-loop-place.ensures, c.loop-place.invariant.long, c.loop-place.nodes.ok.0) in
     let At : Branch → Type 0 = λ x. LeadOn o a.slots.now (node_routes a.pattern x) in
     let leads = lead_below o a.slots.now a.pattern node (subst At (sym is) (lead_node o a.slots.now a.pattern a.nodes.now.items i d within c.requires.lead)) in
     let Can : ℕ → Type 0 = λ n. CanOffer o (with_number a.slots.now a.pattern n) in
@@ -93,7 +95,7 @@ visit_nodes-with-longer-requires g t c =
     let i : ℕ = c.loop-place.place in
     let node : Branch = c.index_mut-node.result.now in
     let is : node ≡ get_or a.nodes.now.items i c.index_mut-node.result.now = c.index_mut-node.ensures.value ∙ left_item c.loop-place.nodes.items a.nodes.now.items i c.index_mut-node.result.now c.loop-place.invariant.left in
-    let within : i < length a.nodes.now.items = omega (arith, c.loop-place-test.true, c.len-place-end.ensures, a.nodes.now.ok.0) in
+    let within : i < length a.nodes.now.items = omega (arith, c.loop-place-test.true, c.len-in-loop-place.ensures, c.loop-place.invariant.long, c.loop-place.nodes.ok.0) in
     let lead = lead_node o a.slots.now a.pattern a.nodes.now.items i c.index_mut-node.result.now within c.requires.lead in
     free_is_none a.slots.now a.pattern (lead_below o a.slots.now a.pattern (get_or a.nodes.now.items i c.index_mut-node.result.now) lead).free
 
@@ -105,7 +107,7 @@ visit_nodes-visit_node-requires g t c =
     let d = c.index_mut-node.result.now in
     let node : Branch = d in
     let is : node ≡ get_or a.nodes.now.items i d = c.index_mut-node.ensures.value ∙ left_item c.loop-place.nodes.items a.nodes.now.items i d c.loop-place.invariant.left in
-    let within : i < length a.nodes.now.items = omega (arith, c.loop-place-test.true, c.len-place-end.ensures, a.nodes.now.ok.0) in
+    let within : i < length a.nodes.now.items = omega (arith, c.loop-place-test.true, c.len-in-loop-place.ensures, c.loop-place.invariant.long, c.loop-place.nodes.ok.0) in
     let At : Branch → Type 0 = λ x. LeadOn o a.slots.now (node_routes a.pattern x) in
     let leads = lead_below o a.slots.now a.pattern node (subst At (sym is) (lead_node o a.slots.now a.pattern a.nodes.now.items i d within c.requires.lead)) in
     let longer : with_number a.slots.now a.pattern node.number ≡ c.with-longer.result = ap (with_number a.slots.now a.pattern) (sym c.number-then-is_worth.ensures) ∙ sym c.with-longer.ensures in
@@ -203,7 +205,7 @@ visit_nodes-returns-in_err-found-clause-sound g t c =
     let items = c.loop-place.nodes.items in
     let node : Branch = d in
     let is : node ≡ get_or a.nodes.now.items i d = c.index_mut-node.ensures.value ∙ left_item items a.nodes.now.items i d c.loop-place.invariant.left in
-    let within : i < length a.nodes.now.items = omega (arith, c.loop-place-test.true, c.len-place-end.ensures, a.nodes.now.ok.0) in
+    let within : i < length a.nodes.now.items = omega (arith, c.loop-place-test.true, c.len-in-loop-place.ensures, c.loop-place.invariant.long, c.loop-place.nodes.ok.0) in
     let within' : i < length items = omega (arith, c.loop-place.invariant.long) in
     let At : Branch → Type 0 = λ x. LeadOn o a.slots.now (node_routes a.pattern x) in
     let leads = lead_below o a.slots.now a.pattern node (subst At (sym is) (lead_node o a.slots.now a.pattern a.nodes.now.items i d within c.requires.lead)) in
@@ -227,7 +229,7 @@ visit_nodes-returns-in_err-found-clause-numbers g t c =
     let items = c.loop-place.nodes.items in
     let node : Branch = d in
     let is : node ≡ get_or a.nodes.now.items i d = c.index_mut-node.ensures.value ∙ left_item items a.nodes.now.items i d c.loop-place.invariant.left in
-    let within : i < length a.nodes.now.items = omega (arith, c.loop-place-test.true, c.len-place-end.ensures, a.nodes.now.ok.0) in
+    let within : i < length a.nodes.now.items = omega (arith, c.loop-place-test.true, c.len-in-loop-place.ensures, c.loop-place.invariant.long, c.loop-place.nodes.ok.0) in
     let within' : i < length items = omega (arith, c.loop-place.invariant.long) in
     let At : Branch → Type 0 = λ x. LeadOn o a.slots.now (node_routes a.pattern x) in
     let leads = lead_below o a.slots.now a.pattern node (subst At (sym is) (lead_node o a.slots.now a.pattern a.nodes.now.items i d within c.requires.lead)) in
@@ -251,7 +253,7 @@ visit_nodes-returns-in_err-found-clause-lasting g t c =
     let items = c.loop-place.nodes.items in
     let node : Branch = d in
     let is : node ≡ get_or a.nodes.now.items i d = c.index_mut-node.ensures.value ∙ left_item items a.nodes.now.items i d c.loop-place.invariant.left in
-    let within : i < length a.nodes.now.items = omega (arith, c.loop-place-test.true, c.len-place-end.ensures, a.nodes.now.ok.0) in
+    let within : i < length a.nodes.now.items = omega (arith, c.loop-place-test.true, c.len-in-loop-place.ensures, c.loop-place.invariant.long, c.loop-place.nodes.ok.0) in
     let within' : i < length items = omega (arith, c.loop-place.invariant.long) in
     let At : Branch → Type 0 = λ x. LeadOn o a.slots.now (node_routes a.pattern x) in
     let leads = lead_below o a.slots.now a.pattern node (subst At (sym is) (lead_node o a.slots.now a.pattern a.nodes.now.items i d within c.requires.lead)) in
@@ -275,7 +277,7 @@ visit_nodes-returns-in_err-found-clause-free_left g t c =
     let items = c.loop-place.nodes.items in
     let node : Branch = d in
     let is : node ≡ get_or a.nodes.now.items i d = c.index_mut-node.ensures.value ∙ left_item items a.nodes.now.items i d c.loop-place.invariant.left in
-    let within : i < length a.nodes.now.items = omega (arith, c.loop-place-test.true, c.len-place-end.ensures, a.nodes.now.ok.0) in
+    let within : i < length a.nodes.now.items = omega (arith, c.loop-place-test.true, c.len-in-loop-place.ensures, c.loop-place.invariant.long, c.loop-place.nodes.ok.0) in
     let within' : i < length items = omega (arith, c.loop-place.invariant.long) in
     let At : Branch → Type 0 = λ x. LeadOn o a.slots.now (node_routes a.pattern x) in
     let leads = lead_below o a.slots.now a.pattern node (subst At (sym is) (lead_node o a.slots.now a.pattern a.nodes.now.items i d within c.requires.lead)) in
@@ -299,7 +301,7 @@ visit_nodes-returns-in_err-found-clause-stepped g t c =
     let items = c.loop-place.nodes.items in
     let node : Branch = d in
     let is : node ≡ get_or a.nodes.now.items i d = c.index_mut-node.ensures.value ∙ left_item items a.nodes.now.items i d c.loop-place.invariant.left in
-    let within : i < length a.nodes.now.items = omega (arith, c.loop-place-test.true, c.len-place-end.ensures, a.nodes.now.ok.0) in
+    let within : i < length a.nodes.now.items = omega (arith, c.loop-place-test.true, c.len-in-loop-place.ensures, c.loop-place.invariant.long, c.loop-place.nodes.ok.0) in
     let within' : i < length items = omega (arith, c.loop-place.invariant.long) in
     let At : Branch → Type 0 = λ x. LeadOn o a.slots.now (node_routes a.pattern x) in
     let leads = lead_below o a.slots.now a.pattern node (subst At (sym is) (lead_node o a.slots.now a.pattern a.nodes.now.items i d within c.requires.lead)) in
@@ -323,7 +325,7 @@ visit_nodes-returns-in_err-found-clause-counted g t c =
     let items = c.loop-place.nodes.items in
     let node : Branch = d in
     let is : node ≡ get_or a.nodes.now.items i d = c.index_mut-node.ensures.value ∙ left_item items a.nodes.now.items i d c.loop-place.invariant.left in
-    let within : i < length a.nodes.now.items = omega (arith, c.loop-place-test.true, c.len-place-end.ensures, a.nodes.now.ok.0) in
+    let within : i < length a.nodes.now.items = omega (arith, c.loop-place-test.true, c.len-in-loop-place.ensures, c.loop-place.invariant.long, c.loop-place.nodes.ok.0) in
     let within' : i < length items = omega (arith, c.loop-place.invariant.long) in
     let At : Branch → Type 0 = λ x. LeadOn o a.slots.now (node_routes a.pattern x) in
     let leads = lead_below o a.slots.now a.pattern node (subst At (sym is) (lead_node o a.slots.now a.pattern a.nodes.now.items i d within c.requires.lead)) in
@@ -348,7 +350,7 @@ visit_nodes-returns-then-is_some g t c =
     let items = c.loop-place.nodes.items in
     let node : Branch = d in
     let is : node ≡ get_or a.nodes.now.items i d = c.index_mut-node.ensures.value ∙ left_item items a.nodes.now.items i d c.loop-place.invariant.left in
-    let within : i < length a.nodes.now.items = omega (arith, c.loop-place-test.true, c.len-place-end.ensures, a.nodes.now.ok.0) in
+    let within : i < length a.nodes.now.items = omega (arith, c.loop-place-test.true, c.len-in-loop-place.ensures, c.loop-place.invariant.long, c.loop-place.nodes.ok.0) in
     let within' : i < length items = omega (arith, c.loop-place.invariant.long) in
     let At : Branch → Type 0 = λ x. LeadOn o a.slots.now (node_routes a.pattern x) in
     let leads = lead_below o a.slots.now a.pattern node (subst At (sym is) (lead_node o a.slots.now a.pattern a.nodes.now.items i d within c.requires.lead)) in
@@ -385,12 +387,16 @@ visit_nodes-loop-place-preserved g t c =
     let items = c.loop-place.nodes.items in
     let node : Branch = d in
     let is : node ≡ get_or a.nodes.now.items i d = c.index_mut-node.ensures.value ∙ left_item items a.nodes.now.items i d c.loop-place.invariant.left in
-    let within : i < length a.nodes.now.items = omega (arith, c.loop-place-test.true, c.len-place-end.ensures, a.nodes.now.ok.0) in
+    let within : i < length a.nodes.now.items = omega (arith, c.loop-place-test.true, c.len-in-loop-place.ensures, c.loop-place.invariant.long, c.loop-place.nodes.ok.0) in
     let within' : i < length items = omega (arith, c.loop-place.invariant.long) in
     let At : Branch → Type 0 = λ x. LeadOn o a.slots.now (node_routes a.pattern x) in
     let leads = lead_below o a.slots.now a.pattern node (subst At (sym is) (lead_node o a.slots.now a.pattern a.nodes.now.items i d within c.requires.lead)) in
     let opened = subst (λ (x : Branch). AreOpen a.slots.now (node_routes a.pattern x)) (sym is) (open_node a.slots.now a.pattern a.nodes.now.items i d within c.requires.free_left) in
-    elim c.if-is_worth.branch [
+    let items' : List Branch = c.if-is_worth.nodes.items in
+    let Is : List ℕ → Type 0 = λ ps. IfSome c.screen_of-screen.result (Screens o a.slots.now a.pattern ps) in
+    let screens = subst Is c.requires.wanted c.screen_of-screen.ensures in
+    let f = c.next_place-place-in-loop-place.ensures in
+    let walked : Walked o a.slots.now a.pattern a.nodes.now.items items' a.count.now c.if-is_worth.count a.steps.now c.if-is_worth.steps (i + 1) = elim c.if-is_worth.branch [
       | visit_nodes-then-is_worth+in_ok-found+else-is_some w ↦
           let now = w.visit_node.new.node in
           let e = w.in_ok-found.ensures in
@@ -433,7 +439,9 @@ visit_nodes-loop-place-preserved g t c =
             long = ap (λ (xs : List Branch). length xs) nodes_is ∙ length-set items i node ∙ c.loop-place.invariant.long;
             stepped = omega (arith, c.loop-place.invariant.stepped, tried_on, w.steps-is);
           }
-    ]
+    ] in
+    walk_lacking o a.slots.now a.pattern a.nodes.now.items items' a.count.now c.if-is_worth.count a.steps.now c.if-is_worth.steps c.screen_of-screen.result c.key_of-key.result (i + 1) c.next_place-place-in-loop-place.result c.requires.sound c.requires.lead c.requires.free_left screens c.key_of-key.ensures
+    f.from f.within f.lacking walked
 
 pub visit_row-returns-clause-sound : goal.visit_row-returns-clause-sound
 visit_row-returns-clause-sound g t c =

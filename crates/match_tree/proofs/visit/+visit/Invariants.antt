@@ -1,4 +1,4 @@
-use Rattle.std.proofs.Common.{◌≡◌, ◌+◌, ◌*◌, ◌≤◌, [], ◌∷◌, length, take, drop, None}
+use Rattle.std.proofs.Common.{◌≡◌, ◌+◌, ◌-◌, ◌*◌, ◌≤◌, [], ◌∷◌, length, take, drop, None}
 use Rattle.std.specs.List.{filter}
 use Rattle.pattern_core.specs.Choice.{least}
 use Rattle.match_tree.specs.Routes.{rows_routes, row_routes, is_one_of}
@@ -9,7 +9,7 @@ use Rattle.match_tree.specs.Offering.{offered}
 use Rattle.match_tree.specs.Order.{AreSound}
 use Rattle.match_tree.specs.Growth.{Lasts, Grows}
 use Rattle.match_tree.specs.Tries.{tries_behind}
-use Rattle.match_tree.proofs.VisitLemmas.{Passed}
+use Rattle.match_tree.proofs.SkipLemmas.{Walked}
 use Rattle.match_tree.proofs.visit.+visit.Given as goal
 
 -- a walk goes from rows to a row, its nodes, one of them, and the rows below it
@@ -27,14 +27,7 @@ decreases-visit_node g l = 4 * goal.size-visit_node g l
 
 -- the nodes so far were passed without a match, and the others are as they were
 abbrev pub invariant-visit_nodes-loop-place : goal.invariant-visit_nodes-loop-place
-invariant-visit_nodes-loop-place g l = record {
-  passed : Passed (offered l.offer) l.slots l.pattern (take l.place l.initial.nodes.items) (take l.place l.nodes.items);
-  opens : AreOpen l.slots (row_routes l.pattern (take l.place l.nodes.items));
-  left : drop l.place l.nodes.items ≡ drop l.place l.initial.nodes.items;
-  long : length l.nodes.items ≡ length l.initial.nodes.items;
-  counted : l.count + length (row_routes l.pattern (take l.place l.initial.nodes.items)) ≡ l.initial.count + length (row_routes l.pattern (take l.place l.nodes.items));
-  stepped : l.steps ≤ l.initial.steps + tries_behind (offered l.offer) l.slots (row_routes l.pattern (take l.place l.initial.nodes.items));
-}
+invariant-visit_nodes-loop-place g l = Walked (offered l.offer) l.slots l.pattern l.initial.nodes.items l.nodes.items l.initial.count l.count l.initial.steps l.steps l.place
 
 -- the rows so far were visited, and the others are as they were
 abbrev pub invariant-visit_rows-loop-pattern : goal.invariant-visit_rows-loop-pattern
@@ -48,3 +41,6 @@ invariant-visit_rows-loop-pattern g l = record {
   counted : l.count + length (rows_routes 0 (take l.pattern (rows_of l.initial.row-items))) ≡ l.initial.count + length (rows_routes 0 (take l.pattern (rows_of l.row-items)));
   stepped : l.steps ≤ l.initial.steps + tries_behind (offered l.offer) l.slots (rows_routes 0 (take l.pattern (rows_of l.initial.row-items)));
 }
+
+abbrev pub decreases-visit_nodes-loop-place : goal.decreases-visit_nodes-loop-place
+decreases-visit_nodes-loop-place g l = length l.nodes.items - l.place

@@ -4,7 +4,7 @@ use Rattle.guard_eval.specs.Meaning.{Assignment}
 use Rattle.pattern_core.proofs.SuitsLemmas.{length-SlotsSuit}
 use Rattle.match_tree.specs.Offering.{offered}
 use Rattle.match_tree.specs.Screen.{IsWith}
-use Rattle.match_tree.proofs.screen.tests_of.Goals as goal
+use Rattle.match_tree.proofs.screen.screen_of.Goals as goal
 
 with_long : (slots longer : Assignment) (p n : ℕ) → IsWith slots p n longer → length longer ≡ length slots
 with_long slots longer p n w = ap (λ (s : Assignment). length s) w.is ∙ length-set slots p (Some n)
@@ -18,16 +18,16 @@ pub with_free-requires-2 : goal.with_free-requires-2
 with_free-requires-2 c =
     let a = c.args in
     let o = offered a.offer.now in
-    with_long a.slots.now c.in-Some.shorter a.pattern o.number c.in-Some.ensures ∙ length-SlotsSuit o.letters o.definition.patterns a.slots.now c.requires.can.suits ∙ sym c.len-patterns.ensures.count
+    with_long a.slots.now c.in_ok-shorter.shorter a.pattern o.number c.in_ok-shorter.ensures ∙ length-SlotsSuit o.letters o.definition.patterns a.slots.now c.requires.can.suits ∙ sym c.len-patterns.ensures.count
 
-pub newly_decided-requires-clause-short : goal.newly_decided-requires-clause-short
-newly_decided-requires-clause-short c =
+pub tests_of-requires-clause-short : goal.tests_of-requires-clause-short
+tests_of-requires-clause-short c =
     let a = c.args in
     let o = offered a.offer.now in
-    with_long a.slots.now c.in-Some.shorter a.pattern o.number c.in-Some.ensures ∙ length-SlotsSuit o.letters o.definition.patterns a.slots.now c.requires.can.suits
+    with_long a.slots.now c.in_ok-shorter.shorter a.pattern o.number c.in_ok-shorter.ensures ∙ length-SlotsSuit o.letters o.definition.patterns a.slots.now c.requires.can.suits
 
-pub newly_decided-requires-clause-long : goal.newly_decided-requires-clause-long
-newly_decided-requires-clause-long c =
+pub tests_of-requires-clause-long : goal.tests_of-requires-clause-long
+tests_of-requires-clause-long c =
     let a = c.args in
     let o = offered a.offer.now in
-    with_long c.in-Some.shorter c.in-Some-with_free.longer a.other o.number c.in-Some-with_free.ensures ∙ with_long a.slots.now c.in-Some.shorter a.pattern o.number c.in-Some.ensures ∙ length-SlotsSuit o.letters o.definition.patterns a.slots.now c.requires.can.suits
+    with_long c.in_ok-shorter.shorter c.in_ok-longer.longer _ o.number c.in_ok-longer.ensures ∙ with_long a.slots.now c.in_ok-shorter.shorter a.pattern o.number c.in_ok-shorter.ensures ∙ length-SlotsSuit o.letters o.definition.patterns a.slots.now c.requires.can.suits

@@ -1,0 +1,10 @@
+use Rattle.std.proofs.Common.{◌≡◌}
+use Rattle.match_tree.specs.Offering.{offered}
+use Rattle.match_tree.specs.Screen.{AreTests}
+use Rattle.match_tree.proofs.screen.tests_of.Given as goal
+
+abbrev pub invariant-loop-place : goal.invariant-loop-place
+invariant-loop-place l = record {
+  other : l.screen.other ≡ l.other;
+  tests : AreTests (offered l.offer) l.longer l.pattern l.screen;
+}
