@@ -15,7 +15,7 @@ ghost use Rattle.actor_turn.specs.Sent.{delivered, sent_by};
 
 use crate::body::{run_body, stops};
 use crate::outbox::Outbox;
-use crate::sent::{copy_posts, deliver, reserve_each};
+use crate::sent::send;
 use fair_semantics::{Ending, Firing, Outcome};
 use join_base::{Items, Message, NoMemory, Numbers, Source, Steps};
 use mailbox_core::Mailbox;
@@ -171,9 +171,7 @@ pub fn fire(
         &chosen.taken,
         mail.letters(),
     )?;
-    let posts = copy_posts(alloc, &effects, mail.latest())?;
-    reserve_each(outboxes, posts.len())?;
-    deliver(outboxes, posts);
+    send(alloc, outboxes, effects.as_slice(), mail.latest())?;
     let_go(
         stops(&rule.body),
         mail,
