@@ -1,9 +1,8 @@
 -- Posts that are taken from an outbox, brought back, and put behind the others.
 use Rattle.std.proofs.Common.{◌≡◌, ◌≢◌, ◌∙◌, ℕ, zero, suc, ◌+◌, ◌-◌, ◌<◌, ◌≤◌, List, [], ◌∷◌, ◌++◌, map, length, length-append, take, drop, get_or, Bool, true, false, Option, Some, None, refl, sym, ap, subst, arith, append_assoc}
 use Rattle.std.specs.Prelude.{◌==◌, Result, Ok, Err, IfSome, OnErr, slice_set, if◌then◌else◌}
-use Rattle.std.specs.List.{AllByRecursion, cons_option, filter_map, flat_map}
+use Rattle.std.specs.List.{cons_option, filter_map, flat_map}
 use Rattle.std.proofs.lemmas.List.{map-set, append-nil, get_or-set_same, length-map, length-set, set-get_or, set-set, take_at}
-use Rattle.std.proofs.lemmas.List.Elements.{filter_map-append}
 use Rattle.std.proofs.Math.Seq.{map-set_same, take-length}
 use Rattle.std.proofs.lemmas.Bool.Decides.{nat_tests}
 use Rattle.join_base.specs.declared.message.Stamped.{Stamped}
@@ -15,7 +14,7 @@ use Rattle.fair_semantics.specs.Linked.{effect_for, entry_posts, firing_effects}
 use Rattle.fair_semantics.specs.Step.{Setting, State}
 use Rattle.actor_turn.specs.Held.{Held, first_of, posts_behind, posts_for, with_first, without_first}
 use Rattle.actor_turn.specs.Outbox.{Queue, is_lent_after}
-use Rattle.actor_turn.specs.Sent.{delivered, post_of, sent_by}
+use Rattle.actor_turn.specs.Sent.{delivered, sent_by}
 
 at_map : {X Y : Type 0} (f : X → Y) (xs : List X) (i : ℕ) (d : X) (e : Y) → i < length xs → get_or (map f xs) i e ≡ f (get_or xs i d)
 at_map f [] i d e within = absurd (omega arith)

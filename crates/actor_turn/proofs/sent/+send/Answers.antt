@@ -1,5 +1,4 @@
 use Rattle.std.proofs.Common.{◌≡◌, ◌∙◌, ◌-◌, ◌∷◌, List, take, drop, length, ap, sym, subst}
-use Rattle.std.specs.Prelude.{OnErr}
 use Rattle.std.specs.List.{AllByRecursion}
 use Rattle.join_base.specs.declared.message.Message.{Message}
 use Rattle.fair_semantics.specs.declared.run.Effect.{Effect}
