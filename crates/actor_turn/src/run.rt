@@ -6,12 +6,9 @@ ghost use Rattle.actor_turn.specs.Parts.{entries_of};
 use fair_semantics::{Entry, Firing};
 use join_base::{Items, Message, NoMemory};
 use mailbox_core::Mark;
-use std::alloc::Global;
 
 /// Makes room for what one more arrival fires, and for the entries of all of them. It may leave room where there is no memory.
-/// The room for entries is empty, so that nothing is moved where it grows.
 pub fn reserve_entry(
-    alloc: Global,
     firings: &mut Vec<Option<Firing>>,
     entries: &mut Vec<Entry>,
     arrivals: usize,
@@ -26,9 +23,7 @@ pub fn reserve_entry(
     ensures kept { vec_capacity entries.old ≤ vec_capacity entries.new }
 {
     firings.reserve(1)?;
-    if entries.capacity() <= arrivals {
-        *entries = Vec::with_capacity(alloc, 2 * arrivals + 4)?;
-    }
+    entries.reserve(arrivals + 1)?;
     Ok(())
 }
 
