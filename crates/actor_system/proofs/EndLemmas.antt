@@ -16,9 +16,9 @@ use Rattle.fair_semantics.proofs.ListLemmas.{each_append}
 use Rattle.schedule_law.specs.WorkLeft.{most_work, work_left}
 use Rattle.schedule_law.proofs.BoundLemmas.{reached_work}
 use Rattle.schedule_law.proofs.WorkLemmas.{steps_leave_less}
-use Rattle.actor_system.specs.Serving.{Link, Served, Serving, after_link, after_links, is_some_post, links_of, links_to, or_same, some_taken, some_waits, system_in, waits_on}
+use Rattle.actor_system.specs.Serving.{Link, Served, ServedInPart, Serving, SteppedInPart, after_link, after_links, in_steps, is_some_post, links_of, links_to, or_same, some_taken, some_waits, system_in, waits_on}
 use Rattle.actor_system.specs.Inside.{IsSound}
-use Rattle.actor_system.proofs.LinkLemmas.{take_next, taken_where_waits}
+use Rattle.actor_system.proofs.LinkLemmas.{served_both, take_next, taken_where_waits}
 
 abbrev one_if : Bool → ℕ
 one_if b = if b then 1 else 0
@@ -124,3 +124,27 @@ most_of s sound posts feed is l =
     let most = most_left s sound in
     let few = small_product (length s.plan.actors) (sum_by length s.feeds + 17 * s.limits.arrivals) sound.can.typed.few_actors in
     omega (arith, all, most, few)
+
+-- ---- some steps, one behind the other
+
+same_all_links : (before now : Serving) (xs : List Link) → Served before xs now → links_of now ≡ links_of before
+same_all_links before now xs served =
+    let feeds = served.same_feeds in
+    let plan = served.same_plan in
+    λ i. flat_map (λ target. map (λ source. (target, source)) (sources (length (feeds i)) (length (plan i).actors))) (numbers_from 0 (length (plan i).actors))
+
+pub step_more : (before now after : Serving) (k : ℕ) → Served before (in_steps k (links_of before)) now → Served now (links_of now) after → Served before (in_steps (k + 1) (links_of before)) after
+step_more before now after k done one =
+    let links : List Link = links_of before in
+    let next : k + 1 ≡ suc k = omega arith in
+    let same = subst (λ (ls : List Link). Served now ls after) (same_all_links before now (in_steps k links) done) one in
+    subst (λ (n : ℕ). Served before (in_steps n links) after) (sym next) (served_both before now after (in_steps k links) links done same)
+
+pub step_part : (before now after : Serving) (k : ℕ) → Served before (in_steps k (links_of before)) now → ServedInPart now (links_of now) after → SteppedInPart before after
+step_part before now after k done part = record {
+  steps = k;
+  first = part.first;
+  others = part.others;
+  are = sym (same_all_links before now (in_steps k (links_of before)) done) ∙ part.are;
+  served = served_both before now after (in_steps k (links_of before)) part.first done part.served;
+}

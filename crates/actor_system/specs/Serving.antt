@@ -124,6 +124,24 @@ pub record ServedInPart (before : Serving) (links : List Link) (after : Serving)
   pub are : links ≡ first ++ others
   pub served : Served before first after
 
+-- the links of so many steps, one step behind the other
+abbrev pub in_steps : ℕ → List Link → List Link
+in_steps zero links = []
+in_steps (suc k) links = in_steps k links ++ links
+
+-- so many whole steps were made
+pub record Stepped (before after : Serving) : Type 0 where
+  pub steps : ℕ
+  pub served : Served before (in_steps steps (links_of before)) after
+
+-- so many whole steps were made, and the first links of one more were served
+pub record SteppedInPart (before after : Serving) : Type 0 where
+  pub steps : ℕ
+  pub first : List Link
+  pub others : List Link
+  pub are : links_of before ≡ first ++ others
+  pub served : Served before (in_steps steps (links_of before) ++ first) after
+
 -- the run of an actor
 abbrev pub run_in : Held → ActorRun
 run_in held = run_of held.setting.rules held.state

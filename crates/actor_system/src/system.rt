@@ -9,15 +9,15 @@ ghost use Rattle.schedule_law.specs.Reached.{FeedsFit};
 ghost use Rattle.schedule_law.specs.WorkLeft.{work_left};
 ghost use Rattle.actor_turn.specs.Held.{AreLimits};
 ghost use Rattle.fair_semantics.specs.Schedule.{system_at_first};
-ghost use Rattle.actor_system.specs.Serving.{MovedTo, Served, ServedInPart, StandsAt, after_link, links_of, links_to, some_taken, some_waits, system_in, waits_on};
+ghost use Rattle.actor_system.specs.Serving.{MovedTo, Served, ServedInPart, StandsAt, Stepped, SteppedInPart, after_link, links_of, links_to, some_taken, some_waits, system_in, waits_on};
 
 use crate::feed::next_for;
 use crate::opening::{actors_of, zeros};
 use crate::runs::into_runs;
 use crate::source::source_at;
-use actor_turn::Actor;
+use actor_turn::{Actor, Refused};
 use fair_semantics::{ActorRun, Limits, Run};
-use join_base::{FeedList, Items, NoMemory, Source, Steps};
+use join_base::{FeedList, Items, NoMemory, Source, Stamped, Steps};
 use script_types::Plan;
 use std::alloc::Global;
 use std::marker::Model;
@@ -129,10 +129,12 @@ impl<'p> System<'p> {
             return Ok(false);
         };
         let source = Source::Actor(sender);
+        let Stamped { message, stamp } = post;
         let actor = &mut self.actors[target as usize];
-        match actor.arrive(alloc, source, &post.message, post.stamp, steps) {
+        match actor.receive(alloc, source, message, stamp, steps) {
             Ok(_) => Ok(true),
-            Err(NoMemory) => {
+            Err(Refused { message }) => {
+                let post = Stamped { message, stamp };
                 self.actors[sender as usize].return_post(target, post);
                 Err(NoMemory)
             }
@@ -211,7 +213,8 @@ impl<'p> System<'p> {
         32 * (posts + 17 * self.limits.arrivals as u128)
     }
 
-    /// Steps until nothing waits, which it always comes to. `NoMemory` is that of a step, and it stands as after that.
+    /// Steps until nothing waits, which it always comes to.
+    /// After `NoMemory` the post that was refused waits first as before, and the earlier ones have arrived.
     pub fn run_to_end<L: Ledger>(
         &mut self,
         alloc: Global,
@@ -221,6 +224,8 @@ impl<'p> System<'p> {
         ensures limits { self.new.limits ≡ self.old.limits }
         ensures feeds { self.new.feeds ≡ self.old.feeds }
         ensures nothing { OnOk result (some_waits self.new ≡ false) }
+        ensures stepped { OnOk result (Stepped self.old self.new) }
+        ensures part { OnErr result (SteppedInPart self.old self.new) }
     {
         for turn in 0..self.most_steps() {
             if !self.step(alloc, steps)? {

@@ -1,5 +1,5 @@
 -- The posts of a body that can run: few, each for an actor that exists.
-use Rattle.std.proofs.Common.{◌≡◌, ℕ, ◌≤◌, List, [], ◌∷◌, length, length-append, ◌∙◌, ap, subst, sym, arith}
+use Rattle.std.proofs.Common.{◌≡◌, ℕ, List, [], ◌∷◌, subst, sym}
 use Rattle.std.specs.List.{AllByRecursion}
 use Rattle.std.proofs.lemmas.List.Elements.{filter_map-append}
 use Rattle.join_base.specs.declared.message.Message.{Message}
@@ -19,34 +19,15 @@ module _ (actors : ℕ) (letters : List Message) (taken : List ℕ) (stamp : ℕ
   one_for statement.Stop h = tt
   one_for (statement.Reply pattern operand) h = tt
 
-  one_few : (s : Statement) → length (sent_by stamp (statement_effects letters taken s)) ≤ 1
-  one_few (statement.Print items) = omega arith
-  one_few (statement.Post target kind operands) = omega arith
-  one_few statement.Stop = omega arith
-  one_few (statement.Reply pattern operand) = omega arith
-
   pub posts_for_actors : (body : List Statement) → AllByRecursion (StatementReady actors letters taken) body → AllByRecursion (IsFor actors) (sent_by stamp (effects_of letters taken body))
   posts_for_actors [] h = tt
   posts_for_actors (s ∷ body) h =
       subst (λ (ps : List (ℕ × Stamped)). AllByRecursion (IsFor actors) ps) (sym (filter_map-append (post_of stamp) (statement_effects letters taken s) (effects_of letters taken body)))
       (each_append (IsFor actors) (sent_by stamp (statement_effects letters taken s)) (sent_by stamp (effects_of letters taken body)) (one_for s h.0) (posts_for_actors body h.1))
 
-  pub posts_few : (body : List Statement) → length (sent_by stamp (effects_of letters taken body)) ≤ length body
-  posts_few [] = omega arith
-  posts_few (s ∷ body) =
-      let parts = filter_map-append (post_of stamp) (statement_effects letters taken s) (effects_of letters taken body) in
-      let long = length-append (sent_by stamp (statement_effects letters taken s)) (sent_by stamp (effects_of letters taken body)) in
-      let one = one_few s in
-      let more = posts_few body in
-      subst (λ (ps : List (ℕ × Stamped)). length ps ≤ length (s ∷ body)) (sym parts) (omega arith)
-
--- what is asked to deliver the posts of a body that ran
-pub posts_ready : (actors : ℕ) (known letters : List Message) (taken : List ℕ) (stamp : ℕ) (given body : List Statement) (effects : List Effect) (posts : List (ℕ × Stamped)) → letters ≡ known → given ≡ body → effects ≡ effects_of letters taken body → posts ≡ sent_by stamp effects
-    → BodyReady actors known taken given → (length posts ≤ 16) × AllByRecursion (IsFor actors) posts
-posts_ready actors known letters taken stamp given body effects posts known_as given_as ran sent ready =
+-- what is asked to send the posts of a body that ran
+pub posts_ready : (actors : ℕ) (known letters : List Message) (taken : List ℕ) (stamp : ℕ) (given body : List Statement) (effects : List Effect) → letters ≡ known → given ≡ body → effects ≡ effects_of letters taken body
+    → BodyReady actors known taken given → AllByRecursion (IsFor actors) (sent_by stamp effects)
+posts_ready actors known letters taken stamp given body effects known_as given_as ran ready =
     let here = subst (λ (ms : List Message). BodyReady actors ms taken body) (sym known_as) (subst (λ (b : List Statement). BodyReady actors known taken b) given_as ready) in
-    let are = sent ∙ ap (sent_by stamp) ran in
-    let few = posts_few actors letters taken stamp body in
-    let same = ap length are in
-    let statements = here.few in
-    (omega arith, subst (λ (ps : List (ℕ × Stamped)). AllByRecursion (IsFor actors) ps) (sym are) (posts_for_actors actors letters taken stamp body here.each))
+    subst (λ (es : List Effect). AllByRecursion (IsFor actors) (sent_by stamp es)) (sym ran) (posts_for_actors actors letters taken stamp body here.each)

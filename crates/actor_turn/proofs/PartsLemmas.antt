@@ -2,7 +2,7 @@
 use Rattle.std.proofs.Common.{◌≡◌, ◌∙◌, ℕ, suc, ◌+◌, ◌-◌, List, [], ◌∷◌, ◌++◌, length, take, length-append, Option, refl, sym, ap, arith}
 use Rattle.std.specs.Prelude.{max, reverse}
 use Rattle.std.proofs.Math.Seq.{append_snoc, take-append_seam}
-use Rattle.std.proofs.lemmas.List.{reverse-append}
+use Rattle.std.proofs.lemmas.List.{append_cancel_left, map-append, reverse-append}
 use Rattle.join_base.specs.declared.message.Message.{Message}
 use Rattle.join_base.specs.declared.message.Source.{Source}
 use Rattle.mailbox_core.specs.Mail.{Mail, Received, latest_from, latest, marks_of, next_arrival, received_of, with_arrival, with_live, without_last}
@@ -94,3 +94,13 @@ retracted_again m source message stamp =
     let arrivals = ap (λ (n : ℕ). take n (m.arrivals ++ one)) first ∙ take-append_seam m.arrivals one in
     let live = ap (λ (n : ℕ). take n (m.live ++ (length m.arrivals + 1) ∷ [])) second ∙ take-append_seam m.live ((length m.arrivals + 1) ∷ []) in
     λ i. record { arrivals = arrivals i; live = live i; late = m.late }
+
+-- and its message comes back
+pub handed_back : (m before after : Mail) (source : Source) (message back : Message) (stamp : ℕ) → before ≡ with_arrival m source message stamp → mail.letters_of before.arrivals ≡ mail.letters_of after.arrivals ++ back ∷ [] → after ≡ without_last before → back ≡ message
+handed_back m before after source message back stamp is told left =
+    let again : after ≡ m = left ∙ ap without_last is ∙ retracted_again m source message stamp in
+    let letters : mail.letters_of m.arrivals ++ back ∷ [] ≡ mail.letters_of m.arrivals ++ message ∷ [] =
+    ap (λ (x : Mail). mail.letters_of x.arrivals ++ back ∷ []) (sym again) ∙ sym told ∙ ap (λ (x : Mail). mail.letters_of x.arrivals) is
+    ∙ map-append (λ (a : Received). a.message) m.arrivals (next_arrival m.arrivals source message stamp ∷ []) in
+    let same : back ∷ [] ≡ message ∷ [] = append_cancel_left (mail.letters_of m.arrivals) (back ∷ []) (message ∷ []) letters in
+    cc same

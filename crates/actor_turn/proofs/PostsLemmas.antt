@@ -1,10 +1,9 @@
 -- Posts that are taken from an outbox, brought back, and put behind the others.
-use Rattle.std.proofs.Common.{◌≡◌, ◌≢◌, ◌∙◌, ℕ, zero, suc, ◌+◌, ◌<◌, ◌≤◌, List, [], ◌∷◌, ◌++◌, map, length, take, drop, get_or, Bool, true, false, Option, Some, None, refl, sym, ap, subst, arith, append_assoc}
-use Rattle.std.specs.Prelude.{◌==◌, IfSome, slice_set, if◌then◌else◌}
-use Rattle.std.specs.List.{AllByRecursion, cons_option, filter_map, flat_map}
-use Rattle.std.proofs.lemmas.List.{map-set, append-nil, take_more, take_more_set}
-use Rattle.std.proofs.lemmas.List.Elements.{filter_map-append}
-use Rattle.std.proofs.Math.Seq.{map-set_same}
+use Rattle.std.proofs.Common.{◌≡◌, ◌≢◌, ◌∙◌, ℕ, zero, suc, ◌+◌, ◌-◌, ◌<◌, ◌≤◌, List, [], ◌∷◌, ◌++◌, map, length, length-append, take, drop, get_or, Bool, true, false, Option, Some, None, refl, sym, ap, subst, arith, append_assoc}
+use Rattle.std.specs.Prelude.{◌==◌, Result, Ok, Err, IfSome, OnErr, slice_set, if◌then◌else◌}
+use Rattle.std.specs.List.{cons_option, filter_map, flat_map}
+use Rattle.std.proofs.lemmas.List.{map-set, append-nil, get_or-set_same, length-map, length-set, set-get_or, set-set, take_at}
+use Rattle.std.proofs.Math.Seq.{map-set_same, take-length}
 use Rattle.std.proofs.lemmas.Bool.Decides.{nat_tests}
 use Rattle.join_base.specs.declared.message.Stamped.{Stamped}
 use Rattle.fair_semantics.specs.declared.run.Effect.{Effect}
@@ -13,10 +12,9 @@ use Rattle.fair_semantics.specs.declared.run.Firing.{Firing}
 use Rattle.fair_semantics.specs.declared.run.Entry.{Entry}
 use Rattle.fair_semantics.specs.Linked.{effect_for, entry_posts, firing_effects}
 use Rattle.fair_semantics.specs.Step.{Setting, State}
-use Rattle.tree_law.proofs.LoopLemmas.{all_last}
 use Rattle.actor_turn.specs.Held.{Held, first_of, posts_behind, posts_for, with_first, without_first}
 use Rattle.actor_turn.specs.Outbox.{Queue, is_lent_after}
-use Rattle.actor_turn.specs.Sent.{HasRoom, delivered, post_of, sent_by}
+use Rattle.actor_turn.specs.Sent.{delivered, sent_by}
 
 at_map : {X Y : Type 0} (f : X → Y) (xs : List X) (i : ℕ) (d : X) (e : Y) → i < length xs → get_or (map f xs) i e ≡ f (get_or xs i d)
 at_map f [] i d e within = absurd (omega arith)
@@ -57,7 +55,7 @@ module _ (setting : Setting) (state : State) (boxes : List Queue) (target : ℕ)
 
 -- ---- room, and posts that are delivered
 
-abbrev all_posts : List Queue → List (List Stamped)
+abbrev pub all_posts : List Queue → List (List Stamped)
 all_posts boxes = map (λ o. o.posts) boxes
 
 abbrev all_lent : List Queue → List Bool
@@ -70,41 +68,49 @@ posts_kept boxes i d now e = map-set_same (λ (o : Queue). o.posts) boxes i now 
 pub lent_kept : (boxes : List Queue) (i : ℕ) (d now : Queue) → now.lent ≡ (get_or boxes i d).lent → map (λ o. o.lent) (slice_set boxes i now) ≡ map (λ o. o.lent) boxes
 lent_kept boxes i d now e = map-set_same (λ (o : Queue). o.lent) boxes i now d e
 
--- one more box has room
-pub room_more : (count : ℕ) (boxes : List Queue) (i : ℕ) (now : Queue) → i < length boxes → AllByRecursion (HasRoom count) (take i boxes) → HasRoom count now → AllByRecursion (HasRoom count) (take (i + 1) (slice_set boxes i now))
-room_more count boxes i now within h one =
-    subst (λ (bs : List Queue). AllByRecursion (HasRoom count) bs) (sym (take_more_set boxes i now within)) (all_last (HasRoom count) (take i boxes) now h one)
-
--- where room for one fewer is asked, the box that took a post has it too
-pub room_less : (count : ℕ) (boxes : List Queue) (i : ℕ) (d now : Queue) → AllByRecursion (HasRoom (count + 1)) boxes → now.room + 1 ≡ (get_or boxes i d).room → AllByRecursion (HasRoom count) (slice_set boxes i now)
-room_less count [] i d now h e = tt
-room_less count (b ∷ boxes) zero d now h e = (omega (arith, h.0), fewer boxes h.1)
-  where
-    fewer : (bs : List Queue) → AllByRecursion (HasRoom (count + 1)) bs → AllByRecursion (HasRoom count) bs
-    fewer [] a = tt
-    fewer (c ∷ bs) a = (omega (arith, a.0), fewer bs a.1)
-room_less count (b ∷ boxes) (suc i) d now h e = (omega (arith, h.0), room_less count boxes i d now h.1 e)
-
--- a box of a list in which all have room
-pub room_at : (count : ℕ) (boxes : List Queue) (i : ℕ) (d : Queue) → i < length boxes → AllByRecursion (HasRoom count) boxes → count ≤ (get_or boxes i d).room
-room_at count [] i d within h = absurd (omega arith)
-room_at count (b ∷ boxes) zero d within h = h.0
-room_at count (b ∷ boxes) (suc i) d within h = room_at count boxes i d (omega arith) h.1
+-- what holds anyway holds where there is an error
+pub on_err : {A E P : Type 0} (r : Result A E) → P → OnErr r P
+on_err (Ok a) p = tt
+on_err (Err e) p = p
 
 -- one post is delivered
-pub delivered_one : (posts rest : List (ℕ × Stamped)) (target : ℕ) (post : Stamped) (boxes : List Queue) (d now : Queue) (whole : List (List Stamped)) → target < length boxes → posts ≡ (target, post) ∷ rest → now.posts ≡ (get_or boxes target d).posts ++ post ∷ []
-    → delivered posts (map (λ o. o.posts) boxes) ≡ whole → delivered rest (map (λ o. o.posts) (slice_set boxes target now)) ≡ whole
-delivered_one posts rest target post boxes d now whole within is made told =
+pub delivered_one : (target : ℕ) (post : Stamped) (boxes : List Queue) (d now : Queue) (rest : List (ℕ × Stamped)) → target < length boxes → now.posts ≡ (get_or boxes target d).posts ++ post ∷ []
+    → delivered rest (all_posts (slice_set boxes target now)) ≡ delivered ((target, post) ∷ rest) (all_posts boxes)
+delivered_one target post boxes d now rest within made =
     let waiting : posts_for (all_posts boxes) target ≡ (get_or boxes target d).posts = at_map (λ (o : Queue). o.posts) boxes target d [] within in
     ap (delivered rest) (map-set (λ (o : Queue). o.posts) boxes target now ∙ ap (slice_set (all_posts boxes) target) (made ∙ ap (λ (ps : List Stamped). ps ++ post ∷ []) (sym waiting)))
-    ∙ ap (λ (ps : List (ℕ × Stamped)). delivered ps (all_posts boxes)) (sym is)
-    ∙ told
 
--- the posts of one effect more
-pub sent_more : (stamp : ℕ) (effects : List Effect) (i : ℕ) (e d : Effect) → i < length effects → e ≡ get_or effects i e → sent_by stamp (take (i + 1) effects) ≡ sent_by stamp (take i effects) ++ sent_by stamp (e ∷ [])
-sent_more stamp effects i e d within is =
-    ap (sent_by stamp) (take_more effects i e within ∙ ap (λ (x : Effect). take i effects ++ x ∷ []) (sym is))
-    ∙ filter_map-append (post_of stamp) (take i effects) (e ∷ [])
+-- a post that was put behind the others is taken out again
+pub unsent : (target : ℕ) (post : Stamped) (boxes others : List Queue) (d now e last : Queue) → target < length boxes → now.posts ≡ (get_or boxes target d).posts ++ post ∷ []
+    → all_posts others ≡ all_posts (slice_set boxes target now) → last.posts ≡ take (length (get_or others target e).posts - 1) (get_or others target e).posts → all_posts (slice_set others target last) ≡ all_posts boxes
+unsent target post boxes others d now e last within made same taken =
+    let old : List (List Stamped) = all_posts boxes in
+    let before : List Stamped = (get_or boxes target d).posts in
+    let found : List Stamped = (get_or others target e).posts in
+    let told : all_posts others ≡ slice_set old target now.posts = same ∙ map-set (λ (o : Queue). o.posts) boxes target now in
+    let count = length-map boxes (λ (o : Queue). o.posts) in
+    let within_old : target < length old = omega arith in
+    let counts : length (all_posts others) ≡ length old = ap length told ∙ length-set old target now.posts in
+    let within_others : target < length others = omega (arith, length-map others (λ (o : Queue). o.posts)) in
+    let was : before ≡ posts_for old target = sym (at_map (λ (o : Queue). o.posts) boxes target d [] within) in
+    let found_is : found ≡ before ++ post ∷ [] =
+    sym (at_map (λ (o : Queue). o.posts) others target e [] within_others) ∙ ap (λ (os : List (List Stamped)). posts_for os target) told
+    ∙ get_or-set_same old target now.posts [] within_old ∙ made in
+    let long : length found ≡ length before + 1 = ap length found_is ∙ length-append before (post ∷ []) in
+    let left : last.posts ≡ before = taken ∙ ap (take (length found - 1)) found_is ∙ take_at before (post ∷ []) (length found - 1) (omega arith) in
+    map-set (λ (o : Queue). o.posts) others target last
+    ∙ (λ i. slice_set (told i) target (left i))
+    ∙ set-set old target now.posts before
+    ∙ ap (slice_set old target) was
+    ∙ set-get_or old target []
+
+-- the first of some effects, and the others
+pub first_effect : (effects : List Effect) (first : Effect) → 1 ≤ length effects → first ≡ get_or effects 0 first → effects ≡ first ∷ take (length effects - 1) (drop 1 effects)
+first_effect [] first some is = absurd (omega arith)
+first_effect (e ∷ effects) first some is =
+    let count : length (e ∷ effects) - 1 ≡ length effects = omega arith in
+    let others : take (length (e ∷ effects) - 1) effects ≡ effects = ap (λ (n : ℕ). take n effects) count ∙ take-length effects in
+    λ i. sym is i ∷ sym others i
 
 -- ---- delivered posts stand behind the others
 

@@ -1,6 +1,7 @@
 -- Actors at rest: a new one, and one that did not take a message; and when a message is taken.
 use Rattle.std.proofs.Common.{◌≡◌, ◌∙◌, ℕ, zero, suc, ◌<◌, ◌≤◌, ◌-◌, ◌^◌, min, max, List, [], ◌∷◌, map, length, drop, replicate, true, false, Option, Some, slice_get, refl, sym, ap, subst, arith}
-use Rattle.std.specs.Prelude.{not, nat_le, nat_lt}
+use Rattle.std.specs.Prelude.{Bool, not, ◌&&◌, nat_le, nat_lt}
+use Rattle.std.proofs.lemmas.Bool.{and_parts, not-true, not-false}
 use Rattle.std.specs.List.{AllByRecursion}
 use Rattle.std.specs.List.Sorted.{IsStrictlyIncreasing}
 use Rattle.std.proofs.lemmas.Bool.Decides.{nat_tests}
@@ -24,9 +25,9 @@ use Rattle.fair_semantics.specs.declared.run.Ending.TheVariants as ending
 use Rattle.fair_semantics.specs.declared.run.Entry.{Entry}
 use Rattle.fair_semantics.specs.declared.run.Firing.{Firing}
 use Rattle.fair_semantics.specs.Fair.{partials_of}
-use Rattle.fair_semantics.specs.Step.{Setting, State, definitions_of, fits, is_refused, latest_stamp}
+use Rattle.fair_semantics.specs.Step.{Setting, State, definitions_of, fair_step, fits, is_refused, is_running, late_step, latest_stamp, spent_step}
 use Rattle.fair_semantics.proofs.ListLemmas.{each_at}
-use Rattle.actor_turn.specs.Held.{AreLimits}
+use Rattle.actor_turn.specs.Held.{AreLimits, is_taken}
 use Rattle.actor_turn.specs.Inside.{HasFewFields, IsAtRest, IsTold}
 use Rattle.actor_turn.specs.Parts.{state_of}
 use Rattle.actor_turn.specs.Steady.{new_trees}
@@ -47,6 +48,27 @@ module _ (setting : Setting) (state : State) (message : Message) (stamp : ℕ) w
     where
       by : (a b : ℕ) → nat_lt a b ≡ not (nat_le b a)
       by a b = grind (arith, nat_tests)
+
+  pub taken_runs : is_taken setting state message stamp ≡ true → state.ending ≡ ending.Running
+  taken_runs taken = by state.ending (and_parts (is_running state.ending) (not (is_refused setting state message stamp)) taken).0
+    where
+      by : (e : Ending) → is_running e ≡ true → e ≡ ending.Running
+      by ending.Running h = refl
+      by ending.Stopped h = absurd cc
+      by ending.Jammed h = absurd cc
+      by ending.Spent h = absurd cc
+
+  pub taken_fits : is_taken setting state message stamp ≡ true → is_refused setting state message stamp ≡ false
+  taken_fits taken = not-true (is_refused setting state message stamp) (and_parts (is_running state.ending) (not (is_refused setting state message stamp)) taken).1
+
+  -- a message that is not taken is late, and a running actor is spent
+  pub late_is : (source : Source) → is_running state.ending ≡ false → fair_step setting state source message stamp ≡ late_step state source
+  late_is source ended = rw ended refl
+
+  pub spent_is : (source : Source) → is_running state.ending ≡ true → is_taken setting state message stamp ≡ false → fair_step setting state source message stamp ≡ spent_step state source
+  spent_is source running away =
+      let refused : is_refused setting state message stamp ≡ true = not-false (is_refused setting state message stamp) (ap (λ (b : Bool). b && not (is_refused setting state message stamp)) (sym running) ∙ away) in
+      rw (running, refused) refl
 
 -- ---- a message that is not taken
 

@@ -1,7 +1,6 @@
 -- The plan of the tests is well typed.
-use Rattle.std.proofs.Common.{◌≡◌, ℕ, List, [], ◌∷◌, length, map, true, ap, arith}
+use Rattle.std.proofs.Common.{◌≡◌, List, [], ◌∷◌, length, true, ap, arith}
 use Rattle.join_base.specs.Text.{is_name}
-use Rattle.join_base.specs.declared.message.Sort.{Sort}
 use Rattle.script_types.specs.declared.plan.ActorPlan.{ActorPlan}
 use Rattle.script_types.specs.declared.plan.Kind.{Kind}
 use Rattle.script_types.specs.Names.{AreOwnNames, field_names}

@@ -1,36 +1,29 @@
 -- What well typed rules allow: their definitions may be tested on messages that fit, and their bodies can run at every match.
-use Rattle.std.proofs.Common.{◌≡◌, ◌∙◌, ℕ, zero, suc, ◌-◌, ◌≤◌, List, [], ◌∷◌, map, true, Option, None, Some, refl, ap, sym, subst, length, slice_get, slice_index, arith}
+use Rattle.std.proofs.Common.{◌≡◌, ℕ, ◌-◌, ◌≤◌, List, [], ◌∷◌, map, true, Option, None, Some, sym, subst, length, arith}
 use Rattle.std.specs.Prelude.{All}
 use Rattle.std.specs.List.{AllByRecursion}
-use Rattle.std.specs.Option.{option_and_then}
 use Rattle.std.proofs.lemmas.List.{length-map}
 use Rattle.std.proofs.lemmas.List.Elements.{All-filter}
-use Rattle.std.proofs.lemmas.Option.{slice_get_within, get_or_from_slice_get}
-use Rattle.join_base.specs.declared.message.Sort.{Sort}
-use Rattle.join_base.specs.declared.message.Value.{Value}
 use Rattle.join_base.specs.declared.message.Message.{Message}
 use Rattle.guard_eval.specs.Condition.{Condition}
-use Rattle.guard_eval.specs.Meaning.{Need, has_sort, is_of_sort, needs_of, operand_needs}
-use Rattle.guard_eval.proofs.ExtendLemmas.{both_true}
+use Rattle.guard_eval.specs.Meaning.{needs_of}
 use Rattle.guard_eval.proofs.ReadyLemmas.{each_at}
 use Rattle.pattern_core.specs.declared.definition.Definition.{Definition}
 use Rattle.pattern_core.specs.declared.candidate.Candidate.{Candidate}
 use Rattle.pattern_core.specs.Assigns.{Assigns}
-use Rattle.pattern_core.specs.Suits.{DefinitionSuits, IsRecorded, KindHas, NeedSuits, SlotsSuit}
+use Rattle.pattern_core.specs.Suits.{DefinitionSuits, IsRecorded, NeedSuits, SlotsSuit}
 use Rattle.pattern_core.specs.Choice.{slots_of, choice, IsChosen}
 use Rattle.pattern_core.specs.Window.{SeesLatest, is_seen, seen_of}
 use Rattle.guard_eval.specs.declared.term.Operand.{Operand}
 use Rattle.pattern_core.proofs.DefinitionsLemmas.{place_of}
-use Rattle.pattern_core.proofs.GuardLemmas.{ready_where_full}
-use Rattle.pattern_core.proofs.LawLemmas.{choice_is_chosen, is_full-slots_of}
+use Rattle.pattern_core.proofs.LawLemmas.{choice_is_chosen}
 use Rattle.pattern_core.proofs.SuitsLemmas.{length-SlotsSuit, suits_from_assigns}
 use Rattle.script_types.specs.declared.plan.Rule.{Rule}
-use Rattle.script_types.specs.declared.plan.Item.{Item}
 use Rattle.script_types.specs.declared.plan.Statement.{Statement}
 use Rattle.script_types.specs.declared.plan.Statement.TheVariants as statement
-use Rattle.script_types.specs.Typed.{HasType, IsTypedCondition, IsTypedItem, IsTypedOperand, IsTypedRule, IsTypedStatement, IsTypedWindow, Sorts, type_of}
-use Rattle.fair_semantics.specs.Step.{are_of_sorts, body_at, body_of, definitions_of, fits, fits_sorts}
-use Rattle.fair_semantics.specs.Ready.{ItemReady, OperandReady, item_needs}
+use Rattle.script_types.specs.Typed.{IsTypedCondition, IsTypedOperand, IsTypedRule, IsTypedStatement, IsTypedWindow, Sorts, type_of}
+use Rattle.fair_semantics.specs.Step.{body_at, body_of, definitions_of, fits}
+use Rattle.fair_semantics.specs.Ready.{OperandReady}
 use Rattle.fair_semantics.proofs.ListLemmas.{each_from, each_map, mapped_at}
 use Rattle.fair_semantics.proofs.ReadyLemmas.{items_ready, needs_suit, operand_ready}
 use Rattle.fair_semantics.proofs.TypedLemmas.{condition_typed}

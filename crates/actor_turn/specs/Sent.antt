@@ -1,11 +1,10 @@
 -- The posts of a firing, on their way to the outboxes of their targets.
-use Rattle.std.specs.Prelude.{ℕ, ◌<◌, ◌≤◌, List, [], ◌∷◌, ◌++◌, Option, None, Some, slice_set}
+use Rattle.std.specs.Prelude.{ℕ, ◌<◌, List, [], ◌∷◌, ◌++◌, Option, None, Some, slice_set}
 use Rattle.std.specs.List.{filter_map}
 use Rattle.join_base.specs.declared.message.Stamped.{Stamped}
 use Rattle.fair_semantics.specs.declared.run.Effect.{Effect}
 use Rattle.fair_semantics.specs.declared.run.Effect.TheVariants as effect
 use Rattle.actor_turn.specs.Held.{posts_for}
-use Rattle.actor_turn.specs.Outbox.{Queue}
 
 -- the post of an effect, with its target and the stamp
 abbrev pub post_of : ℕ → Effect → Option (ℕ × Stamped)
@@ -24,6 +23,3 @@ delivered (sent ∷ more) outbox = delivered more (slice_set outbox sent.0 (post
 -- the target is one of so many actors
 abbrev pub IsFor : ℕ → (ℕ × Stamped) → Type 0
 IsFor actors sent = sent.0 < actors
-
-abbrev pub HasRoom : ℕ → Queue → Type 0
-HasRoom count queue = count ≤ queue.room

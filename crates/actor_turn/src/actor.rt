@@ -1,11 +1,12 @@
 //! One actor.
-ghost use Rattle.std.specs.Prelude.{◌≡◌, ◌+◌, ◌<◌, ◌≤◌, length, false, true, not, IfOk, IfSome, OnErr, OnOk, slice_index_or};
+ghost use Rattle.std.specs.Prelude.{◌≡◌, ◌+◌, ◌<◌, ◌≤◌, ℕ, length, false, true, IfErr, IfOk, IfSome, OnErr, OnOk, slice_index_or};
 ghost use Rattle.std.specs.List.{AllByRecursion};
 ghost use Rattle.std.specs.List.Sorted.{IsStrictlyIncreasing};
 ghost use Rattle.join_base.specs.Late.{HasCount};
+ghost use Rattle.join_base.specs.declared.message.Message.{Message};
 ghost use Rattle.join_base.specs.declared.message.Source.{Source};
 ghost use Rattle.script_types.specs.Typed.{IsTyped};
-ghost use Rattle.fair_semantics.specs.Step.{fair_step, is_refused};
+ghost use Rattle.fair_semantics.specs.Step.{fair_step, is_running};
 ghost use Rattle.fair_semantics.specs.Fair.{partials_of, run_of, setting_of};
 ghost use Rattle.fair_semantics.specs.Fits.{RuleFits};
 ghost use Rattle.actor_turn.specs.Held.{AreLimits, first_of, is_taken, new_actor, new_entries, posts_behind, posts_for, tries_for, with_first, without_first};
@@ -13,7 +14,8 @@ ghost use Rattle.actor_turn.specs.Held.{AreLimits, first_of, is_taken, new_actor
 use crate::fit::fits;
 use crate::opening::{copy_rules, kind_sorts, outboxes_of, trees_of};
 use crate::outbox::Outbox;
-use crate::run::into_entries;
+use crate::refused::Refused;
+use crate::run::{into_entries, reserve_entry};
 use crate::step::{fire, keep, record, spend};
 use crate::texts::rule_texts;
 use fair_semantics::{ActorRun, Ending, Entry, Firing, Limits, Outcome};
@@ -59,6 +61,16 @@ impl Model for Actor {
     ghost invariant = { IsKept };
 }
 
+// Whether an actor with this ending runs.
+fn runs(ending: Ending) -> bool
+    ensures { result ≡ is_running ending }
+{
+    match ending {
+        Ending::Running => true,
+        Ending::Stopped | Ending::Jammed | Ending::Spent => false,
+    }
+}
+
 impl Actor {
     /// The actor of the plan with this index, counted from 0, before its first arrival. It has so many feeds.
     /// Its caller is told too that the fixed texts of its rules are texts and their numbers are of 64 bits, as their types say.
@@ -97,10 +109,13 @@ impl Actor {
         })
     }
 
-    // Whether a running actor takes the message: it is not full, the message fits, and a stamp is left.
+    // Whether the actor runs and takes the message: it is not full, the message fits, and a stamp is left.
     fn takes(&self, message: &Message, stamp: u64) -> bool
-        ensures { result ≡ not (is_refused self.now.setting self.now.state message.now stamp) }
+        ensures { result ≡ is_taken self.now.setting self.now.state message.now stamp }
     {
+        if !runs(self.ending) {
+            return false;
+        }
         if self.mail.letters().len() >= self.limits.arrivals as usize {
             return false;
         }
@@ -110,8 +125,26 @@ impl Actor {
         self.mail.latest().max(stamp) < Stamped::GREATEST
     }
 
+    // The fair step with any message that the actor doesn't take: it is late, and a running actor ends.
+    fn turn_away(&mut self, source: Source) -> Outcome
+        requires exists { HasCount self.old.state.late source }
+
+        ensures step { (message : Message) (stamp : ℕ) → is_taken self.old.setting self.old.state message stamp ≡ false → fair_step self.old.setting self.old.state source message stamp ≡ (self.new.state, result) }
+        ensures setting { self.new.setting ≡ self.old.setting }
+        ensures outbox { self.new.outbox ≡ posts_behind 0 (new_entries self.old.state self.new.state) self.old.outbox }
+        ensures lent { self.new.lent ≡ self.old.lent }
+        ensures sources { (other : Source) → HasCount self.old.state.late other → HasCount self.new.state.late other }
+    {
+        if !runs(self.ending) {
+            self.mail.add_late(source);
+            return Outcome::Late;
+        }
+        spend(&mut self.mail, &mut self.trees, &mut self.ending, source);
+        Outcome::Spent
+    }
+
     /// One fair step with any message, of a source that exists, and the stamp that it carries. The posts of a body wait in the
-    /// outboxes of their targets from then on.
+    /// outboxes of their targets from then on. Where the actor runs and takes the message, it records a copy.
     /// `NoMemory` comes only where the actor runs and takes the message, and then the actor is as it was.
     pub fn arrive<L: Ledger>(
         &mut self,
@@ -132,13 +165,40 @@ impl Actor {
         ensures steps { steps.new ≤ steps.old + tries_for self.old.setting.rules self.old.state message.now }
         ensures sources { OnOk result ((other : Source) → HasCount self.old.state.late other → HasCount self.new.state.late other) }
     {
-        if self.ending != Ending::Running {
-            self.mail.add_late(source);
-            return Ok(Outcome::Late);
-        }
         if !self.takes(message, stamp) {
-            spend(&mut self.mail, &mut self.trees, &mut self.ending, source);
-            return Ok(Outcome::Spent);
+            return Ok(self.turn_away(source));
+        }
+        let own = message.copy(alloc)?;
+        match self.take_in(alloc, source, own, stamp, steps) {
+            Ok(outcome) => Ok(outcome),
+            Err(_) => Err(NoMemory),
+        }
+    }
+
+    /// The same step with a message that is handed over, and so is not copied. `Refused` comes only where there is no memory and
+    /// the actor runs and takes the message. It has the message, and the actor is as it was.
+    pub fn receive<L: Ledger>(
+        &mut self,
+        alloc: Global,
+        source: Source,
+        message: Message,
+        stamp: u64,
+        steps: &mut Steps<L>,
+    ) -> Result<Outcome, Refused>
+        requires exists { HasCount self.old.state.late source }
+
+        ensures step { IfOk result (λ o. fair_step self.old.setting self.old.state source message stamp ≡ (self.new.state, o)) }
+        ensures setting { self.new.setting ≡ self.old.setting }
+        ensures outbox { OnOk result (self.new.outbox ≡ posts_behind 0 (new_entries self.old.state self.new.state) self.old.outbox) }
+        ensures lent { self.new.lent ≡ self.old.lent }
+        ensures unchanged { OnErr result (self.new ≡ self.old) }
+        ensures taken { OnErr result (is_taken self.old.setting self.old.state message stamp ≡ true) }
+        ensures back { IfErr result (λ r. r.message ≡ message) }
+        ensures steps { steps.new ≤ steps.old + tries_for self.old.setting.rules self.old.state message }
+        ensures sources { OnOk result ((other : Source) → HasCount self.old.state.late other → HasCount self.new.state.late other) }
+    {
+        if !self.takes(&message, stamp) {
+            return Ok(self.turn_away(source));
         }
         self.take_in(alloc, source, message, stamp, steps)
     }
@@ -148,24 +208,25 @@ impl Actor {
         &mut self,
         alloc: Global,
         source: Source,
-        message: &Message,
+        message: Message,
         stamp: u64,
         steps: &mut Steps<L>,
-    ) -> Result<Outcome, NoMemory>
-        requires running { self.old.state.ending ≡ Ending.Running }
-        requires takes { is_refused self.old.setting self.old.state message.now stamp ≡ false }
+    ) -> Result<Outcome, Refused>
+        requires taken { is_taken self.old.setting self.old.state message stamp ≡ true }
 
-        ensures step { IfOk result (λ o. fair_step self.old.setting self.old.state source message.now stamp ≡ (self.new.state, o)) }
+        ensures step { IfOk result (λ o. fair_step self.old.setting self.old.state source message stamp ≡ (self.new.state, o)) }
         ensures setting { self.new.setting ≡ self.old.setting }
         ensures outbox { OnOk result (self.new.outbox ≡ posts_behind 0 (new_entries self.old.state self.new.state) self.old.outbox) }
         ensures lent { self.new.lent ≡ self.old.lent }
         ensures unchanged { OnErr result (self.new ≡ self.old) }
-        ensures steps { steps.new ≤ steps.old + tries_for self.old.setting.rules self.old.state message.now }
+        ensures back { IfErr result (λ r. r.message ≡ message) }
+        ensures steps { steps.new ≤ steps.old + tries_for self.old.setting.rules self.old.state message }
     {
-        self.firings.reserve(1)?;
-        self.entries.reserve(self.mail.letters().len() + 1)?;
+        let arrivals = self.mail.letters().len();
+        let Ok(()) = reserve_entry(&mut self.firings, &mut self.entries, arrivals) else {
+            return Err(Refused { message });
+        };
         let number = record(
-            alloc,
             &mut self.mail,
             &mut self.trees,
             source,
@@ -198,10 +259,11 @@ impl Actor {
                 self.firings.push(Some(firing)).unwrap();
                 Ok(Outcome::Fired)
             }
-            Err(refused) => {
+            Err(NoMemory) => {
                 forget_all(&mut self.trees);
-                self.mail.retract_last();
-                Err(refused)
+                Err(Refused {
+                    message: self.mail.retract_last(),
+                })
             }
         }
     }

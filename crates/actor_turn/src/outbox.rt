@@ -1,5 +1,5 @@
 //! The posts that wait for one actor.
-ghost use Rattle.std.specs.Prelude.{◌≡◌, ◌+◌, ◌≤◌, ◌∷◌, [], ◌++◌, drop, true, false, OnOk};
+ghost use Rattle.std.specs.Prelude.{◌≡◌, ◌-◌, ◌∷◌, [], ◌++◌, drop, take, length, true, false, OnErr, OnOk};
 ghost use Rattle.actor_turn.specs.Held.{first_of};
 ghost use Rattle.actor_turn.specs.Outbox.{is_lent_after};
 
@@ -37,26 +37,24 @@ impl Outbox {
         }
     }
 
-    /// Makes room for so many more posts.
-    pub fn reserve(&mut self, count: usize) -> Result<(), NoMemory>
-        requires few { count ≤ 16 }
-        ensures room { OnOk result (count ≤ self.new.room) }
-        ensures posts { self.new.posts ≡ self.old.posts }
+    /// Puts a post behind the others. Without memory the posts are as they were.
+    pub fn push(&mut self, post: Stamped) -> Result<(), NoMemory>
+        ensures ok { OnOk result (self.new.posts ≡ self.old.posts ++ post ∷ []) }
+        ensures err { OnErr result (self.new.posts ≡ self.old.posts) }
         ensures lent { self.new.lent ≡ self.old.lent }
     {
         let kept = if self.lent { 1 } else { 0 };
-        self.posts.reserve(count + kept)?;
+        self.posts.reserve(1 + kept)?;
+        self.posts.push_back(post).unwrap();
         Ok(())
     }
 
-    /// Puts a post behind the others. It takes no memory.
-    pub fn push(&mut self, post: Stamped)
-        requires room { 1 ≤ self.old.room }
-        ensures room { self.new.room + 1 ≡ self.old.room }
-        ensures posts { self.new.posts ≡ self.old.posts ++ post ∷ [] }
+    /// Takes the last post out, if there is one.
+    pub fn drop_last(&mut self)
+        ensures posts { self.new.posts ≡ take (length self.old.posts - 1) self.old.posts }
         ensures lent { self.new.lent ≡ self.old.lent }
     {
-        self.posts.push_back(post).unwrap();
+        self.posts.pop_back();
     }
 
     /// Takes the first post, and keeps its place. `None` exactly where none waits; then nothing changes.

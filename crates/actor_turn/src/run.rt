@@ -1,11 +1,31 @@
 //! The entries of a run.
-ghost use Rattle.std.specs.Prelude.{◌≡◌, ◌≤◌, [], length, vec_capacity};
+ghost use Rattle.std.specs.Prelude.{◌≡◌, ◌+◌, ◌≤◌, [], OnOk, length, vec_capacity, vec_len};
 ghost use Rattle.mailbox_core.specs.Mail.{received_of};
 ghost use Rattle.actor_turn.specs.Parts.{entries_of};
 
 use fair_semantics::{Entry, Firing};
-use join_base::{Items, Message};
+use join_base::{Items, Message, NoMemory};
 use mailbox_core::Mark;
+
+/// Makes room for what one more arrival fires, and for the entries of all of them. It may leave room where there is no memory.
+pub fn reserve_entry(
+    firings: &mut Vec<Option<Firing>>,
+    entries: &mut Vec<Entry>,
+    arrivals: usize,
+) -> Result<(), NoMemory>
+    requires few { arrivals ≤ 1000000 }
+    requires empty { entries.old.items ≡ [] }
+
+    ensures firings { firings.new.items ≡ firings.old.items }
+    ensures one { OnOk result (vec_len firings.new + 1 ≤ vec_capacity firings.new) }
+    ensures entries { entries.new.items ≡ [] }
+    ensures room { OnOk result (arrivals + 1 ≤ vec_capacity entries.new) }
+    ensures kept { vec_capacity entries.old ≤ vec_capacity entries.new }
+{
+    firings.reserve(1)?;
+    entries.reserve(arrivals + 1)?;
+    Ok(())
+}
 
 /// The entries of letters, their marks and what they fired, put into the room that was made for them. It takes no memory.
 pub fn into_entries(

@@ -1,5 +1,5 @@
 //! The parts of a fair step, over the mailbox and the trees of an actor.
-ghost use Rattle.std.specs.Prelude.{◌≡◌, ◌+◌, ◌-◌, ◌^◌, ◌<◌, ◌≤◌, [], ◌∷◌, ◌++◌, All, None, Some, IfOk, OnErr, OnOk, length, map, if◌then◌else◌};
+ghost use Rattle.std.specs.Prelude.{◌≡◌, ◌+◌, ◌-◌, ◌^◌, ◌<◌, ◌≤◌, [], ◌∷◌, ◌++◌, All, None, Some, IfErr, IfOk, OnErr, OnOk, length, map, if◌then◌else◌};
 ghost use Rattle.std.specs.List.{AllByRecursion};
 ghost use Rattle.std.specs.List.Sorted.{IsStrictlyIncreasing};
 ghost use Rattle.join_base.specs.Late.{HasCount, late_more};
@@ -15,7 +15,8 @@ ghost use Rattle.actor_turn.specs.Sent.{delivered, sent_by};
 
 use crate::body::{run_body, stops};
 use crate::outbox::Outbox;
-use crate::sent::{copy_posts, deliver, reserve_each};
+use crate::refused::Refused;
+use crate::sent::send;
 use fair_semantics::{Ending, Firing, Outcome};
 use join_base::{Items, Message, NoMemory, Numbers, Source, Steps};
 use mailbox_core::Mailbox;
@@ -41,40 +42,40 @@ pub fn spend(mail: &mut Mailbox, trees: &mut [MatchTree], ending: &mut Ending, s
 }
 
 /// Records a message with the stamp that it carried, offers its number to the trees, and gives the number. Where there is no
-/// memory, all is as it was. The message is copied once.
+/// memory, all is as it was, and the message comes back.
 pub fn record<L: Ledger>(
-    alloc: Global,
     mail: &mut Mailbox,
     trees: &mut [MatchTree],
     source: Source,
-    message: &Message,
+    message: Message,
     came: u64,
     steps: &mut Steps<L>,
-) -> Result<u32, NoMemory>
+) -> Result<u32, Refused>
     requires few { length mail.old.mail.arrivals < 1000000 }
     requires came { came < greatest_stamp }
     requires latest { latest mail.old.mail.arrivals < greatest_stamp }
     requires settled { AreSettled trees.old }
-    requires can { AllByRecursion (CanOfferTo (letters_of mail.old.mail.arrivals ++ message.now ∷ []) (length mail.old.mail.arrivals + 1)) trees.old }
+    requires can { AllByRecursion (CanOfferTo (letters_of mail.old.mail.arrivals ++ message ∷ []) (length mail.old.mail.arrivals + 1)) trees.old }
 
     ensures number { IfOk result (λ n. n ≡ length mail.old.mail.arrivals + 1) }
-    ensures recorded { OnOk result (mail.new.mail ≡ with_arrival mail.old.mail source message.now came) }
+    ensures recorded { OnOk result (mail.new.mail ≡ with_arrival mail.old.mail source message came) }
     ensures ascending { OnOk result (IsStrictlyIncreasing mail.new.mail.live) }
     ensures same { OnOk result (map settled_tree trees.new ≡ trees.old) }
-    ensures reserved { OnOk result (AllByRecursion (IsReservedAt (letters_of mail.old.mail.arrivals ++ message.now ∷ []) (length mail.old.mail.arrivals + 1)) trees.new) }
+    ensures reserved { OnOk result (AllByRecursion (IsReservedAt (letters_of mail.old.mail.arrivals ++ message ∷ []) (length mail.old.mail.arrivals + 1)) trees.new) }
     ensures mail { OnErr result (mail.new.mail ≡ mail.old.mail) }
     ensures trees { OnErr result (trees.new ≡ trees.old) }
-    ensures steps { steps.new ≤ steps.old + tries_at (letters_of mail.old.mail.arrivals ++ message.now ∷ []) (length mail.old.mail.arrivals + 1) trees.old }
+    ensures back { IfErr result (λ r. r.message ≡ message) }
+    ensures steps { steps.new ≤ steps.old + tries_at (letters_of mail.old.mail.arrivals ++ message ∷ []) (length mail.old.mail.arrivals + 1) trees.old }
 {
-    mail.reserve_one()?;
-    let own = message.copy(alloc)?;
-    let number = mail.append(source, own, came);
+    let Ok(()) = mail.reserve_one() else {
+        return Err(Refused { message });
+    };
+    let number = mail.append(source, message, came);
     match reserve_all(trees, mail.letters(), number, steps) {
         Ok(()) => Ok(number),
-        Err(refused) => {
-            mail.retract_last();
-            Err(refused)
-        }
+        Err(NoMemory) => Err(Refused {
+            message: mail.retract_last(),
+        }),
     }
 }
 
@@ -171,9 +172,7 @@ pub fn fire(
         &chosen.taken,
         mail.letters(),
     )?;
-    let posts = copy_posts(alloc, &effects, mail.latest())?;
-    reserve_each(outboxes, posts.len())?;
-    deliver(outboxes, posts);
+    send(alloc, outboxes, effects.as_slice(), mail.latest())?;
     let_go(
         stops(&rule.body),
         mail,

@@ -1,4 +1,4 @@
-use Rattle.std.proofs.Common.{◌≡◌, ◌∙◌, ◌+◌, ◌≤◌, ◌++◌, ◌∷◌, [], ℕ, List, Option, Some, None, false, map, drop, length, length-append, vec_capacity, refl, ap, sym, subst, arith}
+use Rattle.std.proofs.Common.{true, ◌≡◌, ◌∙◌, ◌+◌, ◌≤◌, ◌++◌, ◌∷◌, [], ℕ, List, Option, Some, None, map, drop, length, length-append, vec_capacity, refl, ap, sym, subst, arith}
 use Rattle.std.specs.List.{AllByRecursion}
 use Rattle.std.specs.List.Sorted.{IsStrictlyIncreasing}
 use Rattle.std.proofs.lemmas.List.{length-map, take_at}
@@ -14,13 +14,14 @@ use Rattle.fair_semantics.specs.declared.run.Firing.{Firing}
 use Rattle.fair_semantics.specs.declared.run.Outcome.TheVariants.{Fired}
 use Rattle.fair_semantics.specs.Body.{effects_of, stops}
 use Rattle.fair_semantics.specs.Linked.{firing_effects}
-use Rattle.fair_semantics.specs.Step.{Arrival, body_at, entry_with, fair_step, is_refused}
-use Rattle.actor_turn.specs.Held.{Held, new_entries, posts_behind, tries_for}
+use Rattle.fair_semantics.specs.Step.{Arrival, body_at, entry_with, fair_step}
+use Rattle.actor_turn.specs.Held.{Held, is_taken, new_entries, posts_behind, tries_for}
 use Rattle.actor_turn.specs.Ready.{BodyReady}
 use Rattle.actor_turn.specs.Inside.{IsTold, held_of, setting_in}
 use Rattle.actor_turn.specs.Outbox.{Queue}
 use Rattle.actor_turn.specs.Sent.{delivered, sent_by}
 use Rattle.actor_turn.proofs.PartsLemmas.{retracted_again}
+use Rattle.actor_turn.proofs.RestLemmas.{taken_fits, taken_runs}
 use Rattle.actor_turn.specs.Parts.{Keeps, fired_at, state_of}
 use Rattle.actor_turn.proofs.ArriveLemmas.{can_record, fires_done, have, keeps_done, may_fire, recorded_all, rest_is, stamp_same, steps_few, taken_in}
 use Rattle.actor_turn.proofs.PostsLemmas.{fired_posts, unfired_posts}
@@ -30,141 +31,151 @@ pub record-requires-clause-few : goal.record-requires-clause-few
 record-requires-clause-few g c =
     let a = c.self.inside in
     let i = c.self.invariant in
-    let takes = subst (λ (h : Held). is_refused h.setting h.state c.args.message.now c.args.stamp ≡ false) (sym c.self.view_is) c.requires.takes in
-    (taken_in (length a.outboxes.items) (setting_in a) a.mail.mail a.firings.items a.ending a.trees.items i.told i.rest c.args.source c.args.message.now c.args.stamp takes).few
+    let taken = subst (λ (h : Held). is_taken h.setting h.state c.args.message c.args.stamp ≡ true) (sym c.self.view_is) c.requires.taken in
+    let takes = taken_fits (setting_in a) (held_of a).state c.args.message c.args.stamp taken in
+    (taken_in (length a.outboxes.items) (setting_in a) a.mail.mail a.firings.items a.ending a.trees.items i.told i.rest c.args.source c.args.message c.args.stamp takes).few
 
 pub record-requires-clause-latest : goal.record-requires-clause-latest
 record-requires-clause-latest g c =
     let a = c.self.inside in
     let i = c.self.invariant in
-    let takes = subst (λ (h : Held). is_refused h.setting h.state c.args.message.now c.args.stamp ≡ false) (sym c.self.view_is) c.requires.takes in
-    (taken_in (length a.outboxes.items) (setting_in a) a.mail.mail a.firings.items a.ending a.trees.items i.told i.rest c.args.source c.args.message.now c.args.stamp takes).latest_low
+    let taken = subst (λ (h : Held). is_taken h.setting h.state c.args.message c.args.stamp ≡ true) (sym c.self.view_is) c.requires.taken in
+    let takes = taken_fits (setting_in a) (held_of a).state c.args.message c.args.stamp taken in
+    (taken_in (length a.outboxes.items) (setting_in a) a.mail.mail a.firings.items a.ending a.trees.items i.told i.rest c.args.source c.args.message c.args.stamp takes).latest_low
 
 pub record-requires-clause-can : goal.record-requires-clause-can
 record-requires-clause-can g c =
     let a = c.self.inside in
     let i = c.self.invariant in
-    let takes = subst (λ (h : Held). is_refused h.setting h.state c.args.message.now c.args.stamp ≡ false) (sym c.self.view_is) c.requires.takes in
-    subst (λ (ts : List Tree). AllByRecursion (CanOfferTo (letters_of a.mail.mail.arrivals ++ c.args.message.now ∷ []) (length a.mail.mail.arrivals + 1)) ts) (sym c.deref_mut.ensures.value)
-    (can_record (length a.outboxes.items) (setting_in a) a.mail.mail a.firings.items a.ending a.trees.items i.told i.rest c.args.source c.args.message.now c.args.stamp takes)
+    let taken = subst (λ (h : Held). is_taken h.setting h.state c.args.message c.args.stamp ≡ true) (sym c.self.view_is) c.requires.taken in
+    let takes = taken_fits (setting_in a) (held_of a).state c.args.message c.args.stamp taken in
+    subst (λ (ts : List Tree). AllByRecursion (CanOfferTo (letters_of a.mail.mail.arrivals ++ c.args.message ∷ []) (length a.mail.mail.arrivals + 1)) ts) (sym c.deref_mut.ensures.value)
+    (can_record (length a.outboxes.items) (setting_in a) a.mail.mail a.firings.items a.ending a.trees.items i.told i.rest c.args.source c.args.message c.args.stamp takes)
 
 pub returns-in_err-number-clause-steps : goal.returns-in_err-number-clause-steps
 returns-in_err-number-clause-steps g c =
     let a = c.self.inside in
     let i = c.self.invariant in
-    let takes = subst (λ (h : Held). is_refused h.setting h.state c.args.message.now c.args.stamp ≡ false) (sym c.self.view_is) c.requires.takes in
-    let few = subst (λ (ts : List Tree). c.record.new.steps ≤ c.args.steps.now + tries_at (letters_of a.mail.mail.arrivals ++ c.args.message.now ∷ []) (length a.mail.mail.arrivals + 1) ts) c.deref_mut.ensures.value c.record.ensures.steps in
-    subst (λ (h : Held). c.record.new.steps ≤ c.args.steps.now + tries_for h.setting.rules h.state c.args.message.now) c.self.view_is
-    (steps_few (length a.outboxes.items) (setting_in a) a.mail.mail a.firings.items a.ending a.trees.items i.told i.rest c.args.source c.args.message.now c.args.stamp takes c.args.steps.now c.record.new.steps few)
+    let taken = subst (λ (h : Held). is_taken h.setting h.state c.args.message c.args.stamp ≡ true) (sym c.self.view_is) c.requires.taken in
+    let takes = taken_fits (setting_in a) (held_of a).state c.args.message c.args.stamp taken in
+    let few = subst (λ (ts : List Tree). c.record.new.steps ≤ c.args.steps.now + tries_at (letters_of a.mail.mail.arrivals ++ c.args.message ∷ []) (length a.mail.mail.arrivals + 1) ts) c.deref_mut.ensures.value c.record.ensures.steps in
+    subst (λ (h : Held). c.record.new.steps ≤ c.args.steps.now + tries_for h.setting.rules h.state c.args.message) c.self.view_is
+    (steps_few (length a.outboxes.items) (setting_in a) a.mail.mail a.firings.items a.ending a.trees.items i.told i.rest c.args.source c.args.message c.args.stamp takes c.args.steps.now c.record.new.steps few)
 
 pub keep-requires-clause-reserved : goal.keep-requires-clause-reserved
 keep-requires-clause-reserved g c =
     let a = c.self.inside in
     let i = c.self.invariant in
-    let takes = subst (λ (h : Held). is_refused h.setting h.state c.args.message.now c.args.stamp ≡ false) (sym c.self.view_is) c.requires.takes in
+    let taken = subst (λ (h : Held). is_taken h.setting h.state c.args.message c.args.stamp ≡ true) (sym c.self.view_is) c.requires.taken in
+    let takes = taken_fits (setting_in a) (held_of a).state c.args.message c.args.stamp taken in
     let e = c.in_ok-number.ensures in
     let offered : List Tree = c.record.new.trees in
     let same = e.same ∙ c.deref_mut.ensures.value in
     let long : length offered ≡ a.trees.len = omega (arith, c.record.auto.trees, c.deref_mut.ensures.len) in
     let again = take_at offered (drop (length offered) a.trees.items) a.trees.len long in
-    subst (λ (ts : List Tree). AllByRecursion (HasReserve c.in_ok-number.number) ts) (sym (c.deref_mut-in_default.ensures.value ∙ again))
-    (have (length a.outboxes.items) (setting_in a) a.mail.mail a.firings.items a.ending a.trees.items i.told i.rest c.args.source c.args.message.now c.args.stamp takes offered same e.reserved c.in_ok-number.number e.number)
+    subst (λ (ts : List Tree). AllByRecursion (HasReserve c.in_ok-number.number) ts) (sym (c.deref_mut-in_default-best_of.ensures.value ∙ again))
+    (have (length a.outboxes.items) (setting_in a) a.mail.mail a.firings.items a.ending a.trees.items i.told i.rest c.args.source c.args.message c.args.stamp takes offered same e.reserved c.in_ok-number.number e.number)
 
-pub invariant_of-self-in_default : goal.invariant_of-self-in_default
-invariant_of-self-in_default g c =
+pub invariant_of-self-in_default-best_of : goal.invariant_of-self-in_default-best_of
+invariant_of-self-in_default-best_of g c =
     let a = c.self.inside in
     let i = c.self.invariant in
-    let takes = subst (λ (h : Held). is_refused h.setting h.state c.args.message.now c.args.stamp ≡ false) (sym c.self.view_is) c.requires.takes in
+    let taken = subst (λ (h : Held). is_taken h.setting h.state c.args.message c.args.stamp ≡ true) (sym c.self.view_is) c.requires.taken in
+    let takes = taken_fits (setting_in a) (held_of a).state c.args.message c.args.stamp taken in
     let e = c.in_ok-number.ensures in
     let offered : List Tree = c.record.new.trees in
     let same = e.same ∙ c.deref_mut.ensures.value in
     let long : length offered ≡ a.trees.len = omega (arith, c.record.auto.trees, c.deref_mut.ensures.len) in
     let again = take_at offered (drop (length offered) a.trees.items) a.trees.len long in
-    let running : a.ending ≡ ending.Running = ap (λ (h : Held). h.state.ending) c.self.view_is ∙ c.requires.running in
-    let now = c.deref_mut-in_default.ensures.value ∙ again in
-    let best : best_of offered ≡ None = ap best_of (sym (c.deref.ensures.value ∙ again)) ∙ sym c.best_of.ensures ∙ c.in_default.is in
+    let running : a.ending ≡ ending.Running = taken_runs (setting_in a) (held_of a).state c.args.message c.args.stamp taken in
+    let now = c.deref_mut-in_default-best_of.ensures.value ∙ again in
+    let best : best_of offered ≡ None = ap best_of (sym (c.deref.ensures.value ∙ again)) ∙ sym c.best_of.ensures ∙ c.in_default-best_of.is in
     let rising = subst (λ (m : Mail). IsStrictlyIncreasing m.live) e.recorded e.ascending in
-    let firings : c.push.new.self.items ≡ a.firings.items ++ None ∷ [] = rw (c.push.ensures.items, c.unwrap.ensures) (ap (λ (fs : List (Option Firing)). fs ++ None ∷ []) c.reserve.ensures.items) in
+    let firings : c.push.new.self.items ≡ a.firings.items ++ None ∷ [] = rw (c.push.ensures.items, c.unwrap.ensures) (ap (λ (fs : List (Option Firing)). fs ++ None ∷ []) c.reserve_entry.ensures.firings) in
     let keeps = subst (λ (ts : List Tree). Keeps c.in_ok-number.number a.limits.partials ts c.keep.new.trees c.record.new.mail.mail c.keep.new.mail.mail a.ending c.keep.new.ending c.keep.result) now c.keep.ensures in
-    let done = keeps_done (length a.outboxes.items) (setting_in a) a.mail.mail a.firings.items a.ending a.trees.items i.told i.rest c.args.source c.args.message.now c.args.stamp takes offered same e.reserved running rising best c.in_ok-number.number a.limits.partials c.keep.new.trees c.record.new.mail.mail c.keep.new.mail.mail c.keep.new.ending c.keep.result e.number refl e.recorded keeps in
-    let long-2 : length c.keep.new.trees ≡ a.trees.len = omega (arith, c.keep.auto.trees, c.deref_mut-in_default.ensures.len) in
+    let done = keeps_done (length a.outboxes.items) (setting_in a) a.mail.mail a.firings.items a.ending a.trees.items i.told i.rest c.args.source c.args.message c.args.stamp takes offered same e.reserved running rising best c.in_ok-number.number a.limits.partials c.keep.new.trees c.record.new.mail.mail c.keep.new.mail.mail c.keep.new.ending c.keep.result e.number refl e.recorded keeps in
+    let long-2 : length c.keep.new.trees ≡ a.trees.len = omega (arith, c.keep.auto.trees, c.deref_mut-in_default-best_of.ensures.len) in
     let left = take_at c.keep.new.trees (drop (length c.keep.new.trees) (with_items a.trees offered).items) a.trees.len long-2 in
-    let letters = ap length c.letters.ensures.letters ∙ length-map a.mail.mail.arrivals (λ (r : Received). r.message) in
-    let place = c.in_ok-reserve-2.ensures.ok in
+    let letters = ap length c.letters-arrivals.ensures.letters ∙ length-map a.mail.mail.arrivals (λ (r : Received). r.message) in
+    let place = c.in-Ok.ensures.room in
     let more = length-append a.firings.items (None ∷ []) in
-    let room : length c.keep.new.mail.mail.arrivals ≤ vec_capacity c.reserve-2.new.self = omega (arith, done.at_rest.fired, i.rest.fired) in
+    let room : length c.keep.new.mail.mail.arrivals ≤ vec_capacity c.reserve_entry.new.entries = omega (arith, done.at_rest.fired, i.rest.fired) in
     let rest = rest_is (setting_in a) _ c.keep.new.mail.mail _ c.push.new.self.items _ c.keep.new.ending _ (with_items (with_items a.trees offered) c.keep.new.trees).items refl firings refl left done.at_rest in
     record {
       told = i.told;
       rest = rest;
-      none = c.reserve-2.ensures.items ∙ i.none;
+      none = c.reserve_entry.ensures.entries;
       room = room;
     }
 
-pub returns-in_default-clause-step : goal.returns-in_default-clause-step
-returns-in_default-clause-step g c =
+pub returns-in_default-best_of-clause-step : goal.returns-in_default-best_of-clause-step
+returns-in_default-best_of-clause-step g c =
     let a = c.self.inside in
     let i = c.self.invariant in
-    let takes = subst (λ (h : Held). is_refused h.setting h.state c.args.message.now c.args.stamp ≡ false) (sym c.self.view_is) c.requires.takes in
+    let taken = subst (λ (h : Held). is_taken h.setting h.state c.args.message c.args.stamp ≡ true) (sym c.self.view_is) c.requires.taken in
+    let takes = taken_fits (setting_in a) (held_of a).state c.args.message c.args.stamp taken in
     let e = c.in_ok-number.ensures in
     let offered : List Tree = c.record.new.trees in
     let same = e.same ∙ c.deref_mut.ensures.value in
     let long : length offered ≡ a.trees.len = omega (arith, c.record.auto.trees, c.deref_mut.ensures.len) in
     let again = take_at offered (drop (length offered) a.trees.items) a.trees.len long in
-    let running : a.ending ≡ ending.Running = ap (λ (h : Held). h.state.ending) c.self.view_is ∙ c.requires.running in
-    let now = c.deref_mut-in_default.ensures.value ∙ again in
-    let best : best_of offered ≡ None = ap best_of (sym (c.deref.ensures.value ∙ again)) ∙ sym c.best_of.ensures ∙ c.in_default.is in
+    let running : a.ending ≡ ending.Running = taken_runs (setting_in a) (held_of a).state c.args.message c.args.stamp taken in
+    let now = c.deref_mut-in_default-best_of.ensures.value ∙ again in
+    let best : best_of offered ≡ None = ap best_of (sym (c.deref.ensures.value ∙ again)) ∙ sym c.best_of.ensures ∙ c.in_default-best_of.is in
     let rising = subst (λ (m : Mail). IsStrictlyIncreasing m.live) e.recorded e.ascending in
-    let firings : c.push.new.self.items ≡ a.firings.items ++ None ∷ [] = rw (c.push.ensures.items, c.unwrap.ensures) (ap (λ (fs : List (Option Firing)). fs ++ None ∷ []) c.reserve.ensures.items) in
+    let firings : c.push.new.self.items ≡ a.firings.items ++ None ∷ [] = rw (c.push.ensures.items, c.unwrap.ensures) (ap (λ (fs : List (Option Firing)). fs ++ None ∷ []) c.reserve_entry.ensures.firings) in
     let keeps = subst (λ (ts : List Tree). Keeps c.in_ok-number.number a.limits.partials ts c.keep.new.trees c.record.new.mail.mail c.keep.new.mail.mail a.ending c.keep.new.ending c.keep.result) now c.keep.ensures in
-    let done = keeps_done (length a.outboxes.items) (setting_in a) a.mail.mail a.firings.items a.ending a.trees.items i.told i.rest c.args.source c.args.message.now c.args.stamp takes offered same e.reserved running rising best c.in_ok-number.number a.limits.partials c.keep.new.trees c.record.new.mail.mail c.keep.new.mail.mail c.keep.new.ending c.keep.result e.number refl e.recorded keeps in
-    subst (λ (h : Held). fair_step h.setting h.state c.args.source c.args.message.now c.args.stamp ≡ (state_of c.keep.new.mail.mail c.push.new.self.items c.keep.new.ending, c.keep.result)) c.self.view_is
+    let done = keeps_done (length a.outboxes.items) (setting_in a) a.mail.mail a.firings.items a.ending a.trees.items i.told i.rest c.args.source c.args.message c.args.stamp takes offered same e.reserved running rising best c.in_ok-number.number a.limits.partials c.keep.new.trees c.record.new.mail.mail c.keep.new.mail.mail c.keep.new.ending c.keep.result e.number refl e.recorded keeps in
+    subst (λ (h : Held). fair_step h.setting h.state c.args.source c.args.message c.args.stamp ≡ (state_of c.keep.new.mail.mail c.push.new.self.items c.keep.new.ending, c.keep.result)) c.self.view_is
     (done.step ∙ ap (λ (fs : List (Option Firing)). (state_of c.keep.new.mail.mail fs c.keep.new.ending, c.keep.result)) (sym firings))
 
-pub returns-in_default-clause-outbox : goal.returns-in_default-clause-outbox
-returns-in_default-clause-outbox g c =
+pub returns-in_default-best_of-clause-outbox : goal.returns-in_default-best_of-clause-outbox
+returns-in_default-best_of-clause-outbox g c =
     let a = c.self.inside in
     let i = c.self.invariant in
-    let takes = subst (λ (h : Held). is_refused h.setting h.state c.args.message.now c.args.stamp ≡ false) (sym c.self.view_is) c.requires.takes in
+    let taken = subst (λ (h : Held). is_taken h.setting h.state c.args.message c.args.stamp ≡ true) (sym c.self.view_is) c.requires.taken in
+    let takes = taken_fits (setting_in a) (held_of a).state c.args.message c.args.stamp taken in
     let e = c.in_ok-number.ensures in
     let offered : List Tree = c.record.new.trees in
     let same = e.same ∙ c.deref_mut.ensures.value in
     let long : length offered ≡ a.trees.len = omega (arith, c.record.auto.trees, c.deref_mut.ensures.len) in
     let again = take_at offered (drop (length offered) a.trees.items) a.trees.len long in
-    let running : a.ending ≡ ending.Running = ap (λ (h : Held). h.state.ending) c.self.view_is ∙ c.requires.running in
-    let now = c.deref_mut-in_default.ensures.value ∙ again in
-    let best : best_of offered ≡ None = ap best_of (sym (c.deref.ensures.value ∙ again)) ∙ sym c.best_of.ensures ∙ c.in_default.is in
+    let running : a.ending ≡ ending.Running = taken_runs (setting_in a) (held_of a).state c.args.message c.args.stamp taken in
+    let now = c.deref_mut-in_default-best_of.ensures.value ∙ again in
+    let best : best_of offered ≡ None = ap best_of (sym (c.deref.ensures.value ∙ again)) ∙ sym c.best_of.ensures ∙ c.in_default-best_of.is in
     let rising = subst (λ (m : Mail). IsStrictlyIncreasing m.live) e.recorded e.ascending in
-    let firings : c.push.new.self.items ≡ a.firings.items ++ None ∷ [] = rw (c.push.ensures.items, c.unwrap.ensures) (ap (λ (fs : List (Option Firing)). fs ++ None ∷ []) c.reserve.ensures.items) in
+    let firings : c.push.new.self.items ≡ a.firings.items ++ None ∷ [] = rw (c.push.ensures.items, c.unwrap.ensures) (ap (λ (fs : List (Option Firing)). fs ++ None ∷ []) c.reserve_entry.ensures.firings) in
     let keeps = subst (λ (ts : List Tree). Keeps c.in_ok-number.number a.limits.partials ts c.keep.new.trees c.record.new.mail.mail c.keep.new.mail.mail a.ending c.keep.new.ending c.keep.result) now c.keep.ensures in
-    let done = keeps_done (length a.outboxes.items) (setting_in a) a.mail.mail a.firings.items a.ending a.trees.items i.told i.rest c.args.source c.args.message.now c.args.stamp takes offered same e.reserved running rising best c.in_ok-number.number a.limits.partials c.keep.new.trees c.record.new.mail.mail c.keep.new.mail.mail c.keep.new.ending c.keep.result e.number refl e.recorded keeps in
+    let done = keeps_done (length a.outboxes.items) (setting_in a) a.mail.mail a.firings.items a.ending a.trees.items i.told i.rest c.args.source c.args.message c.args.stamp takes offered same e.reserved running rising best c.in_ok-number.number a.limits.partials c.keep.new.trees c.record.new.mail.mail c.keep.new.mail.mail c.keep.new.ending c.keep.result e.number refl e.recorded keeps in
     let outbox = (held_of a).outbox in
     let news = ap (λ (fs : List (Option Firing)). new_entries (held_of a).state (state_of c.keep.new.mail.mail fs c.keep.new.ending)) firings ∙ done.entries in
     subst (λ (h : Held). outbox ≡ posts_behind 0 (new_entries h.state (state_of c.keep.new.mail.mail c.push.new.self.items c.keep.new.ending)) h.outbox) c.self.view_is
     (unfired_posts 0 _ outbox refl ∙ ap (λ (es : List Entry). posts_behind 0 es outbox) (sym news))
 
-pub returns-in_default-clause-steps : goal.returns-in_default-clause-steps
-returns-in_default-clause-steps g c =
+pub returns-in_default-best_of-clause-steps : goal.returns-in_default-best_of-clause-steps
+returns-in_default-best_of-clause-steps g c =
     let a = c.self.inside in
     let i = c.self.invariant in
-    let takes = subst (λ (h : Held). is_refused h.setting h.state c.args.message.now c.args.stamp ≡ false) (sym c.self.view_is) c.requires.takes in
-    let few = subst (λ (ts : List Tree). c.record.new.steps ≤ c.args.steps.now + tries_at (letters_of a.mail.mail.arrivals ++ c.args.message.now ∷ []) (length a.mail.mail.arrivals + 1) ts) c.deref_mut.ensures.value c.record.ensures.steps in
-    subst (λ (h : Held). c.record.new.steps ≤ c.args.steps.now + tries_for h.setting.rules h.state c.args.message.now) c.self.view_is
-    (steps_few (length a.outboxes.items) (setting_in a) a.mail.mail a.firings.items a.ending a.trees.items i.told i.rest c.args.source c.args.message.now c.args.stamp takes c.args.steps.now c.record.new.steps few)
+    let taken = subst (λ (h : Held). is_taken h.setting h.state c.args.message c.args.stamp ≡ true) (sym c.self.view_is) c.requires.taken in
+    let takes = taken_fits (setting_in a) (held_of a).state c.args.message c.args.stamp taken in
+    let few = subst (λ (ts : List Tree). c.record.new.steps ≤ c.args.steps.now + tries_at (letters_of a.mail.mail.arrivals ++ c.args.message ∷ []) (length a.mail.mail.arrivals + 1) ts) c.deref_mut.ensures.value c.record.ensures.steps in
+    subst (λ (h : Held). c.record.new.steps ≤ c.args.steps.now + tries_for h.setting.rules h.state c.args.message) c.self.view_is
+    (steps_few (length a.outboxes.items) (setting_in a) a.mail.mail a.firings.items a.ending a.trees.items i.told i.rest c.args.source c.args.message c.args.stamp takes c.args.steps.now c.record.new.steps few)
 
 pub fire-requires-clause-numbered : goal.fire-requires-clause-numbered
 fire-requires-clause-numbered g c =
     let a = c.self.inside in
     let i = c.self.invariant in
-    let takes = subst (λ (h : Held). is_refused h.setting h.state c.args.message.now c.args.stamp ≡ false) (sym c.self.view_is) c.requires.takes in
+    let taken = subst (λ (h : Held). is_taken h.setting h.state c.args.message c.args.stamp ≡ true) (sym c.self.view_is) c.requires.taken in
+    let takes = taken_fits (setting_in a) (held_of a).state c.args.message c.args.stamp taken in
     let e = c.in_ok-number.ensures in
     let offered : List Tree = c.record.new.trees in
     let same = e.same ∙ c.deref_mut.ensures.value in
     let long : length offered ≡ a.trees.len = omega (arith, c.record.auto.trees, c.deref_mut.ensures.len) in
     let again = take_at offered (drop (length offered) a.trees.items) a.trees.len long in
-    let running : a.ending ≡ ending.Running = ap (λ (h : Held). h.state.ending) c.self.view_is ∙ c.requires.running in
+    let running : a.ending ≡ ending.Running = taken_runs (setting_in a) (held_of a).state c.args.message c.args.stamp taken in
     let best : best_of offered ≡ Some c.in-Some.chosen = ap best_of (sym (c.deref.ensures.value ∙ again)) ∙ sym c.best_of.ensures ∙ c.in-Some.is in
-    let may = may_fire (length a.outboxes.items) (setting_in a) a.mail.mail a.firings.items a.ending a.trees.items i.told i.rest c.args.source c.args.message.now c.args.stamp takes offered same e.reserved running c.in-Some.chosen best in
+    let may = may_fire (length a.outboxes.items) (setting_in a) a.mail.mail a.firings.items a.ending a.trees.items i.told i.rest c.args.source c.args.message c.args.stamp takes offered same e.reserved running c.in-Some.chosen best in
     let mail_with = e.recorded in
     may.numbered
 
@@ -172,15 +183,16 @@ pub fire-requires-clause-exists : goal.fire-requires-clause-exists
 fire-requires-clause-exists g c =
     let a = c.self.inside in
     let i = c.self.invariant in
-    let takes = subst (λ (h : Held). is_refused h.setting h.state c.args.message.now c.args.stamp ≡ false) (sym c.self.view_is) c.requires.takes in
+    let taken = subst (λ (h : Held). is_taken h.setting h.state c.args.message c.args.stamp ≡ true) (sym c.self.view_is) c.requires.taken in
+    let takes = taken_fits (setting_in a) (held_of a).state c.args.message c.args.stamp taken in
     let e = c.in_ok-number.ensures in
     let offered : List Tree = c.record.new.trees in
     let same = e.same ∙ c.deref_mut.ensures.value in
     let long : length offered ≡ a.trees.len = omega (arith, c.record.auto.trees, c.deref_mut.ensures.len) in
     let again = take_at offered (drop (length offered) a.trees.items) a.trees.len long in
-    let running : a.ending ≡ ending.Running = ap (λ (h : Held). h.state.ending) c.self.view_is ∙ c.requires.running in
+    let running : a.ending ≡ ending.Running = taken_runs (setting_in a) (held_of a).state c.args.message c.args.stamp taken in
     let best : best_of offered ≡ Some c.in-Some.chosen = ap best_of (sym (c.deref.ensures.value ∙ again)) ∙ sym c.best_of.ensures ∙ c.in-Some.is in
-    let may = may_fire (length a.outboxes.items) (setting_in a) a.mail.mail a.firings.items a.ending a.trees.items i.told i.rest c.args.source c.args.message.now c.args.stamp takes offered same e.reserved running c.in-Some.chosen best in
+    let may = may_fire (length a.outboxes.items) (setting_in a) a.mail.mail a.firings.items a.ending a.trees.items i.told i.rest c.args.source c.args.message c.args.stamp takes offered same e.reserved running c.in-Some.chosen best in
     let mail_with = e.recorded in
     may.exists
 
@@ -188,15 +200,16 @@ pub fire-requires-clause-ready : goal.fire-requires-clause-ready
 fire-requires-clause-ready g c =
     let a = c.self.inside in
     let i = c.self.invariant in
-    let takes = subst (λ (h : Held). is_refused h.setting h.state c.args.message.now c.args.stamp ≡ false) (sym c.self.view_is) c.requires.takes in
+    let taken = subst (λ (h : Held). is_taken h.setting h.state c.args.message c.args.stamp ≡ true) (sym c.self.view_is) c.requires.taken in
+    let takes = taken_fits (setting_in a) (held_of a).state c.args.message c.args.stamp taken in
     let e = c.in_ok-number.ensures in
     let offered : List Tree = c.record.new.trees in
     let same = e.same ∙ c.deref_mut.ensures.value in
     let long : length offered ≡ a.trees.len = omega (arith, c.record.auto.trees, c.deref_mut.ensures.len) in
     let again = take_at offered (drop (length offered) a.trees.items) a.trees.len long in
-    let running : a.ending ≡ ending.Running = ap (λ (h : Held). h.state.ending) c.self.view_is ∙ c.requires.running in
+    let running : a.ending ≡ ending.Running = taken_runs (setting_in a) (held_of a).state c.args.message c.args.stamp taken in
     let best : best_of offered ≡ Some c.in-Some.chosen = ap best_of (sym (c.deref.ensures.value ∙ again)) ∙ sym c.best_of.ensures ∙ c.in-Some.is in
-    let may = may_fire (length a.outboxes.items) (setting_in a) a.mail.mail a.firings.items a.ending a.trees.items i.told i.rest c.args.source c.args.message.now c.args.stamp takes offered same e.reserved running c.in-Some.chosen best in
+    let may = may_fire (length a.outboxes.items) (setting_in a) a.mail.mail a.firings.items a.ending a.trees.items i.told i.rest c.args.source c.args.message c.args.stamp takes offered same e.reserved running c.in-Some.chosen best in
     let mail_with = e.recorded in
     let letters = ap (λ (m : Mail). letters_of m.arrivals) (sym mail_with) in
     let boxes = ap length (sym c.deref_mut-3.ensures.value) in
@@ -207,64 +220,67 @@ pub fire-requires-clause-recorded : goal.fire-requires-clause-recorded
 fire-requires-clause-recorded g c =
     let a = c.self.inside in
     let i = c.self.invariant in
-    let takes = subst (λ (h : Held). is_refused h.setting h.state c.args.message.now c.args.stamp ≡ false) (sym c.self.view_is) c.requires.takes in
+    let taken = subst (λ (h : Held). is_taken h.setting h.state c.args.message c.args.stamp ≡ true) (sym c.self.view_is) c.requires.taken in
+    let takes = taken_fits (setting_in a) (held_of a).state c.args.message c.args.stamp taken in
     let e = c.in_ok-number.ensures in
     let offered : List Tree = c.record.new.trees in
     let same = e.same ∙ c.deref_mut.ensures.value in
     let long : length offered ≡ a.trees.len = omega (arith, c.record.auto.trees, c.deref_mut.ensures.len) in
     let again = take_at offered (drop (length offered) a.trees.items) a.trees.len long in
-    let running : a.ending ≡ ending.Running = ap (λ (h : Held). h.state.ending) c.self.view_is ∙ c.requires.running in
+    let running : a.ending ≡ ending.Running = taken_runs (setting_in a) (held_of a).state c.args.message c.args.stamp taken in
     let best : best_of offered ≡ Some c.in-Some.chosen = ap best_of (sym (c.deref.ensures.value ∙ again)) ∙ sym c.best_of.ensures ∙ c.in-Some.is in
-    let may = may_fire (length a.outboxes.items) (setting_in a) a.mail.mail a.firings.items a.ending a.trees.items i.told i.rest c.args.source c.args.message.now c.args.stamp takes offered same e.reserved running c.in-Some.chosen best in
+    let may = may_fire (length a.outboxes.items) (setting_in a) a.mail.mail a.firings.items a.ending a.trees.items i.told i.rest c.args.source c.args.message c.args.stamp takes offered same e.reserved running c.in-Some.chosen best in
     let mail_with = e.recorded in
-    subst (λ (m : Mail). All (IsRecorded m.arrivals) c.in-Some.chosen.taken) (sym mail_with) (recorded_all (with_arrival a.mail.mail c.args.source c.args.message.now c.args.stamp).arrivals c.in-Some.chosen.taken may.recorded)
+    subst (λ (m : Mail). All (IsRecorded m.arrivals) c.in-Some.chosen.taken) (sym mail_with) (recorded_all (with_arrival a.mail.mail c.args.source c.args.message c.args.stamp).arrivals c.in-Some.chosen.taken may.recorded)
 
 pub fire-requires-clause-reserved : goal.fire-requires-clause-reserved
 fire-requires-clause-reserved g c =
     let a = c.self.inside in
     let i = c.self.invariant in
-    let takes = subst (λ (h : Held). is_refused h.setting h.state c.args.message.now c.args.stamp ≡ false) (sym c.self.view_is) c.requires.takes in
+    let taken = subst (λ (h : Held). is_taken h.setting h.state c.args.message c.args.stamp ≡ true) (sym c.self.view_is) c.requires.taken in
+    let takes = taken_fits (setting_in a) (held_of a).state c.args.message c.args.stamp taken in
     let e = c.in_ok-number.ensures in
     let offered : List Tree = c.record.new.trees in
     let same = e.same ∙ c.deref_mut.ensures.value in
     let long : length offered ≡ a.trees.len = omega (arith, c.record.auto.trees, c.deref_mut.ensures.len) in
     let again = take_at offered (drop (length offered) a.trees.items) a.trees.len long in
     subst (λ (ts : List Tree). AllByRecursion (HasReserve c.in_ok-number.number) ts) (sym (c.deref_mut-2.ensures.value ∙ again))
-    (have (length a.outboxes.items) (setting_in a) a.mail.mail a.firings.items a.ending a.trees.items i.told i.rest c.args.source c.args.message.now c.args.stamp takes offered same e.reserved c.in_ok-number.number e.number)
+    (have (length a.outboxes.items) (setting_in a) a.mail.mail a.firings.items a.ending a.trees.items i.told i.rest c.args.source c.args.message c.args.stamp takes offered same e.reserved c.in_ok-number.number e.number)
 
-pub invariant_of-self-in-Ok : goal.invariant_of-self-in-Ok
-invariant_of-self-in-Ok g c =
+pub invariant_of-self-in-Ok-fire : goal.invariant_of-self-in-Ok-fire
+invariant_of-self-in-Ok-fire g c =
     let a = c.self.inside in
     let i = c.self.invariant in
-    let takes = subst (λ (h : Held). is_refused h.setting h.state c.args.message.now c.args.stamp ≡ false) (sym c.self.view_is) c.requires.takes in
+    let taken = subst (λ (h : Held). is_taken h.setting h.state c.args.message c.args.stamp ≡ true) (sym c.self.view_is) c.requires.taken in
+    let takes = taken_fits (setting_in a) (held_of a).state c.args.message c.args.stamp taken in
     let e = c.in_ok-number.ensures in
     let offered : List Tree = c.record.new.trees in
     let same = e.same ∙ c.deref_mut.ensures.value in
     let long : length offered ≡ a.trees.len = omega (arith, c.record.auto.trees, c.deref_mut.ensures.len) in
     let again = take_at offered (drop (length offered) a.trees.items) a.trees.len long in
-    let running : a.ending ≡ ending.Running = ap (λ (h : Held). h.state.ending) c.self.view_is ∙ c.requires.running in
+    let running : a.ending ≡ ending.Running = taken_runs (setting_in a) (held_of a).state c.args.message c.args.stamp taken in
     let best : best_of offered ≡ Some c.in-Some.chosen = ap best_of (sym (c.deref.ensures.value ∙ again)) ∙ sym c.best_of.ensures ∙ c.in-Some.is in
-    let may = may_fire (length a.outboxes.items) (setting_in a) a.mail.mail a.firings.items a.ending a.trees.items i.told i.rest c.args.source c.args.message.now c.args.stamp takes offered same e.reserved running c.in-Some.chosen best in
+    let may = may_fire (length a.outboxes.items) (setting_in a) a.mail.mail a.firings.items a.ending a.trees.items i.told i.rest c.args.source c.args.message c.args.stamp takes offered same e.reserved running c.in-Some.chosen best in
     let mail_with = e.recorded in
-    let f = c.in-Ok.ensures in
+    let f = c.in-Ok-fire.ensures in
     let body = body_at a.rules c.in-Some.chosen.rule in
-    let firings : c.push-in-Ok.new.self.items ≡ a.firings.items ++ Some c.in-Ok.firing ∷ [] = rw (c.push-in-Ok.ensures.items, c.unwrap-in-Ok.ensures) (ap (λ (fs : List (Option Firing)). fs ++ Some c.in-Ok.firing ∷ []) c.reserve.ensures.items) in
+    let firings : c.push-in-Ok-fire.new.self.items ≡ a.firings.items ++ Some c.in-Ok-fire.firing ∷ [] = rw (c.push-in-Ok-fire.ensures.items, c.unwrap-in-Ok-fire.ensures) (ap (λ (fs : List (Option Firing)). fs ++ Some c.in-Ok-fire.firing ∷ []) c.reserve_entry.ensures.firings) in
     let trees = subst (λ (ts : List Tree). c.fire.new.trees ≡ (if stops body then map cleared_tree ts else map (fired_at c.in_ok-number.number c.in-Some.chosen.taken) ts)) (c.deref_mut-2.ensures.value ∙ again) f.trees in
-    let done = fires_done (length a.outboxes.items) (setting_in a) a.mail.mail a.firings.items a.ending a.trees.items i.told i.rest c.args.source c.args.message.now c.args.stamp takes offered same e.reserved running c.in-Some.chosen best c.in_ok-number.number (Some c.in-Ok.firing) c.record.new.mail.mail c.fire.new.mail.mail c.push-in-Ok.new.self.items c.fire.new.ending c.fire.new.trees
+    let done = fires_done (length a.outboxes.items) (setting_in a) a.mail.mail a.firings.items a.ending a.trees.items i.told i.rest c.args.source c.args.message c.args.stamp takes offered same e.reserved running c.in-Some.chosen best c.in_ok-number.number (Some c.in-Ok-fire.firing) c.record.new.mail.mail c.fire.new.mail.mail c.push-in-Ok-fire.new.self.items c.fire.new.ending c.fire.new.trees
     e.number e.recorded f.firing f.mail trees f.ending firings in
     let long-3 : length c.fire.new.outboxes ≡ a.outboxes.len = omega (arith, c.fire.auto.outboxes, c.deref_mut-3.ensures.len) in
     let boxes = take_at c.fire.new.outboxes (drop (length c.fire.new.outboxes) a.outboxes.items) a.outboxes.len long-3 in
     let same_count : length a.outboxes.items ≡ length (with_items a.outboxes c.fire.new.outboxes).items = omega (arith, ap length boxes, a.outboxes.ok.0) in
     let long-2 : length c.fire.new.trees ≡ a.trees.len = omega (arith, c.fire.auto.trees, c.deref_mut-2.ensures.len) in
     let left = take_at c.fire.new.trees (drop (length c.fire.new.trees) (with_items a.trees offered).items) a.trees.len long-2 in
-    let letters = ap length c.letters.ensures.letters ∙ length-map a.mail.mail.arrivals (λ (r : Received). r.message) in
-    let place = c.in_ok-reserve-2.ensures.ok in
-    let more = length-append a.firings.items (Some c.in-Ok.firing ∷ []) in
-    let room : length c.fire.new.mail.mail.arrivals ≤ vec_capacity c.reserve-2.new.self = omega (arith, done.at_rest.fired, i.rest.fired, ap length firings) in
+    let letters = ap length c.letters-arrivals.ensures.letters ∙ length-map a.mail.mail.arrivals (λ (r : Received). r.message) in
+    let place = c.in-Ok.ensures.room in
+    let more = length-append a.firings.items (Some c.in-Ok-fire.firing ∷ []) in
+    let room : length c.fire.new.mail.mail.arrivals ≤ vec_capacity c.reserve_entry.new.entries = omega (arith, done.at_rest.fired, i.rest.fired, ap length firings) in
     record {
       told = subst (λ (n : ℕ). IsTold n (setting_in a)) same_count i.told;
-      rest = rest_is (setting_in a) _ c.fire.new.mail.mail _ c.push-in-Ok.new.self.items _ c.fire.new.ending _ (with_items (with_items a.trees offered) c.fire.new.trees).items refl refl refl left done.at_rest;
-      none = c.reserve-2.ensures.items ∙ i.none;
+      rest = rest_is (setting_in a) _ c.fire.new.mail.mail _ c.push-in-Ok-fire.new.self.items _ c.fire.new.ending _ (with_items (with_items a.trees offered) c.fire.new.trees).items refl refl refl left done.at_rest;
+      none = c.reserve_entry.ensures.entries;
       room = room;
     }
 
@@ -272,7 +288,8 @@ pub invariant_of-self-in-Err : goal.invariant_of-self-in-Err
 invariant_of-self-in-Err g c =
     let a = c.self.inside in
     let i = c.self.invariant in
-    let takes = subst (λ (h : Held). is_refused h.setting h.state c.args.message.now c.args.stamp ≡ false) (sym c.self.view_is) c.requires.takes in
+    let taken = subst (λ (h : Held). is_taken h.setting h.state c.args.message c.args.stamp ≡ true) (sym c.self.view_is) c.requires.taken in
+    let takes = taken_fits (setting_in a) (held_of a).state c.args.message c.args.stamp taken in
     let e = c.in_ok-number.ensures in
     let offered : List Tree = c.record.new.trees in
     let same = e.same ∙ c.deref_mut.ensures.value in
@@ -287,86 +304,90 @@ invariant_of-self-in-Err g c =
     let left = take_at c.fire.new.trees (drop (length c.fire.new.trees) (with_items a.trees offered).items) a.trees.len long-2 in
     let last = take_at c.forget_all.new.trees (drop (length c.forget_all.new.trees) (with_items (with_items a.trees offered) c.fire.new.trees).items) a.trees.len long-4 in
     let trees : c.forget_all.new.trees ≡ a.trees.items = c.forget_all.ensures ∙ ap (map settled_tree) (c.deref_mut-in-Err.ensures.value ∙ left ∙ f.same_trees ∙ c.deref_mut-2.ensures.value ∙ again) ∙ same in
-    let mail : c.retract_last.new.self.mail ≡ a.mail.mail = c.retract_last.ensures.retracted ∙ ap without_last (f.same_mail ∙ e.recorded) ∙ retracted_again a.mail.mail c.args.source c.args.message.now c.args.stamp in
-    let capacity = c.reserve-2.ensures.capacity in
+    let mail : c.retract_last.new.self.mail ≡ a.mail.mail = c.retract_last.ensures.retracted ∙ ap without_last (f.same_mail ∙ e.recorded) ∙ retracted_again a.mail.mail c.args.source c.args.message c.args.stamp in
+    let capacity = c.reserve_entry.ensures.kept in
     let count = ap (λ (m : Mail). length m.arrivals) mail in
-    let room : length c.retract_last.new.self.mail.arrivals ≤ vec_capacity c.reserve-2.new.self = omega (arith, i.room) in
+    let room : length c.retract_last.new.self.mail.arrivals ≤ vec_capacity c.reserve_entry.new.entries = omega (arith, i.room) in
     record {
       told = subst (λ (n : ℕ). IsTold n (setting_in a)) same_count i.told;
-      rest = rest_is (setting_in a) _ c.retract_last.new.self.mail _ c.reserve.new.self.items _ c.fire.new.ending _ (with_items (with_items (with_items a.trees offered) c.fire.new.trees) c.forget_all.new.trees).items mail c.reserve.ensures.items f.same_ending (last ∙ trees) i.rest;
-      none = c.reserve-2.ensures.items ∙ i.none;
+      rest = rest_is (setting_in a) _ c.retract_last.new.self.mail _ c.reserve_entry.new.firings.items _ c.fire.new.ending _ (with_items (with_items (with_items a.trees offered) c.fire.new.trees) c.forget_all.new.trees).items mail c.reserve_entry.ensures.firings f.same_ending (last ∙ trees) i.rest;
+      none = c.reserve_entry.ensures.entries;
       room = room;
     }
 
-pub returns-in-Ok-clause-step : goal.returns-in-Ok-clause-step
-returns-in-Ok-clause-step g c =
+pub returns-in-Ok-fire-clause-step : goal.returns-in-Ok-fire-clause-step
+returns-in-Ok-fire-clause-step g c =
     let a = c.self.inside in
     let i = c.self.invariant in
-    let takes = subst (λ (h : Held). is_refused h.setting h.state c.args.message.now c.args.stamp ≡ false) (sym c.self.view_is) c.requires.takes in
+    let taken = subst (λ (h : Held). is_taken h.setting h.state c.args.message c.args.stamp ≡ true) (sym c.self.view_is) c.requires.taken in
+    let takes = taken_fits (setting_in a) (held_of a).state c.args.message c.args.stamp taken in
     let e = c.in_ok-number.ensures in
     let offered : List Tree = c.record.new.trees in
     let same = e.same ∙ c.deref_mut.ensures.value in
     let long : length offered ≡ a.trees.len = omega (arith, c.record.auto.trees, c.deref_mut.ensures.len) in
     let again = take_at offered (drop (length offered) a.trees.items) a.trees.len long in
-    let running : a.ending ≡ ending.Running = ap (λ (h : Held). h.state.ending) c.self.view_is ∙ c.requires.running in
+    let running : a.ending ≡ ending.Running = taken_runs (setting_in a) (held_of a).state c.args.message c.args.stamp taken in
     let best : best_of offered ≡ Some c.in-Some.chosen = ap best_of (sym (c.deref.ensures.value ∙ again)) ∙ sym c.best_of.ensures ∙ c.in-Some.is in
-    let may = may_fire (length a.outboxes.items) (setting_in a) a.mail.mail a.firings.items a.ending a.trees.items i.told i.rest c.args.source c.args.message.now c.args.stamp takes offered same e.reserved running c.in-Some.chosen best in
+    let may = may_fire (length a.outboxes.items) (setting_in a) a.mail.mail a.firings.items a.ending a.trees.items i.told i.rest c.args.source c.args.message c.args.stamp takes offered same e.reserved running c.in-Some.chosen best in
     let mail_with = e.recorded in
-    let f = c.in-Ok.ensures in
+    let f = c.in-Ok-fire.ensures in
     let body = body_at a.rules c.in-Some.chosen.rule in
-    let firings : c.push-in-Ok.new.self.items ≡ a.firings.items ++ Some c.in-Ok.firing ∷ [] = rw (c.push-in-Ok.ensures.items, c.unwrap-in-Ok.ensures) (ap (λ (fs : List (Option Firing)). fs ++ Some c.in-Ok.firing ∷ []) c.reserve.ensures.items) in
+    let firings : c.push-in-Ok-fire.new.self.items ≡ a.firings.items ++ Some c.in-Ok-fire.firing ∷ [] = rw (c.push-in-Ok-fire.ensures.items, c.unwrap-in-Ok-fire.ensures) (ap (λ (fs : List (Option Firing)). fs ++ Some c.in-Ok-fire.firing ∷ []) c.reserve_entry.ensures.firings) in
     let trees = subst (λ (ts : List Tree). c.fire.new.trees ≡ (if stops body then map cleared_tree ts else map (fired_at c.in_ok-number.number c.in-Some.chosen.taken) ts)) (c.deref_mut-2.ensures.value ∙ again) f.trees in
-    let done = fires_done (length a.outboxes.items) (setting_in a) a.mail.mail a.firings.items a.ending a.trees.items i.told i.rest c.args.source c.args.message.now c.args.stamp takes offered same e.reserved running c.in-Some.chosen best c.in_ok-number.number (Some c.in-Ok.firing) c.record.new.mail.mail c.fire.new.mail.mail c.push-in-Ok.new.self.items c.fire.new.ending c.fire.new.trees
+    let done = fires_done (length a.outboxes.items) (setting_in a) a.mail.mail a.firings.items a.ending a.trees.items i.told i.rest c.args.source c.args.message c.args.stamp takes offered same e.reserved running c.in-Some.chosen best c.in_ok-number.number (Some c.in-Ok-fire.firing) c.record.new.mail.mail c.fire.new.mail.mail c.push-in-Ok-fire.new.self.items c.fire.new.ending c.fire.new.trees
     e.number e.recorded f.firing f.mail trees f.ending firings in
-    subst (λ (h : Held). fair_step h.setting h.state c.args.source c.args.message.now c.args.stamp ≡ (state_of c.fire.new.mail.mail c.push-in-Ok.new.self.items c.fire.new.ending, Fired)) c.self.view_is done.step
+    subst (λ (h : Held). fair_step h.setting h.state c.args.source c.args.message c.args.stamp ≡ (state_of c.fire.new.mail.mail c.push-in-Ok-fire.new.self.items c.fire.new.ending, Fired)) c.self.view_is done.step
 
-pub returns-in-Ok-clause-outbox : goal.returns-in-Ok-clause-outbox
-returns-in-Ok-clause-outbox g c =
+pub returns-in-Ok-fire-clause-outbox : goal.returns-in-Ok-fire-clause-outbox
+returns-in-Ok-fire-clause-outbox g c =
     let a = c.self.inside in
     let i = c.self.invariant in
-    let takes = subst (λ (h : Held). is_refused h.setting h.state c.args.message.now c.args.stamp ≡ false) (sym c.self.view_is) c.requires.takes in
+    let taken = subst (λ (h : Held). is_taken h.setting h.state c.args.message c.args.stamp ≡ true) (sym c.self.view_is) c.requires.taken in
+    let takes = taken_fits (setting_in a) (held_of a).state c.args.message c.args.stamp taken in
     let e = c.in_ok-number.ensures in
     let offered : List Tree = c.record.new.trees in
     let same = e.same ∙ c.deref_mut.ensures.value in
     let long : length offered ≡ a.trees.len = omega (arith, c.record.auto.trees, c.deref_mut.ensures.len) in
     let again = take_at offered (drop (length offered) a.trees.items) a.trees.len long in
-    let running : a.ending ≡ ending.Running = ap (λ (h : Held). h.state.ending) c.self.view_is ∙ c.requires.running in
+    let running : a.ending ≡ ending.Running = taken_runs (setting_in a) (held_of a).state c.args.message c.args.stamp taken in
     let best : best_of offered ≡ Some c.in-Some.chosen = ap best_of (sym (c.deref.ensures.value ∙ again)) ∙ sym c.best_of.ensures ∙ c.in-Some.is in
-    let may = may_fire (length a.outboxes.items) (setting_in a) a.mail.mail a.firings.items a.ending a.trees.items i.told i.rest c.args.source c.args.message.now c.args.stamp takes offered same e.reserved running c.in-Some.chosen best in
+    let may = may_fire (length a.outboxes.items) (setting_in a) a.mail.mail a.firings.items a.ending a.trees.items i.told i.rest c.args.source c.args.message c.args.stamp takes offered same e.reserved running c.in-Some.chosen best in
     let mail_with = e.recorded in
-    let f = c.in-Ok.ensures in
+    let f = c.in-Ok-fire.ensures in
     let body = body_at a.rules c.in-Some.chosen.rule in
-    let firings : c.push-in-Ok.new.self.items ≡ a.firings.items ++ Some c.in-Ok.firing ∷ [] = rw (c.push-in-Ok.ensures.items, c.unwrap-in-Ok.ensures) (ap (λ (fs : List (Option Firing)). fs ++ Some c.in-Ok.firing ∷ []) c.reserve.ensures.items) in
+    let firings : c.push-in-Ok-fire.new.self.items ≡ a.firings.items ++ Some c.in-Ok-fire.firing ∷ [] = rw (c.push-in-Ok-fire.ensures.items, c.unwrap-in-Ok-fire.ensures) (ap (λ (fs : List (Option Firing)). fs ++ Some c.in-Ok-fire.firing ∷ []) c.reserve_entry.ensures.firings) in
     let trees = subst (λ (ts : List Tree). c.fire.new.trees ≡ (if stops body then map cleared_tree ts else map (fired_at c.in_ok-number.number c.in-Some.chosen.taken) ts)) (c.deref_mut-2.ensures.value ∙ again) f.trees in
-    let done = fires_done (length a.outboxes.items) (setting_in a) a.mail.mail a.firings.items a.ending a.trees.items i.told i.rest c.args.source c.args.message.now c.args.stamp takes offered same e.reserved running c.in-Some.chosen best c.in_ok-number.number (Some c.in-Ok.firing) c.record.new.mail.mail c.fire.new.mail.mail c.push-in-Ok.new.self.items c.fire.new.ending c.fire.new.trees
+    let done = fires_done (length a.outboxes.items) (setting_in a) a.mail.mail a.firings.items a.ending a.trees.items i.told i.rest c.args.source c.args.message c.args.stamp takes offered same e.reserved running c.in-Some.chosen best c.in_ok-number.number (Some c.in-Ok-fire.firing) c.record.new.mail.mail c.fire.new.mail.mail c.push-in-Ok-fire.new.self.items c.fire.new.ending c.fire.new.trees
     e.number e.recorded f.firing f.mail trees f.ending firings in
     let long-3 : length c.fire.new.outboxes ≡ a.outboxes.len = omega (arith, c.fire.auto.outboxes, c.deref_mut-3.ensures.len) in
     let boxes = take_at c.fire.new.outboxes (drop (length c.fire.new.outboxes) a.outboxes.items) a.outboxes.len long-3 in
     let same_count : length a.outboxes.items ≡ length (with_items a.outboxes c.fire.new.outboxes).items = omega (arith, ap length boxes, a.outboxes.ok.0) in
-    let arrival : Arrival = record { state = (held_of a).state; source = c.args.source; message = c.args.message.now; stamp = c.args.stamp } in
-    let entry : Entry = entry_with arrival (Some c.in-Ok.firing) in
+    let arrival : Arrival = record { state = (held_of a).state; source = c.args.source; message = c.args.message; stamp = c.args.stamp } in
+    let entry : Entry = entry_with arrival (Some c.in-Ok-fire.firing) in
     let before : Mail = c.record.new.mail.mail in
     let outbox = (held_of a).outbox in
-    let effects : effects_of (letters_of before.arrivals) c.in-Some.chosen.taken body ≡ c.in-Ok.firing.effects = ap firing_effects (sym f.firing) in
-    let stamp = stamp_same (length a.outboxes.items) (setting_in a) a.mail.mail a.firings.items a.ending a.trees.items i.told i.rest c.args.source c.args.message.now c.args.stamp before e.recorded in
+    let effects : effects_of (letters_of before.arrivals) c.in-Some.chosen.taken body ≡ c.in-Ok-fire.firing.effects = ap firing_effects (sym f.firing) in
+    let stamp = stamp_same (length a.outboxes.items) (setting_in a) a.mail.mail a.firings.items a.ending a.trees.items i.told i.rest c.args.source c.args.message c.args.stamp before e.recorded in
     let posts = ap (λ (os : List Queue). map (λ (o : Queue). o.posts) os) boxes ∙ f.posts ∙ (λ j. delivered (sent_by (latest before.arrivals) (effects j)) (map (λ (o : Queue). o.posts) (c.deref_mut-3.ensures.value j))) in
-    subst (λ (h : Held). map (λ (o : Queue). o.posts) (with_items a.outboxes c.fire.new.outboxes).items ≡ posts_behind 0 (new_entries h.state (state_of c.fire.new.mail.mail c.push-in-Ok.new.self.items c.fire.new.ending)) h.outbox) c.self.view_is
-    (posts ∙ fired_posts entry c.in-Ok.firing (latest before.arrivals) outbox refl stamp ∙ ap (λ (es : List Entry). posts_behind 0 es outbox) (sym done.entries))
+    subst (λ (h : Held). map (λ (o : Queue). o.posts) (with_items a.outboxes c.fire.new.outboxes).items ≡ posts_behind 0 (new_entries h.state (state_of c.fire.new.mail.mail c.push-in-Ok-fire.new.self.items c.fire.new.ending)) h.outbox) c.self.view_is
+    (posts ∙ fired_posts entry c.in-Ok-fire.firing (latest before.arrivals) outbox refl stamp ∙ ap (λ (es : List Entry). posts_behind 0 es outbox) (sym done.entries))
 
-pub returns-in-Ok-clause-steps : goal.returns-in-Ok-clause-steps
-returns-in-Ok-clause-steps g c =
+pub returns-in-Ok-fire-clause-steps : goal.returns-in-Ok-fire-clause-steps
+returns-in-Ok-fire-clause-steps g c =
     let a = c.self.inside in
     let i = c.self.invariant in
-    let takes = subst (λ (h : Held). is_refused h.setting h.state c.args.message.now c.args.stamp ≡ false) (sym c.self.view_is) c.requires.takes in
-    let few = subst (λ (ts : List Tree). c.record.new.steps ≤ c.args.steps.now + tries_at (letters_of a.mail.mail.arrivals ++ c.args.message.now ∷ []) (length a.mail.mail.arrivals + 1) ts) c.deref_mut.ensures.value c.record.ensures.steps in
-    subst (λ (h : Held). c.record.new.steps ≤ c.args.steps.now + tries_for h.setting.rules h.state c.args.message.now) c.self.view_is
-    (steps_few (length a.outboxes.items) (setting_in a) a.mail.mail a.firings.items a.ending a.trees.items i.told i.rest c.args.source c.args.message.now c.args.stamp takes c.args.steps.now c.record.new.steps few)
+    let taken = subst (λ (h : Held). is_taken h.setting h.state c.args.message c.args.stamp ≡ true) (sym c.self.view_is) c.requires.taken in
+    let takes = taken_fits (setting_in a) (held_of a).state c.args.message c.args.stamp taken in
+    let few = subst (λ (ts : List Tree). c.record.new.steps ≤ c.args.steps.now + tries_at (letters_of a.mail.mail.arrivals ++ c.args.message ∷ []) (length a.mail.mail.arrivals + 1) ts) c.deref_mut.ensures.value c.record.ensures.steps in
+    subst (λ (h : Held). c.record.new.steps ≤ c.args.steps.now + tries_for h.setting.rules h.state c.args.message) c.self.view_is
+    (steps_few (length a.outboxes.items) (setting_in a) a.mail.mail a.firings.items a.ending a.trees.items i.told i.rest c.args.source c.args.message c.args.stamp takes c.args.steps.now c.record.new.steps few)
 
 pub returns-in-Err-clause-steps : goal.returns-in-Err-clause-steps
 returns-in-Err-clause-steps g c =
     let a = c.self.inside in
     let i = c.self.invariant in
-    let takes = subst (λ (h : Held). is_refused h.setting h.state c.args.message.now c.args.stamp ≡ false) (sym c.self.view_is) c.requires.takes in
-    let few = subst (λ (ts : List Tree). c.record.new.steps ≤ c.args.steps.now + tries_at (letters_of a.mail.mail.arrivals ++ c.args.message.now ∷ []) (length a.mail.mail.arrivals + 1) ts) c.deref_mut.ensures.value c.record.ensures.steps in
-    subst (λ (h : Held). c.record.new.steps ≤ c.args.steps.now + tries_for h.setting.rules h.state c.args.message.now) c.self.view_is
-    (steps_few (length a.outboxes.items) (setting_in a) a.mail.mail a.firings.items a.ending a.trees.items i.told i.rest c.args.source c.args.message.now c.args.stamp takes c.args.steps.now c.record.new.steps few)
+    let taken = subst (λ (h : Held). is_taken h.setting h.state c.args.message c.args.stamp ≡ true) (sym c.self.view_is) c.requires.taken in
+    let takes = taken_fits (setting_in a) (held_of a).state c.args.message c.args.stamp taken in
+    let few = subst (λ (ts : List Tree). c.record.new.steps ≤ c.args.steps.now + tries_at (letters_of a.mail.mail.arrivals ++ c.args.message ∷ []) (length a.mail.mail.arrivals + 1) ts) c.deref_mut.ensures.value c.record.ensures.steps in
+    subst (λ (h : Held). c.record.new.steps ≤ c.args.steps.now + tries_for h.setting.rules h.state c.args.message) c.self.view_is
+    (steps_few (length a.outboxes.items) (setting_in a) a.mail.mail a.firings.items a.ending a.trees.items i.told i.rest c.args.source c.args.message c.args.stamp takes c.args.steps.now c.record.new.steps few)

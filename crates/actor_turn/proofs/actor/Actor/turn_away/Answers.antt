@@ -1,18 +1,20 @@
-use Rattle.std.proofs.Common.{◌≡◌, ◌∙◌, List, drop, length, map, ap, sym, subst, arith}
+use Rattle.std.proofs.Common.{rules, true, false, ◌≡◌, ◌∙◌, List, drop, length, map, ap, sym, subst, arith}
 use Rattle.std.proofs.lemmas.List.{take_at}
 use Rattle.join_base.specs.Late.{late_more}
 use Rattle.mailbox_core.specs.Mail.{Mail}
 use Rattle.tree_law.specs.Trees.{cleared_tree}
 use Rattle.fair_semantics.specs.declared.run.Entry.{Entry}
-use Rattle.actor_turn.specs.Held.{Held, new_entries, posts_behind}
+use Rattle.fair_semantics.specs.declared.run.Outcome.TheVariants.{Late, Spent}
+use Rattle.fair_semantics.specs.Step.{fair_step, is_running}
+use Rattle.actor_turn.specs.Held.{Held, is_taken, new_entries, posts_behind}
 use Rattle.actor_turn.specs.Inside.{held_of, setting_in}
 use Rattle.actor_turn.specs.Parts.{entries_of, state_of}
 use Rattle.actor_turn.proofs.PostsLemmas.{no_posts}
-use Rattle.actor_turn.proofs.RestLemmas.{late_rest, none_new, spent_rest}
-use Rattle.actor_turn.proofs.actor.Actor.arrive.Goals as goal
+use Rattle.actor_turn.proofs.RestLemmas.{late_is, late_rest, none_new, spent_is, spent_rest}
+use Rattle.actor_turn.proofs.actor.Actor.turn_away.Goals as goal
 
 pub invariant_of-self : goal.invariant_of-self
-invariant_of-self g c =
+invariant_of-self c =
     let a = c.self.inside in
     let i = c.self.invariant in
     let mail = c.add_late.ensures.late in
@@ -24,16 +26,16 @@ invariant_of-self g c =
       room = omega (arith, i.room);
     }
 
-pub returns-then-ne-clause-outbox : goal.returns-then-ne-clause-outbox
-returns-then-ne-clause-outbox g c =
+pub returns-then-not-runs-clause-outbox : goal.returns-then-not-runs-clause-outbox
+returns-then-not-runs-clause-outbox c =
     let a = c.self.inside in
     let outbox = (held_of a).outbox in
     let news = ap (λ (m : Mail). new_entries (held_of a).state (state_of m a.firings.items a.ending)) c.add_late.ensures.late ∙ none_new (entries_of 1 a.mail.mail.arrivals a.firings.items) in
     subst (λ (h : Held). outbox ≡ posts_behind 0 (new_entries h.state (state_of c.add_late.new.self.mail a.firings.items a.ending)) h.outbox) c.self.view_is
     (no_posts 0 outbox ∙ ap (λ (es : List Entry). posts_behind 0 es outbox) (sym news))
 
-pub invariant_of-self-then-not-takes : goal.invariant_of-self-then-not-takes
-invariant_of-self-then-not-takes g c =
+pub invariant_of-self-2 : goal.invariant_of-self-2
+invariant_of-self-2 c =
     let a = c.self.inside in
     let i = c.self.invariant in
     let e = c.spend.ensures in
@@ -48,10 +50,26 @@ invariant_of-self-then-not-takes g c =
       room = omega (arith, i.room);
     }
 
-pub returns-then-not-takes-clause-outbox : goal.returns-then-not-takes-clause-outbox
-returns-then-not-takes-clause-outbox g c =
+pub returns-clause-outbox : goal.returns-clause-outbox
+returns-clause-outbox c =
     let a = c.self.inside in
     let outbox = (held_of a).outbox in
     let news = ap (λ (m : Mail). new_entries (held_of a).state (state_of m a.firings.items c.spend.new.ending)) c.spend.ensures.mail ∙ none_new (entries_of 1 a.mail.mail.arrivals a.firings.items) in
     subst (λ (h : Held). outbox ≡ posts_behind 0 (new_entries h.state (state_of c.spend.new.mail.mail a.firings.items c.spend.new.ending)) h.outbox) c.self.view_is
     (no_posts 0 outbox ∙ ap (λ (es : List Entry). posts_behind 0 es outbox) (sym news))
+
+pub returns-then-not-runs-clause-step : goal.returns-then-not-runs-clause-step
+returns-then-not-runs-clause-step c message stamp away =
+    let a = c.self.inside in
+    let ended : is_running a.ending ≡ false = search rules in
+    subst (λ (h : Held). fair_step h.setting h.state c.args.source message stamp ≡ (state_of c.add_late.new.self.mail a.firings.items a.ending, Late)) c.self.view_is
+    (late_is (setting_in a) (held_of a).state message stamp c.args.source ended ∙ ap (λ (m : Mail). (state_of m a.firings.items a.ending, Late)) (sym c.add_late.ensures.late))
+
+pub returns-clause-step : goal.returns-clause-step
+returns-clause-step c message stamp away =
+    let a = c.self.inside in
+    let running : is_running a.ending ≡ true = search rules in
+    let same = subst (λ (h : Held). is_taken h.setting h.state message stamp ≡ false) (sym c.self.view_is) away in
+    subst (λ (h : Held). fair_step h.setting h.state c.args.source message stamp ≡ (state_of c.spend.new.mail.mail a.firings.items c.spend.new.ending, Spent)) c.self.view_is
+    (spent_is (setting_in a) (held_of a).state message stamp c.args.source running same
+    ∙ (λ i. (state_of (sym c.spend.ensures.mail i) a.firings.items (sym c.spend.ensures.ending i), Spent)))
