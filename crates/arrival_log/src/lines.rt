@@ -11,8 +11,8 @@ use fair_semantics::{ActorRun, Effect, Entry, Firing, Run};
 use join_base::{Bytes, NoMemory, Source, write_quoted};
 use script_types::{ActorPlan, Plan, write_actor_name};
 
-// The first line.
-pub(crate) fn write_head(text: &mut Bytes, run: &Run) -> Result<(), NoMemory>
+/// Appends the first line of the log of a run.
+pub fn write_head(text: &mut Bytes, run: &Run) -> Result<(), NoMemory>
     ensures { OnOk result (text.new ≡ text.old ++ head_line run.now) }
 {
     write_labelled(text, b"joinlog ", u64::from(run.version))?;
@@ -135,8 +135,8 @@ fn write_end(text: &mut Bytes, run: &ActorRun) -> Result<(), NoMemory>
     text.push_all(b"\n")
 }
 
-// The lines of an actor.
-pub(crate) fn write_actor(
+/// Appends the lines of one actor with its run: those that its section of a log has.
+pub fn write_actor(
     text: &mut Bytes,
     plan: &Plan,
     version: u32,
