@@ -1,7 +1,9 @@
 use Rattle.std.proofs.Common.{◌∙◌, length, ap, subst, sym}
+use Rattle.std.proofs.lemmas.Result.{IfOk-weaker}
 use Rattle.fair_semantics.specs.Fits.{RunFits}
+use Rattle.log_replay.specs.Shared.{shown_all}
 use Rattle.log_replay.proofs.MadeLemmas.{expected_fits}
-use Rattle.log_replay.proofs.ReplayLemmas.{replayed, runs_count, settlements_count}
+use Rattle.log_replay.proofs.ReplayLemmas.{finished_count, replayed, runs_count, settlements_count}
 use Rattle.log_replay.proofs.SettledLemmas.{sources_counted}
 use Rattle.log_replay.proofs.replaying.replay.Goals as goal
 
@@ -15,16 +17,4 @@ pub finished_runs-requires : goal.finished_runs-requires
 finished_runs-requires g c =
     let same = c.as_slice.ensures.same in
     let many = ap length (same ∙ c.in_ok-made.ensures.runs) ∙ runs_count c.args.plan.now c.args.run.now (length c.args.plan.now.actors) ∙ sym c.requires.fits.actors in
-    record { many = ap length c.in_ok-settlements.ensures ∙ settlements_count c.as_slice.result.now c.args.run.now 0 c.as_slice.result.now c.args.run.now.actors many ∙ ap length same }
-
-pub returns-clause-expected : goal.returns-clause-expected
-returns-clause-expected g c =
-    replayed c.args.plan.now c.args.run.now c.in_ok-made.made c.as_slice.result.now c.in_ok-settlements.settlements c.in_ok-actors.actors c.requires.typed c.requires.fits c.in_ok-made.ensures.texts c.in_ok-made.ensures.runs c.as_slice.ensures.same
-    c.in_ok-settlements.ensures c.in_ok-actors.ensures
-
-pub returns-clause-fits : goal.returns-clause-fits
-returns-clause-fits g c =
-    let same =
-    replayed c.args.plan.now c.args.run.now c.in_ok-made.made c.as_slice.result.now c.in_ok-settlements.settlements c.in_ok-actors.actors c.requires.typed c.requires.fits c.in_ok-made.ensures.texts c.in_ok-made.ensures.runs c.as_slice.ensures.same
-    c.in_ok-settlements.ensures c.in_ok-actors.ensures
-    in subst (RunFits c.args.plan.now) (sym same) (expected_fits c.args.plan.now c.args.run.now c.requires.typed c.in_ok-made.ensures.texts c.requires.fits)
+    record { many = ap length c.in_ok-settlements.ensures ∙ settlements_count (shown_all c.args.run.now.actors c.as_slice.result.now) c.args.run.now 0 c.as_slice.result.now c.args.run.now.actors many ∙ ap length same }
