@@ -1,13 +1,13 @@
 -- Runs that share their entries with those that were read.
-use Rattle.std.proofs.Common.{◌≡◌, ◌∙◌, ℕ, zero, suc, ◌+◌, ◌≤◌, List, [], ◌∷◌, ◌++◌, length, map, Bool, true, false, Option, None, Some, slice_get, refl, sym, ap, arith}
-use Rattle.std.specs.Prelude.{if◌then◌else◌, not, nat_le, nat_lt, ◌||◌, ◌&&◌, ◌-◌, ◌<◌}
+use Rattle.std.proofs.Common.{◌≡◌, ◌∙◌, ℕ, zero, suc, ◌+◌, List, [], ◌∷◌, ◌++◌, length, Bool, true, false, Option, None, Some, slice_get, refl, sym, ap, arith}
+use Rattle.std.specs.Prelude.{if◌then◌else◌, not, nat_le, ◌||◌, ◌-◌, ◌<◌}
 use Rattle.std.proofs.Common.{append_assoc, drop, get_or}
 use Rattle.std.proofs.Math.Seq.{drop-nil}
 use Rattle.std.specs.List.{flat_map}
 use Rattle.join_base.specs.declared.message.Stamped.{Stamped}
 use Rattle.fair_semantics.specs.declared.run.ActorRun.{ActorRun}
 use Rattle.fair_semantics.specs.declared.run.Entry.{Entry}
-use Rattle.fair_semantics.specs.Linked.{entry_posts, unstamped_entry}
+use Rattle.fair_semantics.specs.Linked.{entry_posts}
 use Rattle.log_replay.specs.declared.shared.Shared.{Shared}
 use Rattle.log_replay.specs.Expected.{entries_in, stamped_as, with_entries, with_stamp}
 use Rattle.fair_semantics.specs.declared.run.Limits.{Limits}
@@ -15,7 +15,7 @@ use Rattle.fair_semantics.specs.declared.run.Run.{Run}
 use Rattle.fair_semantics.specs.Step.{is_running}
 use Rattle.log_replay.specs.Kept.{ends_running, link_fault, link_of, posts_made}
 use Rattle.log_replay.specs.Settling.{links_to, may_be_late, with_stamps}
-use Rattle.log_replay.specs.Shared.{kept, plain, plain_at, runs_at, shown, shown_all, shown_run, stamp_or}
+use Rattle.log_replay.specs.Shared.{plain, plain_at, runs_at, shown, shown_all, shown_run, stamp_or}
 
 -- ---- stamps that are written over
 

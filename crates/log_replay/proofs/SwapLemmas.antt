@@ -1,12 +1,11 @@
 -- Whether the read entries stand in for those that are the same but for stamps makes no difference.
-use Rattle.std.proofs.Common.{◌≡◌, ◌∙◌, ℕ, zero, suc, ◌+◌, ◌≤◌, List, [], ◌∷◌, length, map, Bool, true, false, Option, None, Some, slice_get, refl, sym, ap, subst, arith}
+use Rattle.std.proofs.Common.{◌≡◌, ◌∙◌, ℕ, zero, suc, ◌+◌, ◌≤◌, List, [], ◌∷◌, length, map, Bool, true, false, slice_get, refl, sym, ap, arith}
 use Rattle.std.specs.Prelude.{if◌then◌else◌, nat_le, nat_lt, not, ◌&&◌, ◌||◌, ◌==◌, replicate}
 use Rattle.std.specs.List.{AllByRecursion, flat_map}
 use Rattle.std.proofs.lemmas.List.{length-map, length-replicate}
 use Rattle.join_base.specs.declared.message.Stamped.{Stamped}
 use Rattle.script_types.specs.declared.plan.Plan.{Plan}
 use Rattle.fair_semantics.specs.declared.run.ActorRun.{ActorRun}
-use Rattle.fair_semantics.specs.declared.run.Ending.{Ending}
 use Rattle.fair_semantics.specs.declared.run.Ending.TheVariants as ending
 use Rattle.fair_semantics.specs.declared.run.Entry.{Entry}
 use Rattle.fair_semantics.specs.declared.run.Limits.{Limits}
@@ -103,7 +102,7 @@ finished_with own entries settlement definitions = by (is_running own.ending && 
   where
     by : (b : Bool)
         → (let run : ActorRun = if b then record { entries = entries; late = settlement.late; ending = ending.Spent; left = []; partials = definitions } else record own { entries = entries; late = settlement.late } in
-           record run { entries = with_stamps settlement.stamps run.entries })
+        record run { entries = with_stamps settlement.stamps run.entries })
         ≡ with_entries (if b then record { entries = own.entries; late = settlement.late; ending = ending.Spent; left = []; partials = definitions } else record own { late = settlement.late }) (with_stamps settlement.stamps entries)
     by true = refl
     by false = refl
@@ -136,9 +135,9 @@ shown_finished read shared settlement definitions none = by shared.as_read
       where
         plainly : (b : Bool)
             → (let run : ActorRun = if b then record { entries = own.entries; late = settlement.late; ending = ending.Spent; left = []; partials = definitions } else record own { late = settlement.late } in
-               with_entries run (with_stamps settlement.stamps run.entries))
+            with_entries run (with_stamps settlement.stamps run.entries))
             ≡ (let run : ActorRun = if b then record { entries = own.entries; late = settlement.late; ending = ending.Spent; left = []; partials = definitions } else record own { late = settlement.late } in
-               record run { entries = with_stamps settlement.stamps run.entries })
+            record run { entries = with_stamps settlement.stamps run.entries })
         plainly true = refl
         plainly false = refl
 

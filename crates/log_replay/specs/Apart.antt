@@ -1,5 +1,5 @@
 -- Where bytes and a text part, in lines.
-use Rattle.std.specs.Prelude.{◌≡◌, ℕ, ◌+◌, ◌<◌, ◌≤◌, nat_lt, List, [], ◌∷◌, length, ◌==◌, Option, None, Some, slice_get, if◌then◌else◌}
+use Rattle.std.specs.Prelude.{ℕ, ◌+◌, ◌≤◌, nat_lt, List, [], ◌∷◌, length, ◌==◌, Option, None, Some, slice_get, if◌then◌else◌}
 use Rattle.log_replay.specs.declared.apart.Progress.{Progress}
 use Rattle.log_replay.specs.declared.apart.Progress.TheVariants.{Along, Parted}
 

@@ -27,7 +27,7 @@ fn forget_posts(actor: &mut Actor, target: u32)
     ensures setting { actor.new.setting ≡ actor.old.setting }
     ensures many { length actor.new.outbox ≡ length actor.old.outbox }
 {
-    while let Some(_) = actor.take_post(target) {}
+    'posts: while let Some(_) = actor.take_post(target) {}
 }
 
 // Lets go of all posts that wait, where there may be some. Nobody takes them here.

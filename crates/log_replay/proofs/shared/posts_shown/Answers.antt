@@ -1,7 +1,5 @@
-use Rattle.std.proofs.Common.{◌≡◌, ◌∙◌, List, ap, slice_get}
+use Rattle.std.proofs.Common.{◌∙◌}
 use Rattle.std.proofs.lemmas.Result.{IfOk-weaker}
-use Rattle.join_base.specs.declared.message.Stamped.{Stamped}
-use Rattle.fair_semantics.specs.declared.run.Entry.{Entry}
 use Rattle.log_replay.specs.Kept.{posts_made}
 use Rattle.log_replay.proofs.SharedLemmas.{posts_at}
 use Rattle.log_replay.proofs.shared.posts_shown.Goals as goal
