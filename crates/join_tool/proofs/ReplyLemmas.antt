@@ -77,7 +77,7 @@ module _ (run : RunWords) where
     run_feeds_stopped (Some before) (Some mid) (Some now) why one l = replied before mid now (Err why) (Err why) one l (λ files gives is. stop_verdict files gives (stopped_by why) is)
 
     abbrev run_answer : Feeds → Reply
-    run_answer all = reply.Run plan (limits_of run.options) all
+    run_answer all = reply.Run plan run.options all
 
     pub run_replied : (before mid now : Option Told) (all : Feeds) → Tells before mid (λ b n. LoadsScript b n run.script (Ok plan)) → Tells mid now (λ b n. LoadsFeeds b n plan run.feeds (Ok all))
         → Tells before now (λ b n. Replies (Run run) b n (Ok (run_answer all)))

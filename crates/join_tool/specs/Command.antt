@@ -7,7 +7,7 @@ use Rattle.command_words.specs.declared.table.Setting.TheVariants as setting
 
 -- the command that the words are, if they are one; the commands and the options that are built are these
 abbrev pub command_of : List (List ℕ) → Option Command
-command_of words = given.command_of (verb.Run ∷ verb.Check ∷ verb.Replay ∷ verb.Lint ∷ verb.Load ∷ []) (setting.Arrivals ∷ setting.Partials ∷ []) words
+command_of words = given.command_of (verb.Run ∷ verb.Check ∷ verb.Replay ∷ verb.Lint ∷ verb.Load ∷ []) (setting.Workers ∷ setting.Ring ∷ setting.Arrivals ∷ setting.Partials ∷ []) words
 
 -- one of the commands that are built
 abbrev pub IsBuilt : Command → Type 0

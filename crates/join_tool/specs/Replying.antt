@@ -7,11 +7,12 @@ use Rattle.script_types.specs.Typed.{IsTyped}
 use Rattle.fair_semantics.specs.declared.run.Limits.{Limits}
 use Rattle.fair_semantics.specs.Fits.{IsFrom1To, PostFits}
 use Rattle.command_words.specs.Command.{Command}
+use Rattle.command_words.specs.Ranges.{AreInRange}
 use Rattle.join_tool.specs.declared.reply.Reply.{Reply}
 use Rattle.join_tool.specs.declared.reply.Reply.TheVariants as reply
 use Rattle.join_tool.specs.declared.stop.Stop.{Stop}
 use Rattle.join_tool.specs.Loading.{stopped_by}
-use Rattle.join_tool.specs.Verdict.{Feeds, Verdict, Accepts, Checks, Lints, Loads, Runs, MayAsk, OfCommand}
+use Rattle.join_tool.specs.Verdict.{Feeds, Verdict, Accepts, Checks, Lints, Loads, Runs, MayAsk, OfCommand, limits_of}
 
 -- a well typed plan, limits in their range, and 1 to 16 feeds whose posts fit the plan
 pub record AreRunParts (plan : Plan) (limits : Limits) (feeds : Feeds) : Type 0 where
@@ -24,15 +25,15 @@ pub record AreRunParts (plan : Plan) (limits : Limits) (feeds : Feeds) : Type 0 
 abbrev pub verdict_of : Reply → Verdict
 verdict_of (reply.Check plan) = Checks plan
 verdict_of (reply.Lint plan) = Lints plan
-verdict_of (reply.Run plan limits feeds) = Runs plan limits feeds
+verdict_of (reply.Run plan options feeds) = Runs plan (limits_of options) feeds
 verdict_of (reply.Load rows) = Loads rows
 verdict_of (reply.Accepted arrivals) = Accepts arrivals
 
--- a plan that is looked at is well typed, one that runs has its parts, and feeds of the building have 1 to 20,000 rows
+-- a plan that is looked at is well typed, one that runs has its parts and numbers in their ranges, and feeds of the building have 1 to 20,000 rows
 abbrev pub IsRunnable : Reply → Type 0
 IsRunnable (reply.Check plan) = Unit {0}
 IsRunnable (reply.Lint plan) = IsTyped plan
-IsRunnable (reply.Run plan limits feeds) = AreRunParts plan limits feeds
+IsRunnable (reply.Run plan options feeds) = AreRunParts plan (limits_of options) feeds × AreInRange options
 IsRunnable (reply.Load rows) = (1 ≤ rows) × (rows ≤ 20000)
 IsRunnable (reply.Accepted arrivals) = Unit {0}
 

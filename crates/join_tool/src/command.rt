@@ -17,6 +17,11 @@ pub fn command_of<'a>(alloc: Global, words: &'a WordList) -> Result<Option<Reque
     ensures in_range { IfOk result (λ request. IfSome request (λ r. IsInRange (command_in r))) }
 {
     let verbs = [Verb::Run, Verb::Check, Verb::Replay, Verb::Lint, Verb::Load];
-    let settings = [Setting::Arrivals, Setting::Partials];
+    let settings = [
+        Setting::Workers,
+        Setting::Ring,
+        Setting::Arrivals,
+        Setting::Partials,
+    ];
     command_words::command_of(alloc, &verbs, &settings, words)
 }

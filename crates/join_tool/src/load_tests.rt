@@ -1,13 +1,15 @@
 //! The building of `load`, over inputs and a sink in memory.
-use crate::gate::FreeGate;
 use crate::status::Status;
 use crate::top::join_main;
+use actor_pool::FreeGate;
 use building_load::load_plan;
 use join_base::{Bytes, MemoryInputs, MemorySink, Word, WordList};
 use plan_text::print_plan;
 use std::alloc::Global;
 use std::process::Abort;
+use std::sync::Wait;
 use std::test::Fail;
+use std::thread::Threads;
 
 const KINDS: &[u8] =
     b"message motion(room: int, t: int) message light(room: int, lux: int, t: int) message contact(room: int, t: int) message on(room: int) message alarm(room: int)";
@@ -32,7 +34,12 @@ fn script(alloc: Global) -> Result<Bytes, Fail> {
 }
 
 // The words, where the script is the file s, give this output with status `Done`.
-fn gives(rt: &impl Abort, alloc: Global, texts: &[&str], output: &[u8]) -> Result<(), Fail> {
+fn gives<R: Abort + Threads + Wait + Sync>(
+    rt: &R,
+    alloc: Global,
+    texts: &[&str],
+    output: &[u8],
+) -> Result<(), Fail> {
     let mut words = WordList::new(alloc);
     for text in texts {
         words.push(Word::from_text(alloc, text)?)?;

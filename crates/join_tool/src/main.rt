@@ -5,7 +5,6 @@
 
 mod command;
 mod files;
-mod gate;
 mod law;
 mod lint_text;
 mod load;
@@ -25,10 +24,10 @@ mod tests;
 mod top;
 
 use crate::files::{FileInputs, OutSink};
-use crate::gate::FreeGate;
 use crate::note::{tell, tell_no_memory};
 use crate::status::Status;
 use crate::top::join_main;
+use actor_pool::FreeGate;
 use join_base::{NoMemory, Word, WordList};
 use std::alloc::Global;
 use std::env;

@@ -2,12 +2,14 @@
 ghost use Rattle.std.specs.Prelude.{◌≡◌, ◌<◌, ◌≤◌, IfOk, codes};
 ghost use Rattle.std.specs.List.{list_any};
 ghost use Rattle.join_base.specs.Outside.{WriteCause};
+ghost use Rattle.command_words.specs.Ranges.{AreInRange};
 ghost use Rattle.plan_text.specs.PlanText.{plan_text};
 ghost use Rattle.script_types.specs.Typed.{IsTyped};
 ghost use Rattle.join_tool.specs.LintText.{lint_text};
 ghost use Rattle.join_tool.specs.Loading.{refused_as};
 ghost use Rattle.join_tool.specs.Output.{IsLog, IsOutput, IsSettled, IsSummary, accepted_line, cause_name, feed_line, line, log_cause_name, log_line, met_limit, row_cause_name, run_status, script_line, too_long_line};
 ghost use Rattle.join_tool.specs.Replying.{AreRunParts, IsRunnable, verdict_of};
+ghost use Rattle.join_tool.specs.Verdict.{limits_of};
 ghost use Rattle.join_tool.specs.Writing.{Writes};
 
 use crate::lint_text::print_findings;
@@ -15,15 +17,19 @@ use crate::reply::Reply;
 use crate::run::run_feeds;
 use crate::status::Status;
 use crate::stop::{LogCause, Refusal};
+use actor_pool::Gate;
 use arrival_log::print_log;
 use building_load::{load_feeds, load_plan, summary};
-use fair_semantics::{ActorRun, Ending, Limits, Run};
+use command_words::{Queueing, RunOptions};
+use fair_semantics::{ActorRun, Ending, Run};
 use join_base::{Bytes, Failed, FeedList, NoMemory, Sink};
 use plan_text::print_plan;
 use script_reader::ScriptCause;
 use script_types::Plan;
 use sensor_feed::FeedCause;
 use std::alloc::Global;
+use std::sync::Wait;
+use std::thread::Threads;
 
 // These bytes.
 fn text_of(alloc: Global, text: &[u8]) -> Result<Bytes, NoMemory>
@@ -206,37 +212,48 @@ fn run_status(run: &Run) -> Status
 }
 
 // The status and the log of a plan over its feeds.
-fn run_output(
+fn run_output<R: Threads + Wait + Sync, G: Gate>(
+    rt: &R,
     alloc: Global,
     plan: &Plan,
-    limits: Limits,
+    options: RunOptions,
     feeds: FeedList,
+    gate: &G,
 ) -> Result<(Status, Bytes), NoMemory>
-    requires parts { AreRunParts plan.now limits feeds }
-    ensures log { IfOk result (λ p. IsLog plan.now limits feeds p.0 p.1) }
+    requires parts { AreRunParts plan.now (limits_of options) feeds }
+    requires numbers { AreInRange options }
+    ensures log { IfOk result (λ p. IsLog plan.now (limits_of options) feeds p.0 p.1) }
     ensures settled { IfOk result (λ p. IsSettled p.0) }
 {
-    let run = run_feeds(alloc, plan, limits, feeds)?;
+    let run = run_feeds(rt, alloc, plan, options, feeds, gate)?;
     let mut bytes = Bytes::new(alloc);
     print_log(alloc, plan, &run, &mut bytes)?;
     Ok((run_status(&run), bytes))
 }
 
-// The limits of `run` where it is given none.
-const LOAD_LIMITS: Limits = Limits {
+// The options of `run` where it is given none.
+const LOAD_OPTIONS: RunOptions = RunOptions {
+    workers: 4,
+    ring: 64,
     arrivals: 50_000,
     partials: 65_536,
+    pool: Queueing::Queue,
 };
 
 // The status and the summary of the building over feeds of so many rows.
-fn load_output(alloc: Global, rows: u32) -> Result<(Status, Bytes), NoMemory>
+fn load_output<R: Threads + Wait + Sync, G: Gate>(
+    rt: &R,
+    alloc: Global,
+    rows: u32,
+    gate: &G,
+) -> Result<(Status, Bytes), NoMemory>
     requires rows { (1 ≤ rows) × (rows ≤ 20000) }
     ensures summary { IfOk result (λ p. IsSummary rows p.0 p.1) }
     ensures settled { IfOk result (λ p. IsSettled p.0) }
 {
     let plan = load_plan(alloc)?;
     let feeds = load_feeds(alloc, rows)?;
-    let run = run_feeds(alloc, &plan, LOAD_LIMITS, feeds)?;
+    let run = run_feeds(rt, alloc, &plan, LOAD_OPTIONS, feeds, gate)?;
     let mut bytes = Bytes::new(alloc);
     summary(alloc, rows, &plan, &run, &mut bytes)?;
     Ok((run_status(&run), bytes))
@@ -261,8 +278,13 @@ fn text_of_findings(alloc: Global, plan: &Plan) -> Result<Bytes, NoMemory>
     Ok(bytes)
 }
 
-/// The status of a reply, and what is written for it.
-pub fn output_of(alloc: Global, reply: Reply) -> Result<(Status, Bytes), NoMemory>
+/// The status of a reply, and what is written for it. It may wait where the reply is a run.
+pub fn output_of<R: Threads + Wait + Sync, G: Gate>(
+    rt: &R,
+    alloc: Global,
+    reply: Reply,
+    gate: &G,
+) -> Result<(Status, Bytes), NoMemory>
     requires runnable { IsRunnable reply }
     ensures output { IfOk result (λ p. IsOutput (verdict_of reply) p.0 p.1) }
     ensures settled { IfOk result (λ p. IsSettled p.0) }
@@ -272,10 +294,10 @@ pub fn output_of(alloc: Global, reply: Reply) -> Result<(Status, Bytes), NoMemor
         Reply::Lint(plan) => Ok((Status::Done, text_of_findings(alloc, &plan)?)),
         Reply::Run {
             plan,
-            limits,
+            options,
             feeds,
-        } => run_output(alloc, &plan, limits, feeds),
-        Reply::Load { rows } => load_output(alloc, rows),
+        } => run_output(rt, alloc, &plan, options, feeds, gate),
+        Reply::Load { rows } => load_output(rt, alloc, rows, gate),
         Reply::Accepted(arrivals) => Ok((Status::Done, accepted_line(alloc, arrivals)?)),
     }
 }

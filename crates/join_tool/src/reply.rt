@@ -6,13 +6,11 @@ ghost use Rattle.command_words.specs.Views.{command_in, run_in};
 ghost use Rattle.join_tool.specs.Command.{IsBuilt};
 ghost use Rattle.join_tool.specs.Loading.{LoadCause, Tells};
 ghost use Rattle.join_tool.specs.Replying.{IsRunnable, Replies};
-ghost use Rattle.join_tool.specs.Verdict.{limits_of};
 
 use crate::load::{load_feeds, load_script};
 use crate::replay::load_log;
 use crate::stop::Stop;
 use command_words::{Request, RunOptions, RunWords};
-use fair_semantics::Limits;
 use join_base::{FeedList, Inputs, Word};
 use script_types::Plan;
 use std::alloc::Global;
@@ -24,10 +22,10 @@ pub enum Reply {
     Check(Plan),
     /// The plan of a script whose findings are listed.
     Lint(Plan),
-    /// A plan that runs within limits, with the posts of its feeds.
+    /// A plan that runs by the options, with the posts of its feeds.
     Run {
         plan: Plan,
-        limits: Limits,
+        options: RunOptions,
         feeds: FeedList,
     },
     /// How many rows each feed of the building has, from 1 to 20,000.
@@ -36,15 +34,6 @@ pub enum Reply {
     },
     /// The number of arrivals of a log that is accepted.
     Accepted(u64),
-}
-
-fn limits_of(options: RunOptions) -> Limits
-    ensures { result ≡ limits_of options }
-{
-    Limits {
-        arrivals: options.arrivals,
-        partials: u64::from(options.partials),
-    }
 }
 
 // What `run SCRIPT FEED..` comes to.
@@ -60,7 +49,7 @@ fn run_reply<I: Inputs>(alloc: Global, inputs: &mut I, run: &RunWords<'_>) -> Re
             Err(stop) => Err(stop),
             Ok(feeds) => Ok(Reply::Run {
                 plan,
-                limits: limits_of(run.options),
+                options: run.options,
                 feeds,
             }),
         },

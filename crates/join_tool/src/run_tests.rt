@@ -1,7 +1,7 @@
 //! Runs of several actors, and of actors that meet a limit, over inputs and a sink in memory.
-use crate::gate::FreeGate;
 use crate::status::Status;
 use crate::top::join_main;
+use actor_pool::FreeGate;
 use join_base::{Bytes, MemoryInputs, MemorySink, Word, WordList};
 use std::process::Abort;
 use std::test::Fail;

@@ -1,15 +1,17 @@
 //! The program over inputs and a sink in memory, and its two ends over files and a writer.
 use crate::files::{FileInputs, MAX_TRIES, OutSink, read_up_to};
-use crate::gate::FreeGate;
 use crate::output::write_all;
 use crate::status::Status;
 use crate::top::join_main;
+use actor_pool::FreeGate;
 use join_base::{Bytes, FetchFault, Inputs, MemoryInputs, MemorySink, Word, WordList};
 use std::alloc::Global;
 use std::fs;
 use std::io::{self, ErrorKind, Read};
 use std::process::Abort;
+use std::sync::Wait;
 use std::test::Fail;
+use std::thread::Threads;
 
 // A script that joins two kinds, its feed, and the log of their run, of 160 bytes.
 const SCRIPT: &[u8] =
@@ -66,8 +68,8 @@ fn inputs_of(alloc: Global, script: &[u8], feed: &[u8]) -> Result<MemoryInputs, 
 }
 
 // Runs the words over the inputs into the sink, and compares the status and all that the sink has then.
-fn gives(
-    rt: &impl Abort,
+fn gives<R: Abort + Threads + Wait + Sync>(
+    rt: &R,
     alloc: Global,
     words: &[&str],
     inputs: &mut MemoryInputs,
@@ -83,8 +85,8 @@ fn gives(
 }
 
 // The same with a sink that takes all.
-fn answers(
-    rt: &impl Abort,
+fn answers<R: Abort + Threads + Wait + Sync>(
+    rt: &R,
     alloc: Global,
     words: &[&str],
     inputs: &mut MemoryInputs,

@@ -4,14 +4,14 @@ use Rattle.building_load.specs.Building.{load_plan}
 use Rattle.building_load.specs.Rows.{load_feeds}
 use Rattle.building_load.specs.Summary.{summary_text}
 use Rattle.join_tool.specs.Output.{load_limits}
-use Rattle.join_tool.proofs.RunLemmas.{linked_parts, load_parts, scheduled_parts}
+use Rattle.join_tool.proofs.RunLemmas.{linked_parts, load_in_range, load_parts, scheduled_parts}
 use Rattle.join_tool.proofs.output.load_output.Goals as goal
 
 pub run_feeds-requires : goal.run_feeds-requires
-run_feeds-requires c = record { parts = load_parts c.args.rows c.in_ok-plan.plan c.in_ok-feeds.feeds c.requires.rows.1 c.in_ok-plan.ensures.plan c.in_ok-feeds.ensures.feeds }
+run_feeds-requires g c = record { numbers = load_in_range; parts = load_parts c.args.rows c.in_ok-plan.plan c.in_ok-feeds.feeds c.requires.rows.1 c.in_ok-plan.ensures.plan c.in_ok-feeds.ensures.feeds }
 
 pub returns-clause-summary : goal.returns-clause-summary
-returns-clause-summary c = record {
+returns-clause-summary g c = record {
   run = c.in_ok-run.run';
   version = c.in_ok-run.ensures.version;
   linked =

@@ -12,5 +12,5 @@ returns-in-Err-load_feeds-clause-told g c =
 
 pub returns-in-Ok-load_feeds-clause-told : goal.returns-in-Ok-load_feeds-clause-told
 returns-in-Ok-load_feeds-clause-told g c =
-    rw c.limits_of.ensures (run_replied (run_in c.args.run.now) c.in-Ok.plan (g.I.Inputs.tells c.args.inputs.now) (g.I.Inputs.tells c.load_script.new.inputs) (g.I.Inputs.tells c.load_feeds.new.inputs) c.in-Ok-load_feeds.feeds
-    c.in-Ok.ensures.told (rw c.as_slice.ensures.value at c.in-Ok-load_feeds.ensures.told))
+    run_replied (run_in c.args.run.now) c.in-Ok.plan (g.I.Inputs.tells c.args.inputs.now) (g.I.Inputs.tells c.load_script.new.inputs) (g.I.Inputs.tells c.load_feeds.new.inputs) c.in-Ok-load_feeds.feeds
+    c.in-Ok.ensures.told (rw c.as_slice.ensures.value at c.in-Ok-load_feeds.ensures.told)
