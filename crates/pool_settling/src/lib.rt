@@ -11,5 +11,7 @@
 mod apart;
 mod draining;
 mod ends;
+mod settling;
 
 pub use draining::drain_links;
+pub use settling::settle_with;
