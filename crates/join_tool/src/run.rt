@@ -1,5 +1,5 @@
 //! Running a plan on its feeds.
-ghost use Rattle.std.specs.Prelude.{◌≡◌, ◌<◌, IfOk};
+ghost use Rattle.std.specs.Prelude.{◌≡◌, IfOk};
 ghost use Rattle.fair_semantics.specs.Linked.{IsLinked};
 ghost use Rattle.run_order.specs.Order.{IsScheduled};
 ghost use Rattle.command_words.specs.Ranges.{AreInRange};
@@ -7,15 +7,13 @@ ghost use Rattle.join_tool.specs.Replying.{AreRunParts};
 ghost use Rattle.join_tool.specs.Verdict.{limits_of};
 
 use actor_pool::Gate;
-use actor_system::System;
 use command_words::RunOptions;
 use fair_semantics::{Limits, Run};
-use join_base::{FeedList, NoMemory, Steps};
+use join_base::{FeedList, NoMemory};
+use pool_run::run_pool;
 use script_types::Plan;
 use std::alloc::Global;
-use std::marker::Brand;
 use std::sync::Wait;
-use std::sync::ledger::{Blank, Ledger};
 use std::thread::Threads;
 
 // The limits that the options give.
@@ -28,37 +26,16 @@ fn limits_of(options: RunOptions) -> Limits
     }
 }
 
-// The run of the system, once nothing waits.
-fn run_system<L: Ledger>(
-    alloc: Global,
-    plan: &Plan,
-    limits: Limits,
-    feeds: FeedList,
-    blank: Blank,
-) -> Result<Run, NoMemory>
-    requires parts { AreRunParts plan.now limits feeds }
-    requires name { blank.name ≡ L.name }
-    requires blank_parts { blank.parts ≡ L.parts }
-    requires some { 0 < L.parts }
-    ensures linked { IfOk result (IsLinked plan.now limits feeds) }
-    ensures scheduled { IfOk result (IsScheduled plan.now limits feeds) }
-    ensures version { IfOk result (λ run. run.version ≡ 2) }
-{
-    let mut steps = Steps::<L>::new(blank);
-    let mut system = System::new(alloc, plan, limits, feeds)?;
-    system.run_to_end(alloc, &mut steps)?;
-    Ok(system.finish())
-}
-
-/// The run of the plan on its feeds, by the options, over all actors. It is linked to the feeds, and it is that of one
-/// schedule of single steps: the logs of its actors may be read as those of a run on one thread, step after step.
+/// The run of the plan on its feeds, over all actors, within the limits of the options, by as many workers and over links with
+/// as much room as they say. It is linked to the feeds, and it is that of one schedule of single steps: the logs of its actors
+/// may be read as those of a run on one thread, step after step. It may wait.
 pub fn run_feeds<R: Threads + Wait + Sync, G: Gate>(
-    _rt: &R,
+    rt: &R,
     alloc: Global,
     plan: &Plan,
     options: RunOptions,
     feeds: FeedList,
-    _gate: &G,
+    gate: &G,
 ) -> Result<Run, NoMemory>
     requires parts { AreRunParts plan.now (limits_of options) feeds }
     requires numbers { AreInRange options }
@@ -66,5 +43,15 @@ pub fn run_feeds<R: Threads + Wait + Sync, G: Gate>(
     ensures scheduled { IfOk result (IsScheduled plan.now (limits_of options) feeds) }
     ensures version { IfOk result (λ run. run.version ≡ 2) }
 {
-    run_system::<Brand>(alloc, plan, limits_of(options), feeds, Blank::new(1))
+    let limits = limits_of(options);
+    run_pool(
+        rt,
+        alloc,
+        plan,
+        limits,
+        feeds,
+        options.ring,
+        options.workers,
+        gate,
+    )
 }
