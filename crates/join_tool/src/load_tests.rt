@@ -57,8 +57,14 @@ fn gives<R: Abort + Threads + Wait + Sync>(
 fn a_building_is_run_and_summed_up(rt: HostRuntime) -> Result<(), Fail> {
     let three: &[u8] =
         b"load 3 feeds 4\nactor hall1 arrivals 3 firings 1 late 0 left 1 partials 3\nactor hall2 arrivals 3 firings 1 late 0 left 1 partials 3\nactor hall3 arrivals 3 firings 1 late 0 left 1 partials 3\nactor hall4 arrivals 3 firings 1 late 0 left 1 partials 3\nactor desk arrivals 4 firings 4 late 0 left 0 partials 2\n";
-    gives(&rt, rt.alloc(), &["load", "3"], three)?;
-    gives(&rt, rt.alloc(), &["load", "--", "03"], three)
+    let many: &[u8] =
+        b"load 5000 feeds 4\nactor hall1 arrivals 5000 firings 1667 late 0 left 1666 partials 836\nactor hall2 arrivals 5000 firings 1667 late 0 left 1666 partials 836\nactor hall3 arrivals 5000 firings 1667 late 0 left 1666 partials 836\nactor hall4 arrivals 5000 firings 1667 late 0 left 1666 partials 836\nactor desk arrivals 6668 firings 6668 late 0 left 0 partials 2\n";
+    for _ in 0..3u32 {
+        gives(&rt, rt.alloc(), &["load", "3"], three)?;
+        gives(&rt, rt.alloc(), &["load", "--", "03"], three)?;
+        gives(&rt, rt.alloc(), &["load", "5000"], many)?;
+    }
+    Ok(())
 }
 
 #[test]

@@ -21,6 +21,8 @@ mod status;
 mod stop;
 #[cfg(test)]
 mod tests;
+#[cfg(test)]
+mod thread_tests;
 mod top;
 
 use crate::files::{FileInputs, OutSink};

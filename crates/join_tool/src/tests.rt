@@ -412,7 +412,7 @@ fn rows_are_read(rt: HostRuntime) -> Result<(), Fail> {
 fn words_are_a_command_or_are_refused(rt: HostRuntime) -> Result<(), Fail> {
     let alloc = rt.alloc();
     let mut inputs = inputs_of(alloc, SCRIPT, FEED)?;
-    let refused: [&[&str]; 20] = [
+    let refused: [&[&str]; 26] = [
         &[],
         &["run"],
         &["run", "s"],
@@ -422,7 +422,13 @@ fn words_are_a_command_or_are_refused(rt: HostRuntime) -> Result<(), Fail> {
         &["run", "--arrivals", "2000", "--arrivals", "2000", "s", "f"],
         &["run", "--arrival", "2000", "s", "f"],
         &["run", "s", "f", "--partials"],
-        &["run", "--workers", "4", "s", "f"],
+        &["run", "--workers", "0", "s", "f"],
+        &["run", "--workers=65", "s", "f"],
+        &["run", "--workers", "+1", "s", "f"],
+        &["run", "--workers", "4", "--workers", "4", "s", "f"],
+        &["run", "--ring", "0", "s", "f"],
+        &["run", "--ring=4097", "s", "f"],
+        &["run", "--pool", "queue", "s", "f"],
         &["run", "-x", "s", "f"],
         &[
             "run", "s", "f", "f", "f", "f", "f", "f", "f", "f", "f", "f", "f", "f", "f", "f", "f",
@@ -431,7 +437,7 @@ fn words_are_a_command_or_are_refused(rt: HostRuntime) -> Result<(), Fail> {
         &["help"],
         &["check", "s", "f"],
         &["lint", "s", "f"],
-        &["check", "--arrivals", "2000", "s"],
+        &["check", "--workers", "4", "s"],
         &["replay", "s"],
         &["load", "0"],
         &["load", "20001"],
@@ -454,8 +460,28 @@ fn words_are_a_command_or_are_refused(rt: HostRuntime) -> Result<(), Fail> {
         alloc,
         &[b"joinlog 2 arrivals 2000 partials 40000", &LOG[39..]],
     )?;
-    let taken: [&[&str]; 4] = [
+    let taken: [&[&str]; 6] = [
         &["run", "--arrivals", "2000", "s", "f", "--partials=40000"],
+        &[
+            "run",
+            "--workers=3",
+            "s",
+            "--ring",
+            "05",
+            "f",
+            "--partials=40000",
+            "--arrivals=2000",
+        ],
+        &[
+            "run",
+            "--workers=064",
+            "--ring=4096",
+            "--partials=40000",
+            "--arrivals=2000",
+            "--",
+            "s",
+            "-",
+        ],
         &["run", "--partials=040000", "s", "--arrivals", "2000", "-"],
         &[
             "run",
@@ -643,20 +669,34 @@ fn thousand_rows(alloc: Global) -> Result<Bytes, Fail> {
     Ok(feed)
 }
 
+// The log of these rows by any numbers of workers and of places on a link.
 #[test]
 fn a_thousand_rows_make_five_hundred_pairs(rt: HostRuntime) -> Result<(), Fail> {
     let alloc = rt.alloc();
     let mut inputs = inputs_of(alloc, SCRIPT, b"")?;
     inputs.put(alloc, "f", thousand_rows(alloc)?)?;
-    let mut out = MemorySink::new(alloc, 100_000, 4096)?;
-    let words = words_of(alloc, RUN)?;
-    let status = join_main(&rt, alloc, &words, &mut inputs, &mut out, &FreeGate);
-    assert_eq!(rt; status, Status::Done);
-    let lines = out.bytes().iter().filter(|byte| **byte == b'\n').count();
+    let mut log = Bytes::new(alloc);
+    let runs: [&[&str]; 4] = [
+        RUN,
+        &["run", "--ring", "1", "--workers", "1", "s", "f"],
+        &["run", "--ring", "64", "--workers", "8", "s", "f"],
+        &["run", "--ring=4096", "--workers=64", "s", "f"],
+    ];
+    for texts in runs {
+        let mut out = MemorySink::new(alloc, 100_000, 4096)?;
+        let words = words_of(alloc, texts)?;
+        let status = join_main(&rt, alloc, &words, &mut inputs, &mut out, &FreeGate);
+        assert_eq!(rt; status, Status::Done);
+        if log.bytes().is_empty() {
+            log.push_all(out.bytes())?;
+        }
+        assert_eq!(rt; out.bytes(), log.bytes());
+    }
+    let lines = log.bytes().iter().filter(|byte| **byte == b'\n').count();
     assert_eq!(rt; lines, 2003);
     let last: &[u8] =
         b"\n1000 at 1000 from feed 1 b(1000)\nfire rule 1 take 999,1000\nprint \"hit 9991000\"\nend running left - partials 1\n";
-    assert!(rt; out.bytes().ends_with(last));
+    assert!(rt; log.bytes().ends_with(last));
     Ok(())
 }
 
