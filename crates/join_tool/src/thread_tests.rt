@@ -70,6 +70,7 @@ fn await_one(count: &AtomicU64, failures: &AtomicU64) {
 }
 
 // Holds each of two workers at its first actor until the other one is at its first.
+#[derive(Drop)]
 struct Both {
     first: AtomicU64,
     second: AtomicU64,
@@ -115,6 +116,7 @@ fn two_workers_are_at_work_at_a_time(rt: HostRuntime) -> Result<(), Fail> {
 }
 
 // Holds whoever is at one actor until somebody was at another.
+#[derive(Drop)]
 struct Later {
     held: u32,
     awaited: u32,
