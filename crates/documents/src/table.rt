@@ -15,18 +15,45 @@ pub const PRINTED: &[(&str, &[&str])] = &[
     ("guide/10.log", &["run", "guide/10.join", "guide/10.feed"]),
     ("guide/11.log", &["run", "guide/11.join", "guide/11.feed"]),
     ("alarm.log", &["run", "alarm.join", "alarm.feed"]),
-    ("disagreement.log", &["run", "disagreement.join", "disagreement.feed"]),
-    ("door_alarm.log", &["run", "door_alarm.join", "door_alarm.feed"]),
-    ("hand_over.log", &["run", "hand_over.join", "hand_over.feed"]),
-    ("rate_alarm.log", &["run", "rate_alarm.join", "rate_alarm.feed"]),
-    ("ticket_desk.log", &["run", "ticket_desk.join", "ticket_desk.feed"]),
-    ("two_persons.log", &["run", "two_persons.join", "two_persons.feed"]),
+    (
+        "disagreement.log",
+        &["run", "disagreement.join", "disagreement.feed"],
+    ),
+    (
+        "door_alarm.log",
+        &["run", "door_alarm.join", "door_alarm.feed"],
+    ),
+    (
+        "hand_over.log",
+        &["run", "hand_over.join", "hand_over.feed"],
+    ),
+    (
+        "rate_alarm.log",
+        &["run", "rate_alarm.join", "rate_alarm.feed"],
+    ),
+    (
+        "ticket_desk.log",
+        &["run", "ticket_desk.join", "ticket_desk.feed"],
+    ),
+    (
+        "two_persons.log",
+        &["run", "two_persons.join", "two_persons.feed"],
+    ),
     ("workers.log", &["run", "workers.join", "workers.feed"]),
 ];
 
 /// Logs that are one of several right ones, since an actor posts to itself while rows of its feed come: the words replay them.
 pub const REPLAYED: &[(&str, &[&str])] = &[
-    ("bounded_buffer.log", &["replay", "bounded_buffer.join", "bounded_buffer.log"]),
-    ("dark_room.log", &["replay", "dark_room.join", "dark_room.log"]),
-    ("forgotten_window.log", &["replay", "forgotten_window.join", "forgotten_window.log"]),
+    (
+        "bounded_buffer.log",
+        &["replay", "bounded_buffer.join", "bounded_buffer.log"],
+    ),
+    (
+        "dark_room.log",
+        &["replay", "dark_room.join", "dark_room.log"],
+    ),
+    (
+        "forgotten_window.log",
+        &["replay", "forgotten_window.join", "forgotten_window.log"],
+    ),
 ];

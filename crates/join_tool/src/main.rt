@@ -6,8 +6,8 @@
 mod note;
 
 use crate::note::{tell, tell_no_memory};
-use join_command::{FreeGate, Status, join_main};
 use join_base::{NoMemory, Word, WordList};
+use join_command::{FreeGate, Status, join_main};
 use std::alloc::Global;
 use std::env;
 use std::io::ErrorKind;
