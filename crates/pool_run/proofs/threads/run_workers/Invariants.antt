@@ -1,0 +1,5 @@
+use Rattle.std.proofs.Common.{◌+◌, ◌*◌, length}
+use Rattle.pool_run.proofs.threads.run_workers.Given as goal
+
+abbrev pub decreases-run_workers : goal.decreases-run_workers
+decreases-run_workers g l = 2 * length l.helpers.items
