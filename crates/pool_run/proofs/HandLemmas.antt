@@ -1,5 +1,6 @@
 -- Facts on helpers that are split off and joined, and on lists that shrink at their end.
 use Rattle.std.proofs.Common.{◌≡◌, ℕ, ◌+◌, List, [], ◌∷◌, ◌++◌, All, length, map, reverse, refl, sym, ap, ◌∙◌, subst, append_assoc}
+use Rattle.std.specs.Prelude.{Option, Some, option_to_list}
 use Rattle.std.proofs.lemmas.List.{map-append, reverse-append}
 use Rattle.std.proofs.lemmas.List.Elements.{All-nil, All-cons, All-head, All-tail}
 use Rattle.turn_lock.specs.View.{new_view, with_one_more, joined}
@@ -40,3 +41,6 @@ more-done f all l ys done now y is last more =
     ap (λ (m : List _). m ++ reverse ys) (ap (map f) more ∙ map-append f done (y ∷ []))
     ∙ append_assoc (map f done) (f y ∷ []) (reverse ys)
     ∙ ap (λ m. map f done ++ m) (sym (ap reverse last ∙ reverse-append ys (f y ∷ []))) ∙ is
+
+pub last-of : {X : Type 0} (l ys : List X) (r : Option X) (x : X) → l ≡ ys ++ option_to_list r → r ≡ Some x → l ≡ ys ++ x ∷ []
+last-of l ys r x is some = is ∙ ap (λ q. ys ++ option_to_list q) some

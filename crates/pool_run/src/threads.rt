@@ -52,6 +52,7 @@ fn run_worker<R: Wait, G: Gate>(
 }
 
 // Runs a worker with each helper, and gives the helpers back when all have ended.
+#[cycle(workers)]
 fn run_workers<R: Threads + Wait + Sync, G: Gate>(
     rt: &R,
     alloc: Global,
@@ -70,7 +71,7 @@ fn run_workers<R: Threads + Wait + Sync, G: Gate>(
     let number = helpers.len() as u32 + 1;
     let others = move || -> Result<Vec<Helper>, NoMemory>
         requires { IsSync R.row × IsSync G.row × (length helpers.items ≤ 64) × All (IsSpare pool.now) helpers.items }
-        ensures count { IfOk result (λ back. length back.items ≡ length helpers.entry.items) }
+        ensures count { IfOk result (λ back. length back.items ≡ length helpers.items) }
         ensures spare { IfOk result (λ back. All (IsSpare pool.entry.now) back.items) }
     { run_workers(rt, alloc, pool, gate, helpers) };
     let own = move || -> Result<Helper, NoMemory>
@@ -84,6 +85,7 @@ fn run_workers<R: Threads + Wait + Sync, G: Gate>(
 }
 
 /// Runs a feed with each part and a worker with each helper, and gives posters and helpers back when all have ended.
+#[cycle(feeds)]
 pub(crate) fn run_feeds<R: Threads + Wait + Sync, G: Gate>(
     rt: &R,
     alloc: Global,
@@ -106,11 +108,11 @@ pub(crate) fn run_feeds<R: Threads + Wait + Sync, G: Gate>(
     };
     let others = move || -> Result<Returned, NoMemory>
         requires { IsSync R.row × IsSync G.row × (length workers.items ≤ 64) × All (IsPart pool.now) parts.items × All (IsSpare pool.now) workers.items }
-        ensures { IfOk result (AreReturned pool.entry.now parts.entry.items (length workers.entry.items)) }
+        ensures { IfOk result (AreReturned pool.entry.now parts.items (length workers.items)) }
     { run_feeds(rt, alloc, pool, gate, parts, workers) };
     let own = move || -> Result<(Poster, Helper), NoMemory>
         requires { IsPart pool.now part }
-        ensures fed { IfOk result (λ back. IsFed pool.entry.now part.entry back.0) }
+        ensures fed { IfOk result (λ back. IsFed pool.entry.now part back.0) }
         ensures spare { IfOk result (λ back. IsSpare pool.entry.now back.1) }
     { run_feed(rt, alloc, pool, part) };
     let (others, own) = thread::join(rt, others, own);
