@@ -7,7 +7,11 @@ ghost use Rattle.fair_semantics.specs.Linked.{IsLinked};
 ghost use Rattle.run_order.specs.Order.{IsScheduled};
 ghost use Rattle.actor_turn.specs.Held.{AreLimits};
 
-use actor_pool::Gate;
+use crate::finishing::finish;
+use crate::handing::{feed_parts, join_helpers, split_helpers};
+use crate::parts::Returned;
+use crate::threads::run_feeds;
+use actor_pool::{Gate, Pool};
 use fair_semantics::{Limits, Run};
 use join_base::{FeedList, NoMemory};
 use script_types::Plan;
@@ -42,6 +46,11 @@ pub fn run_pool<R: Threads + Wait + Sync, G: Gate>(
     ensures scheduled { IfOk result (IsScheduled plan.now limits feeds) }
     ensures version { IfOk result (λ run. run.version ≡ 2) }
 {
-    let _ = (rt, alloc, plan, limits, feeds, ring, workers, gate);
-    Err(NoMemory)
+    let count = feeds.len() as u32;
+    let (pool, posters, mut helper) = Pool::new(alloc, plan, limits, count, ring)?;
+    let parts = feed_parts(alloc, &pool, &mut helper, posters, feeds)?;
+    let spare = split_helpers(alloc, &pool, &mut helper, workers)?;
+    let Returned { posters, helpers } = run_feeds(rt, alloc, &pool, gate, parts, spare)?;
+    join_helpers(&pool, &mut helper, helpers);
+    finish(alloc, plan, limits, pool, posters, helper)
 }

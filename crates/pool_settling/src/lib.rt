@@ -14,4 +14,4 @@ mod ends;
 mod settling;
 
 pub use draining::drain_links;
-pub use settling::settle_with;
+pub use settling::settle;
