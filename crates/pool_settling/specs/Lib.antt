@@ -2,7 +2,6 @@
 pub mod Settling
 pub mod Standing
 pub mod Drained
-pub mod Settling
 -- what private functions do
 pub mod Flat
 pub mod Ends
