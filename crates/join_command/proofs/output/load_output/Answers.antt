@@ -8,7 +8,8 @@ use Rattle.join_command.proofs.RunLemmas.{linked_parts, load_in_range, load_part
 use Rattle.join_command.proofs.output.load_output.Goals as goal
 
 pub run_feeds-requires : goal.run_feeds-requires
-run_feeds-requires g c = record { numbers = load_in_range; parts = load_parts c.args.rows c.in_ok-plan.plan c.in_ok-feeds.feeds c.requires.rows.1 c.in_ok-plan.ensures.plan c.in_ok-feeds.ensures.feeds }
+run_feeds-requires g c =
+    (c.type_bounds.sync-R, (c.type_bounds.sync-G, (load_parts c.args.rows c.in_ok-plan.plan c.in_ok-feeds.feeds c.requires.rows.1 c.in_ok-plan.ensures.plan c.in_ok-feeds.ensures.feeds, load_in_range)))
 
 pub returns-clause-summary : goal.returns-clause-summary
 returns-clause-summary g c = record {
