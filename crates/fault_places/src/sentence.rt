@@ -2,7 +2,8 @@
 
 /// The commands with their words.
 pub const USAGE: &[u8] = b"usage:
-  run SCRIPT FEED..  prints the log of the script's run on 1 to 16 feeds [--arrivals N] [--partials N], N from 1 to 1000000
+  run SCRIPT FEED..  prints the log of the script's run on 1 to 16 feeds [--workers N] [--ring N] [--arrivals N] [--partials N],
+                     at most 64 workers, 4096 places of a link, and 1000000 arrivals and partial matches
   check SCRIPT       prints the plan of the script
   replay SCRIPT LOG  checks a log against its script
   lint SCRIPT        lists the definitions of the script that can never fire

@@ -3,37 +3,16 @@
 //! summary.
 #![tactic(auto)]
 
-mod command;
-mod files;
-mod gate;
-mod law;
-mod lint_text;
-mod load;
-#[cfg(test)]
-mod load_tests;
 mod note;
-mod output;
-mod replay;
-mod reply;
-mod run;
-#[cfg(test)]
-mod run_tests;
-mod status;
-mod stop;
-#[cfg(test)]
-mod tests;
-mod top;
 
-use crate::files::{FileInputs, OutSink};
-use crate::gate::FreeGate;
 use crate::note::{tell, tell_no_memory};
-use crate::status::Status;
-use crate::top::join_main;
 use join_base::{NoMemory, Word, WordList};
+use join_command::{FreeGate, Status, join_main};
 use std::alloc::Global;
 use std::env;
 use std::io::ErrorKind;
 use std::process::ExitCode;
+use system_files::{FileInputs, OutSink};
 
 // The words after the program's name.
 fn words_of(alloc: Global, args: env::Args) -> Result<WordList, NoMemory> {

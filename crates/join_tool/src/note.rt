@@ -1,20 +1,16 @@
 //! What a person is told on standard error. Nothing rests on it: the output and the status stand before.
-use crate::command::command_of;
-use crate::files::{FileInputs, OutSink};
-use crate::load::MAX_FILE;
-use crate::output::write_all;
-use crate::replay::MAX_LOG;
-use crate::status::Status;
 use command_words::Request;
 use fault_places::{
     NO_MEMORY, Refused, USAGE, feed_note, log_note, long_note, read_note, read_refusal,
     script_note, write_note,
 };
 use join_base::{Bytes, Inputs, NoMemory, Word, WordList};
+use join_command::{MAX_FILE, MAX_LOG, Status, command_of, write_all};
 use std::alloc::Global;
 use std::fs;
 use std::fs::File;
 use std::io::{self, Read, Write};
+use system_files::{FileInputs, OutSink};
 
 // The file of a command that is fetched with this number, counted from 1.
 fn file_of<'a>(command: &Request<'a>, number: u64) -> Option<&'a Word> {

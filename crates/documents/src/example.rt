@@ -1,0 +1,49 @@
+//! One example.
+
+use join_base::{Bytes, FetchFault, Inputs, MemorySink, NoMemory, Word, WordList};
+use join_command::{FreeGate, Status, join_main};
+use std::alloc::Global;
+use system_files::FileInputs;
+
+// More than any example prints.
+const ROOM: u64 = 65_536;
+
+fn words_of(alloc: Global, texts: &[&str]) -> Result<WordList, NoMemory> {
+    let mut words = WordList::new(alloc);
+    for text in texts {
+        words.push(Word::from_text(alloc, text)?)?;
+    }
+    Ok(words)
+}
+
+// The bytes of a file, or none where it can't be read.
+fn held_by(rt: &HostRuntime, name: &str) -> Result<Bytes, NoMemory> {
+    match FileInputs::new(rt).fetch(rt.alloc(), name, ROOM) {
+        Ok(bytes) => Ok(bytes),
+        Err(FetchFault::NoMemory) => Err(NoMemory),
+        Err(FetchFault::Failed | FetchFault::TooLong) => Ok(Bytes::new(rt.alloc())),
+    }
+}
+
+// Carries out the words, and gives the status and what was written.
+fn answer_to(rt: &HostRuntime, texts: &[&str]) -> Result<(Status, MemorySink), NoMemory> {
+    let alloc = rt.alloc();
+    let words = words_of(alloc, texts)?;
+    let mut out = MemorySink::new(alloc, ROOM, ROOM)?;
+    let mut inputs = FileInputs::new(rt);
+    let status = join_main(rt, alloc, &words, &mut inputs, &mut out, &FreeGate);
+    Ok((status, out))
+}
+
+/// Whether the words print what the file holds.
+pub fn is_printed(rt: &HostRuntime, texts: &[&str], file: &str) -> Result<bool, NoMemory> {
+    let (_, out) = answer_to(rt, texts)?;
+    let wanted = held_by(rt, file)?;
+    Ok(out.bytes() == wanted.bytes())
+}
+
+/// Whether the words are carried out without a refusal.
+pub fn is_done(rt: &HostRuntime, texts: &[&str]) -> Result<bool, NoMemory> {
+    let (status, _) = answer_to(rt, texts)?;
+    Ok(status == Status::Done)
+}

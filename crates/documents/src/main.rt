@@ -1,0 +1,33 @@
+//! Runs the program on each example of the documents, and tells whether it prints what the documents show.
+//!
+//! The examples are the data of this crate, and README.md and the documents under docs/ show them between marks that
+//! `.ci/documents` compares with the files. So no output in a document can grow old unseen. Nothing is proved here but that it is
+//! safe and ends.
+#![tactic(auto)]
+
+mod example;
+mod table;
+
+use crate::example::{is_done, is_printed};
+use crate::table::{PRINTED, REPLAYED};
+use join_base::NoMemory;
+use std::io;
+
+// Prints the name of an example, and what is wrong with it.
+fn tell(rt: &HostRuntime, name: &str, found: Result<bool, NoMemory>) -> io::Result<()> {
+    match found {
+        Ok(true) => println!(rt; "{name}"),
+        Ok(false) => println!(rt; "{name} is not what the program prints"),
+        Err(NoMemory) => println!(rt; "{name}: there was no memory"),
+    }
+}
+
+fn main(rt: HostRuntime) -> io::Result<()> {
+    for (file, texts) in PRINTED.iter() {
+        tell(&rt, file, is_printed(&rt, texts, file))?;
+    }
+    for (file, texts) in REPLAYED.iter() {
+        tell(&rt, file, is_done(&rt, texts))?;
+    }
+    Ok(())
+}

@@ -1,0 +1,59 @@
+//! The examples: the file that holds what is printed, and the words that print it.
+
+/// What the words print, to the byte. Each actor of these scripts gets its messages from one source alone, or from the second
+/// only after all of the first, so there is one log.
+pub const PRINTED: &[(&str, &[&str])] = &[
+    ("guide/01.refused", &["check", "guide/01.join"]),
+    ("guide/02.plan", &["check", "guide/02.join"]),
+    ("guide/03.plan", &["check", "guide/03.join"]),
+    ("guide/04.log", &["run", "guide/04.join", "guide/04.feed"]),
+    ("guide/05.log", &["run", "guide/05.join", "guide/05.feed"]),
+    ("guide/06.log", &["run", "guide/06.join", "guide/06.feed"]),
+    ("guide/07.refused", &["check", "guide/07.join"]),
+    ("guide/08.log", &["run", "guide/08.join", "guide/08.feed"]),
+    ("guide/09.log", &["run", "guide/09.join", "guide/09.feed"]),
+    ("guide/10.log", &["run", "guide/10.join", "guide/10.feed"]),
+    ("guide/11.log", &["run", "guide/11.join", "guide/11.feed"]),
+    ("alarm.log", &["run", "alarm.join", "alarm.feed"]),
+    (
+        "disagreement.log",
+        &["run", "disagreement.join", "disagreement.feed"],
+    ),
+    (
+        "door_alarm.log",
+        &["run", "door_alarm.join", "door_alarm.feed"],
+    ),
+    (
+        "hand_over.log",
+        &["run", "hand_over.join", "hand_over.feed"],
+    ),
+    (
+        "rate_alarm.log",
+        &["run", "rate_alarm.join", "rate_alarm.feed"],
+    ),
+    (
+        "ticket_desk.log",
+        &["run", "ticket_desk.join", "ticket_desk.feed"],
+    ),
+    (
+        "two_persons.log",
+        &["run", "two_persons.join", "two_persons.feed"],
+    ),
+    ("workers.log", &["run", "workers.join", "workers.feed"]),
+];
+
+/// Logs that are one of several right ones, since an actor posts to itself while rows of its feed come: the words replay them.
+pub const REPLAYED: &[(&str, &[&str])] = &[
+    (
+        "bounded_buffer.log",
+        &["replay", "bounded_buffer.join", "bounded_buffer.log"],
+    ),
+    (
+        "dark_room.log",
+        &["replay", "dark_room.join", "dark_room.log"],
+    ),
+    (
+        "forgotten_window.log",
+        &["replay", "forgotten_window.join", "forgotten_window.log"],
+    ),
+];

@@ -1,0 +1,161 @@
+-- From files that were loaded to the reply.
+use Rattle.std.proofs.Common.{◌≡◌, ◌⊎◌, inl, inr, ℕ, List, [], ◌∷◌, ◌++◌, append_assoc, Option, None, Some, refl, sym, ap, ◌∙◌, subst}
+use Rattle.std.proofs.lemmas.List.{append-nil}
+use Rattle.std.specs.Prelude.{Result, Ok, Err}
+use Rattle.join_base.specs.Outside.{Files, Told, with_asked}
+use Rattle.script_types.specs.declared.plan.Plan.{Plan}
+use Rattle.command_words.specs.Command.{Command, RunWords, Run, Check, Replay, Load, Lint}
+use Rattle.join_command.specs.declared.reply.Reply.{Reply}
+use Rattle.join_command.specs.declared.reply.Reply.TheVariants as reply
+use Rattle.join_command.specs.declared.stop.Stop.{Stop}
+use Rattle.join_command.specs.declared.stop.Stop.TheVariants as stop
+use Rattle.script_types.specs.Typed.{IsTyped}
+use Rattle.join_command.specs.Files.{file_of, log_of}
+use Rattle.join_command.specs.Verdict.{Feeds, FeedsAnswer, Given, IsBeginning, MayAsk, MayAskRun, Refused, ScriptGives, Verdict, asks_feeds, asks_nothing, asks_script, replay_asks_nothing, replay_asks_script, replay_asks_log, fetched, feeds_answer, limits_of, run_of}
+use Rattle.join_command.specs.Loading.{LoadsFeeds, LoadsLog, LoadsScript, ReadsFeeds, ReadsLog, StopsFeeds, StopsScript, Tells, stopped_by}
+use Rattle.join_command.specs.Replying.{OfStop, Replies, replied_with}
+
+asked_none : (before : Told) → before ≡ record { files = before.files; asked = before.asked ++ [] }
+asked_none before = λ i. record { files = before.files; asked = sym (append-nil before.asked) i }
+
+-- ---- `load`, which asks for nothing
+
+pub load_replied : (rows : ℕ) (told : Option Told) → Tells told told (λ b n. Replies (Load rows) b n (Ok (reply.Load rows)))
+load_replied rows None = tt
+load_replied rows (Some before) = record { asked = []; told_is = asked_none before; may_ask = refl; verdict = refl }
+
+-- ---- a script that stops its command
+
+module _ (command : Command) (name : List ℕ) (none : (files : Files) → MayAsk files command []) (one : (files : Files) → MayAsk files command (name ∷ []))
+    (refused : (files : Files) (o : Option Verdict) → StopsScript (file_of files name) o → OfStop files command o) where
+  stops : (before now : Told) (why : Stop) → LoadsScript before now name (Err why) → Replies command before now (Err why)
+  stops before now why loaded = by_asks loaded.asks
+    where
+      by_asks : (now ≡ with_asked before name) ⊎ (now ≡ before) → Replies command before now (Err why)
+      by_asks (inl is) = record { asked = name ∷ []; told_is = is; may_ask = one before.files; verdict = refused before.files (stopped_by why) loaded.answer }
+      by_asks (inr is) = record { asked = []; told_is = is ∙ asked_none before; may_ask = none before.files; verdict = refused before.files (stopped_by why) loaded.answer }
+
+  stopped : (before now : Option Told) (why : Stop) → Tells before now (λ b n. LoadsScript b n name (Err why)) → Tells before now (λ b n. Replies command b n (Err why))
+  stopped None now why loaded = tt
+  stopped (Some before) None why loaded = absurd loaded
+  stopped (Some before) (Some now) why loaded = stops before now why loaded
+
+-- ---- `run`
+
+module _ (run : RunWords) where
+  run_refused : (files : Files) (o : Option Verdict) → StopsScript (file_of files run.script) o → OfStop files (Run run) o
+  run_refused files None is = tt
+  run_refused files (Some verdict) is = inl is
+
+  pub run_script_stopped : (before now : Option Told) (why : Stop) → Tells before now (λ b n. LoadsScript b n run.script (Err why)) → Tells before now (λ b n. Replies (Run run) b n (Err why))
+  run_script_stopped = stopped (Run run) run.script (λ files. asks_nothing) (λ files. asks_script) run_refused
+
+  module _ (plan : Plan) where
+    -- what the feeds come to is what the run comes to
+    replied : (before mid now : Told) (loaded : Result Feeds Stop) (result : Result Reply Stop) → LoadsScript before mid run.script (Ok plan) → LoadsFeeds mid now plan run.feeds loaded
+        → ((files : Files) → ScriptGives (file_of files run.script) plan → ReadsFeeds (feeds_answer files plan 1 run.feeds) loaded → OfStop files (Run run) (replied_with result))
+        → Replies (Run run) before now result
+    replied before mid now loaded result one l verdict =
+        let P : Told → Type 0 = λ m. LoadsFeeds m now plan run.feeds loaded in
+        let second = subst P one.asks l in
+        record {
+          asked = run.script ∷ second.asked;
+          told_is = second.told_is ∙ (λ i. record { files = before.files; asked = append_assoc before.asked (run.script ∷ []) second.asked i });
+          may_ask = asks_feeds plan second.asked one.answer second.in_order;
+          verdict = verdict before.files one.answer second.answer;
+        }
+
+    stop_verdict : (files : Files) → ScriptGives (file_of files run.script) plan → (o : Option Verdict) → StopsFeeds (feeds_answer files plan 1 run.feeds) o → OfStop files (Run run) o
+    stop_verdict files gives None is = tt
+    stop_verdict files gives (Some verdict) is = inr (plan, gives, ap (run_of plan (limits_of run.options)) is)
+
+    pub run_feeds_stopped : (before mid now : Option Told) (why : Stop) → Tells before mid (λ b n. LoadsScript b n run.script (Ok plan)) → Tells mid now (λ b n. LoadsFeeds b n plan run.feeds (Err why))
+        → Tells before now (λ b n. Replies (Run run) b n (Err why))
+    run_feeds_stopped None mid now why one l = tt
+    run_feeds_stopped (Some before) None now why one l = absurd one
+    run_feeds_stopped (Some before) (Some mid) None why one l = absurd l
+    run_feeds_stopped (Some before) (Some mid) (Some now) why one l = replied before mid now (Err why) (Err why) one l (λ files gives is. stop_verdict files gives (stopped_by why) is)
+
+    abbrev run_answer : Feeds → Reply
+    run_answer all = reply.Run plan run.options all
+
+    pub run_replied : (before mid now : Option Told) (all : Feeds) → Tells before mid (λ b n. LoadsScript b n run.script (Ok plan)) → Tells mid now (λ b n. LoadsFeeds b n plan run.feeds (Ok all))
+        → Tells before now (λ b n. Replies (Run run) b n (Ok (run_answer all)))
+    run_replied None mid now all one l = tt
+    run_replied (Some before) None now all one l = absurd one
+    run_replied (Some before) (Some mid) None all one l = absurd l
+    run_replied (Some before) (Some mid) (Some now) all one l =
+        replied before mid now (Ok all) (Ok (run_answer all)) one l (λ files gives is. inr (plan, gives, ap (run_of plan (limits_of run.options)) is))
+
+-- ---- `check`
+
+module _ (name : List ℕ) where
+  check_refused : (files : Files) (o : Option Verdict) → StopsScript (file_of files name) o → OfStop files (Check name) o
+  check_refused files None is = tt
+  check_refused files (Some verdict) is = inl is
+
+  pub check_stopped : (before now : Option Told) (why : Stop) → Tells before now (λ b n. LoadsScript b n name (Err why)) → Tells before now (λ b n. Replies (Check name) b n (Err why))
+  check_stopped = stopped (Check name) name (λ files. inl refl) (λ files. inr refl) check_refused
+
+  pub plan_checked : (plan : Plan) (before now : Option Told) → Tells before now (λ b n. LoadsScript b n name (Ok plan)) → Tells before now (λ b n. Replies (Check name) b n (Ok (reply.Check plan)))
+  plan_checked plan None now loaded = tt
+  plan_checked plan (Some before) None loaded = absurd loaded
+  plan_checked plan (Some before) (Some now) loaded = record { asked = name ∷ []; told_is = loaded.asks; may_ask = inr refl; verdict = inr (plan, loaded.answer, refl) }
+
+-- ---- `lint`
+
+module _ (name : List ℕ) where
+  lint_refused : (files : Files) (o : Option Verdict) → StopsScript (file_of files name) o → OfStop files (Lint name) o
+  lint_refused files None is = tt
+  lint_refused files (Some verdict) is = inl is
+
+  pub lint_stopped : (before now : Option Told) (why : Stop) → Tells before now (λ b n. LoadsScript b n name (Err why)) → Tells before now (λ b n. Replies (Lint name) b n (Err why))
+  lint_stopped = stopped (Lint name) name (λ files. inl refl) (λ files. inr refl) lint_refused
+
+  pub plan_linted : (plan : Plan) (before now : Option Told) → Tells before now (λ b n. LoadsScript b n name (Ok plan)) → Tells before now (λ b n. Replies (Lint name) b n (Ok (reply.Lint plan)))
+  plan_linted plan None now loaded = tt
+  plan_linted plan (Some before) None loaded = absurd loaded
+  plan_linted plan (Some before) (Some now) loaded = record { asked = name ∷ []; told_is = loaded.asks; may_ask = inr refl; verdict = inr (plan, loaded.answer, refl) }
+
+-- ---- `replay`
+
+module _ (script log : List ℕ) where
+  replay_refused : (files : Files) (o : Option Verdict) → StopsScript (file_of files script) o → OfStop files (Replay script log) o
+  replay_refused files None is = tt
+  replay_refused files (Some verdict) is = inl is
+
+  pub replay_script_stopped : (before now : Option Told) (why : Stop) → Tells before now (λ b n. LoadsScript b n script (Err why)) → Tells before now (λ b n. Replies (Replay script log) b n (Err why))
+  replay_script_stopped = stopped (Replay script log) script (λ files. replay_asks_nothing) (λ files. replay_asks_script) replay_refused
+
+  asked_both : (before now : Told) → now ≡ with_asked (with_asked before script) log → now ≡ record { files = before.files; asked = before.asked ++ (script ∷ log ∷ []) }
+  asked_both before now is = is ∙ (λ i. record { files = before.files; asked = append_assoc before.asked (script ∷ []) (log ∷ []) i })
+
+  module _ (plan : Plan) (typed : IsTyped plan) where
+    log_verdict : (files : Files) → ScriptGives (file_of files script) plan → (o : Option Verdict) → ReadsLog plan (log_of files log) o → OfStop files (Replay script log) o
+    log_verdict files gives None is = tt
+    log_verdict files gives (Some verdict) is = inr (plan, gives, (typed, is))
+
+    stops_log : (before now : Told) (why : Stop) → ScriptGives (file_of before.files script) plan → LoadsLog (with_asked before script) now plan log (Err why) → Replies (Replay script log) before now (Err why)
+    stops_log before now why gives l = by_asks l.asks
+      where
+        by_asks : (now ≡ with_asked (with_asked before script) log) ⊎ (now ≡ with_asked before script) → Replies (Replay script log) before now (Err why)
+        by_asks (inl is) = record { asked = script ∷ log ∷ []; told_is = asked_both before now is; may_ask = replay_asks_log plan gives; verdict = log_verdict before.files gives (stopped_by why) l.answer }
+        by_asks (inr is) = record { asked = script ∷ []; told_is = is; may_ask = replay_asks_script; verdict = log_verdict before.files gives (stopped_by why) l.answer }
+
+    pub replay_log_stopped : (before mid now : Option Told) (why : Stop) → Tells before mid (λ b n. LoadsScript b n script (Ok plan)) → Tells mid now (λ b n. LoadsLog b n plan log (Err why))
+        → Tells before now (λ b n. Replies (Replay script log) b n (Err why))
+    replay_log_stopped None mid now why one l = tt
+    replay_log_stopped (Some before) None now why one l = absurd one
+    replay_log_stopped (Some before) (Some mid) None why one l = absurd l
+    replay_log_stopped (Some before) (Some mid) (Some now) why one l = let P : Told → Type 0 = λ m. LoadsLog m now plan log (Err why) in stops_log before now why one.answer (subst P one.asks l)
+
+    accepts_log : (before now : Told) (arrivals : ℕ) → ScriptGives (file_of before.files script) plan → LoadsLog (with_asked before script) now plan log (Ok arrivals)
+        → Replies (Replay script log) before now (Ok (reply.Accepted arrivals))
+    accepts_log before now arrivals gives l = record { asked = script ∷ log ∷ []; told_is = asked_both before now l.asks; may_ask = replay_asks_log plan gives; verdict = inr (plan, gives, (typed, l.answer)) }
+
+    pub log_replayed : (before mid now : Option Told) (arrivals : ℕ) → Tells before mid (λ b n. LoadsScript b n script (Ok plan)) → Tells mid now (λ b n. LoadsLog b n plan log (Ok arrivals))
+        → Tells before now (λ b n. Replies (Replay script log) b n (Ok (reply.Accepted arrivals)))
+    log_replayed None mid now arrivals one l = tt
+    log_replayed (Some before) None now arrivals one l = absurd one
+    log_replayed (Some before) (Some mid) None arrivals one l = absurd l
+    log_replayed (Some before) (Some mid) (Some now) arrivals one l = let P : Told → Type 0 = λ m. LoadsLog m now plan log (Ok arrivals) in accepts_log before now arrivals one.answer (subst P one.asks l)

@@ -1,0 +1,13 @@
+use Rattle.join_command.proofs.LoadLemmas.{feed_loaded, feed_unfetched, quiet_cause}
+use Rattle.join_command.proofs.load.load_feed.Goals as goal
+
+pub returns-in-Ok-clause-told : goal.returns-in-Ok-clause-told
+returns-in-Ok-clause-told g c =
+    feed_loaded (g.I.Inputs.tells c.args.inputs.now) (g.I.Inputs.tells c.fetch.new.self) c.args.plan.now c.args.feed c.args.name.now c.in-Ok.file c.read_posts.result (rw c.as_str.ensures.same at c.in-Ok.ensures.told) c.in-Ok.ensures.within (rw c.bytes.ensures.same at c.read_posts.ensures.posts)
+
+pub returns-in-Ok-clause-cause : goal.returns-in-Ok-clause-cause
+returns-in-Ok-clause-cause g c = quiet_cause (g.I.Inputs.faults c.args.inputs.now) (g.I.Inputs.faults c.fetch.new.self) c.read_posts.result c.in-Ok.ensures.cause c.read_posts.ensures.read
+
+pub returns-in-Err-clause-told : goal.returns-in-Err-clause-told
+returns-in-Err-clause-told g c =
+    rw c.fetch_stop.ensures (feed_unfetched (g.I.Inputs.tells c.args.inputs.now) (g.I.Inputs.tells c.fetch.new.self) c.args.plan.now c.args.feed c.args.name.now c.in-Err.fault (rw c.as_str.ensures.same at c.in-Err.ensures.told))

@@ -1,0 +1,27 @@
+//! The commands that the program has so far.
+ghost use Rattle.std.specs.Prelude.{◌≡◌, IfOk, IfSome};
+ghost use Rattle.std.specs.Option.{option_map};
+ghost use Rattle.command_words.specs.Ranges.{IsInRange};
+ghost use Rattle.command_words.specs.Views.{command_in};
+ghost use Rattle.join_command.specs.Command.{IsBuilt, command_of};
+
+use command_words::{Request, Setting, Verb};
+use join_base::{NoMemory, WordList};
+use std::alloc::Global;
+
+/// The command that the words are, or none. The commands and the options that are not built yet are left out here.
+#[tactic(auto, using(crate::proofs::CommandLemmas::only_built))]
+pub fn command_of<'a>(alloc: Global, words: &'a WordList) -> Result<Option<Request<'a>>, NoMemory>
+    ensures command { IfOk result (λ request. option_map command_in request ≡ command_of words.now) }
+    ensures built { IfOk result (λ request. IfSome request (λ r. IsBuilt (command_in r))) }
+    ensures in_range { IfOk result (λ request. IfSome request (λ r. IsInRange (command_in r))) }
+{
+    let verbs = [Verb::Run, Verb::Check, Verb::Replay, Verb::Lint, Verb::Load];
+    let settings = [
+        Setting::Workers,
+        Setting::Ring,
+        Setting::Arrivals,
+        Setting::Partials,
+    ];
+    command_words::command_of(alloc, &verbs, &settings, words)
+}

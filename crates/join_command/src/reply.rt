@@ -1,0 +1,124 @@
+//! What a command and its files come to.
+ghost use Rattle.std.specs.Prelude.{◌≡◌, IfOk};
+ghost use Rattle.command_words.specs.Command.{Check, Lint, Replay, Run};
+ghost use Rattle.command_words.specs.Ranges.{IsInRange, RunIsInRange};
+ghost use Rattle.command_words.specs.Views.{command_in, run_in};
+ghost use Rattle.join_command.specs.Command.{IsBuilt};
+ghost use Rattle.join_command.specs.Loading.{LoadCause, Tells};
+ghost use Rattle.join_command.specs.Replying.{IsRunnable, Replies};
+
+use crate::load::{load_feeds, load_script};
+use crate::replay::load_log;
+use crate::stop::Stop;
+use command_words::{Request, RunOptions, RunWords};
+use join_base::{FeedList, Inputs, Word};
+use script_types::Plan;
+use std::alloc::Global;
+
+/// What is to be printed, looked at or run.
+#[derive(Drop)]
+pub enum Reply {
+    /// The plan of a script that is checked.
+    Check(Plan),
+    /// The plan of a script whose findings are listed.
+    Lint(Plan),
+    /// A plan that runs by the options, with the posts of its feeds.
+    Run {
+        plan: Plan,
+        options: RunOptions,
+        feeds: FeedList,
+    },
+    /// How many rows each feed of the building has, from 1 to 20,000.
+    Load {
+        rows: u32,
+    },
+    /// The number of arrivals of a log that is accepted.
+    Accepted(u64),
+}
+
+// What `run SCRIPT FEED..` comes to.
+fn run_reply<I: Inputs>(alloc: Global, inputs: &mut I, run: &RunWords<'_>) -> Result<Reply, Stop>
+    requires in_range { RunIsInRange (run_in run.now) }
+    ensures told { Tells (I.tells inputs.old) (I.tells inputs.new) (λ before now. Replies (Run (run_in run.now)) before now result) }
+    ensures cause { LoadCause (I.faults inputs.old) (I.faults inputs.new) result }
+    ensures runnable { IfOk result IsRunnable }
+{
+    match load_script(alloc, inputs, run.script) {
+        Err(stop) => Err(stop),
+        Ok(plan) => match load_feeds(alloc, inputs, &plan, run.feeds.as_slice()) {
+            Err(stop) => Err(stop),
+            Ok(feeds) => Ok(Reply::Run {
+                plan,
+                options: run.options,
+                feeds,
+            }),
+        },
+    }
+}
+
+// What `check SCRIPT` comes to.
+fn check_reply<I: Inputs>(alloc: Global, inputs: &mut I, script: &Word) -> Result<Reply, Stop>
+    ensures told { Tells (I.tells inputs.old) (I.tells inputs.new) (λ before now. Replies (Check script.now) before now result) }
+    ensures cause { LoadCause (I.faults inputs.old) (I.faults inputs.new) result }
+    ensures runnable { IfOk result IsRunnable }
+{
+    match load_script(alloc, inputs, script) {
+        Err(stop) => Err(stop),
+        Ok(plan) => Ok(Reply::Check(plan)),
+    }
+}
+
+// What `lint SCRIPT` comes to.
+fn lint_reply<I: Inputs>(alloc: Global, inputs: &mut I, script: &Word) -> Result<Reply, Stop>
+    ensures told { Tells (I.tells inputs.old) (I.tells inputs.new) (λ before now. Replies (Lint script.now) before now result) }
+    ensures cause { LoadCause (I.faults inputs.old) (I.faults inputs.new) result }
+    ensures runnable { IfOk result IsRunnable }
+{
+    match load_script(alloc, inputs, script) {
+        Err(stop) => Err(stop),
+        Ok(plan) => Ok(Reply::Lint(plan)),
+    }
+}
+
+// What `replay SCRIPT LOG` comes to.
+fn replay_reply<I: Inputs>(
+    alloc: Global,
+    inputs: &mut I,
+    script: &Word,
+    log: &Word,
+) -> Result<Reply, Stop>
+    ensures told { Tells (I.tells inputs.old) (I.tells inputs.new) (λ before now. Replies (Replay script.now log.now) before now result) }
+    ensures cause { LoadCause (I.faults inputs.old) (I.faults inputs.new) result }
+    ensures runnable { IfOk result IsRunnable }
+{
+    match load_script(alloc, inputs, script) {
+        Err(stop) => Err(stop),
+        Ok(plan) => match load_log(alloc, inputs, &plan, log) {
+            Err(stop) => Err(stop),
+            Ok(arrivals) => Ok(Reply::Accepted(arrivals)),
+        },
+    }
+}
+
+/// What a command and its files come to. Only names that the command gives are fetched, in their order, and none
+/// behind the first refusal.
+pub fn reply_of<I: Inputs>(
+    alloc: Global,
+    command: &Request<'_>,
+    inputs: &mut I,
+) -> Result<Reply, Stop>
+    requires built { IsBuilt (command_in command.now) }
+    requires in_range { IsInRange (command_in command.now) }
+    ensures told { Tells (I.tells inputs.old) (I.tells inputs.new) (λ before now. Replies (command_in command.now) before now result) }
+    ensures cause { LoadCause (I.faults inputs.old) (I.faults inputs.new) result }
+    ensures runnable { IfOk result IsRunnable }
+{
+    match command {
+        Request::Run(run) => run_reply(alloc, inputs, run),
+        Request::Check { script } => check_reply(alloc, inputs, script),
+        Request::Lint { script } => lint_reply(alloc, inputs, script),
+        Request::Replay { script, log } => replay_reply(alloc, inputs, script, log),
+        Request::Load { rows } => Ok(Reply::Load { rows: *rows }),
+        Request::Watch { .. } | Request::Ask(_) => unreachable!(),
+    }
+}

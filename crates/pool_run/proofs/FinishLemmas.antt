@@ -1,0 +1,78 @@
+-- From what a closed pool gives to what settling asks, and from what settling gives to what finishing claims.
+use Rattle.std.proofs.Common.{◌≡◌, ℕ, zero, suc, ◌+◌, ◌<◌, List, [], ◌∷◌, ◌++◌, length, map, refl, sym, ap, ◌∙◌, subst, arith, append_assoc}
+use Rattle.std.specs.Prelude.{Option, Some, None, slice_get}
+use Rattle.std.proofs.lemmas.List.{append-nil, length-map}
+use Rattle.std.proofs.lemmas.Option.{slice_get_within}
+use mathlib.Core.List.{IsPrefix}
+use Rattle.join_base.specs.declared.message.Message.{Message}
+use Rattle.script_types.specs.declared.plan.Plan.{Plan}
+use Rattle.fair_semantics.specs.declared.run.Limits.{Limits}
+use Rattle.fair_semantics.specs.declared.run.Run.{Run}
+use Rattle.cell_links.specs.declared.poster.Poster as ends
+use Rattle.cell_links.specs.Ends.{PosterTag, poster_links, poster_tag, sent_to}
+use Rattle.actor_cells.specs.declared.cell.Cell.{Cell}
+use Rattle.actor_cells.specs.declared.cell.CellTag.{CellTag}
+use Rattle.actor_cells.specs.Prepared.{AreWired}
+use Rattle.cell_settling.specs.Settled as settled
+use Rattle.pool_settling.specs.Settling.{AreFeedsWith, GoesOnFrom, IsLinkedToAll, IsScheduledOverAll}
+use Rattle.actor_pool.specs.declared.poster.Poster.{Poster}
+use Rattle.actor_pool.specs.Helpers.{SeatView}
+use Rattle.actor_pool.specs.Posters.{feed_ends, feed_tag}
+use Rattle.actor_pool.specs.Whole.{AreTagsOf, IsTagOf, HoldSeen}
+use Rattle.pool_run.specs.Finishing.{AreSent, GoesOnFromSeen, IsLinkedToSent, IsScheduledOverSent}
+
+prefix-trans : {X : Type 0} (a b c : List X) → IsPrefix a b → IsPrefix b c → IsPrefix a c
+prefix-trans a b c p q = (p.0 ++ q.0, sym (append_assoc a p.0 q.0) ∙ ap (λ l. l ++ q.0) p.1 ∙ q.1)
+
+pub tags-of : (posters : List Poster) → map poster_tag (map feed_ends posters) ≡ map feed_tag posters
+tags-of [] = refl
+tags-of (p ∷ posters) = ap (λ (l : List PosterTag). feed_tag p ∷ l) (tags-of posters)
+
+same-tag : (plan : Plan) (limits : Limits) (n m actor : ℕ) (tag : CellTag) → n ≡ m → IsTagOf plan limits n actor tag → settled.IsTagOf plan limits m actor tag
+same-tag plan limits n m actor tag same h = record { sorts = h.sorts; rules = h.rules; same_limits = h.same_limits; feed_count = h.feed_count ∙ same; actor_count = h.actor_count }
+
+pub own-tags : (plan : Plan) (limits : Limits) (n m : ℕ) (tags now : List CellTag) → n ≡ m → now ≡ tags → AreTagsOf plan limits n tags → settled.AreTagsOf plan limits m now
+own-tags plan limits n m tags now same is h = record {
+  count = ap length is ∙ h.count;
+  each = λ actor tag at. same-tag plan limits n m actor tag same (h.each actor tag (ap (λ (l : List CellTag). slice_get l actor) (sym is) ∙ at));
+}
+
+pub own-wired : (tags now : List CellTag) (posters : List Poster) (own : List ends.Poster) → now ≡ tags → own ≡ map feed_ends posters → AreWired tags (map feed_tag posters) → AreWired now (map poster_tag own)
+own-wired tags now posters own is same wired =
+    subst (λ (l : List CellTag). AreWired l (map poster_tag own)) (sym is)
+    (subst (λ (l : List PosterTag). AreWired tags l) (sym (ap (map poster_tag) same ∙ tags-of posters)) wired)
+
+poster-at : (posters : List Poster) (k : ℕ) (e : ends.Poster) → slice_get (map feed_ends posters) k ≡ Some e → (poster : Poster) × (slice_get posters k ≡ Some poster) × (feed_ends poster ≡ e)
+poster-at [] k e at = absurd (let e : ⊥ = cc in e)
+poster-at (p ∷ posters) zero e at = (p, refl, (let same : feed_ends p ≡ e = cc in same))
+poster-at (p ∷ posters) (suc k) e at = poster-at posters k e at
+
+pub ends-count : (posters : List Poster) (own : List ends.Poster) → own ≡ map feed_ends posters → length own ≡ length posters
+ends-count posters own same = ap length same ∙ length-map posters feed_ends
+
+sent-with : (plan : Plan) (posters : List Poster) (own : List ends.Poster) (feeds : List (List (ℕ × Message))) → own ≡ map feed_ends posters → AreSent plan posters feeds → AreFeedsWith plan own [] feeds
+sent-with plan posters own feeds same sent = record {
+  count = sent.count ∙ sym (ends-count posters own same);
+  values = sent.values;
+  each = λ k actor e lt at.
+      let found = poster-at posters k e (ap (λ (l : List ends.Poster). slice_get l k) (sym same) ∙ at) in
+      sent.each k actor found.0 lt found.1 ∙ ap (λ (x : ends.Poster). sent_to (poster_links x) actor) found.2 ∙ sym (append-nil (sent_to (poster_links e) actor));
+}
+
+pub linked-sent : (plan : Plan) (limits : Limits) (posters : List Poster) (own : List ends.Poster) (run : Run) → own ≡ map feed_ends posters → IsLinkedToAll plan limits own [] run → IsLinkedToSent plan limits posters run
+linked-sent plan limits posters own run same linked feeds sent = linked feeds (sent-with plan posters own feeds same sent)
+
+pub scheduled-sent : (plan : Plan) (limits : Limits) (posters : List Poster) (own : List ends.Poster) (run : Run) → own ≡ map feed_ends posters → IsScheduledOverAll plan limits own [] run → IsScheduledOverSent plan limits posters run
+scheduled-sent plan limits posters own run same scheduled feeds sent = scheduled feeds (sent-with plan posters own feeds same sent)
+
+cell-at : (cells : List Cell) (i : ℕ) → i < length cells → (c : Cell) × (slice_get cells i ≡ Some c)
+cell-at [] i lt = absurd (omega (arith, lt))
+cell-at (c ∷ cells) zero lt = (c, refl)
+cell-at (c ∷ cells) (suc i) lt = cell-at cells i (omega (arith, lt))
+
+pub seen-on : (v : SeatView) (cells : List Cell) (run : Run) → HoldSeen v cells → GoesOnFrom cells run → GoesOnFromSeen v run
+seen-on v cells run hold on actor own at =
+    let within = slice_get_within run.actors actor own at in
+    let long = on.count in
+    let found = cell-at cells actor (omega (arith, within, long)) in
+    prefix-trans _ _ _ (hold actor found.0 found.1) (on.history actor found.0 own found.1 at)

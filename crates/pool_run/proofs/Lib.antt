@@ -1,0 +1,3 @@
+mod FinishLemmas
+mod HandLemmas
+mod RunLemmas
