@@ -3,6 +3,9 @@
 use join_base::{Bytes, FetchFault, Inputs, MemorySink, NoMemory, Word, WordList};
 use join_command::{FreeGate, Status, join_main};
 use std::alloc::Global;
+use std::rt::Files;
+use std::sync::Wait;
+use std::thread::Threads;
 use system_files::FileInputs;
 
 // More than any example prints.
@@ -17,17 +20,20 @@ fn words_of(alloc: Global, texts: &[&str]) -> Result<WordList, NoMemory> {
 }
 
 // The bytes of a file, or none where it can't be read.
-fn held_by(rt: &HostRuntime, name: &str) -> Result<Bytes, NoMemory> {
-    match FileInputs::new(rt).fetch(rt.alloc(), name, ROOM) {
+fn held_by<R: Files>(rt: &R, alloc: Global, name: &str) -> Result<Bytes, NoMemory> {
+    match FileInputs::new(rt).fetch(alloc, name, ROOM) {
         Ok(bytes) => Ok(bytes),
         Err(FetchFault::NoMemory) => Err(NoMemory),
-        Err(FetchFault::Failed | FetchFault::TooLong) => Ok(Bytes::new(rt.alloc())),
+        Err(FetchFault::Failed | FetchFault::TooLong) => Ok(Bytes::new(alloc)),
     }
 }
 
 // Carries out the words, and gives the status and what was written.
-fn answer_to(rt: &HostRuntime, texts: &[&str]) -> Result<(Status, MemorySink), NoMemory> {
-    let alloc = rt.alloc();
+fn answer_to<R: Files + Threads + Wait + Sync>(
+    rt: &R,
+    alloc: Global,
+    texts: &[&str],
+) -> Result<(Status, MemorySink), NoMemory> {
     let words = words_of(alloc, texts)?;
     let mut out = MemorySink::new(alloc, ROOM, ROOM)?;
     let mut inputs = FileInputs::new(rt);
@@ -36,14 +42,23 @@ fn answer_to(rt: &HostRuntime, texts: &[&str]) -> Result<(Status, MemorySink), N
 }
 
 /// Whether the words print what the file holds.
-pub fn is_printed(rt: &HostRuntime, texts: &[&str], file: &str) -> Result<bool, NoMemory> {
-    let (_, out) = answer_to(rt, texts)?;
-    let wanted = held_by(rt, file)?;
+pub fn is_printed<R: Files + Threads + Wait + Sync>(
+    rt: &R,
+    alloc: Global,
+    texts: &[&str],
+    file: &str,
+) -> Result<bool, NoMemory> {
+    let (_, out) = answer_to(rt, alloc, texts)?;
+    let wanted = held_by(rt, alloc, file)?;
     Ok(out.bytes() == wanted.bytes())
 }
 
 /// Whether the words are carried out without a refusal.
-pub fn is_done(rt: &HostRuntime, texts: &[&str]) -> Result<bool, NoMemory> {
-    let (status, _) = answer_to(rt, texts)?;
+pub fn is_done<R: Files + Threads + Wait + Sync>(
+    rt: &R,
+    alloc: Global,
+    texts: &[&str],
+) -> Result<bool, NoMemory> {
+    let (status, _) = answer_to(rt, alloc, texts)?;
     Ok(status == Status::Done)
 }

@@ -24,10 +24,10 @@ fn tell(rt: &HostRuntime, name: &str, found: Result<bool, NoMemory>) -> io::Resu
 
 fn main(rt: HostRuntime) -> io::Result<()> {
     for (file, texts) in PRINTED.iter() {
-        tell(&rt, file, is_printed(&rt, texts, file))?;
+        tell(&rt, file, is_printed(&rt, rt.alloc(), texts, file))?;
     }
     for (file, texts) in REPLAYED.iter() {
-        tell(&rt, file, is_done(&rt, texts))?;
+        tell(&rt, file, is_done(&rt, rt.alloc(), texts))?;
     }
     Ok(())
 }
