@@ -1,7 +1,7 @@
 //! The lines of a log. Each function appends what its name says, and without memory some of it may stay appended.
 ghost use Rattle.std.specs.Prelude.{◌≡◌, ◌++◌, OnOk};
 ghost use Rattle.std.specs.List.{flat_map};
-ghost use Rattle.arrival_log.specs.LogText.{actor_lines, arrival_line, effect_line, end_line, entry_lines, fire_line, firing_lines, head_line, late_line};
+ghost use Rattle.arrival_log.specs.LogText.{actor_lines, arrival_line, effect_line, end_line, entry_lines, fire_line, firing_lines, head_line, heading_line, last_lines, late_line, stamped};
 
 use crate::parts::{
     write_count, write_ending, write_labelled, write_left, write_message, write_numbers,
@@ -11,8 +11,8 @@ use fair_semantics::{ActorRun, Effect, Entry, Firing, Run};
 use join_base::{Bytes, NoMemory, Source, write_quoted};
 use script_types::{ActorPlan, Plan, write_actor_name};
 
-// The first line.
-pub(crate) fn write_head(text: &mut Bytes, run: &Run) -> Result<(), NoMemory>
+/// Appends the first line of the log of a run.
+pub fn write_head(text: &mut Bytes, run: &Run) -> Result<(), NoMemory>
     ensures { OnOk result (text.new ≡ text.old ++ head_line run.now) }
 {
     write_labelled(text, b"joinlog ", u64::from(run.version))?;
@@ -78,16 +78,37 @@ fn write_firing(text: &mut Bytes, plan: &Plan, firing: &Option<Firing>) -> Resul
     }
 }
 
-fn write_arrival(text: &mut Bytes, plan: &Plan, version: u32, entry: &Entry) -> Result<(), NoMemory>
-    ensures { OnOk result (text.new ≡ text.old ++ arrival_line plan.now version entry.now) }
+// The line of an arrival, with this stamp in place of its own.
+fn write_arrival(
+    text: &mut Bytes,
+    plan: &Plan,
+    version: u32,
+    entry: &Entry,
+    stamp: u64,
+) -> Result<(), NoMemory>
+    ensures { OnOk result (text.new ≡ text.old ++ arrival_line plan.now version (stamped entry.now stamp)) }
 {
     write_count(text, u64::from(entry.number))?;
-    write_stamp(text, version, entry.stamp)?;
+    write_stamp(text, version, stamp)?;
     text.push_all(b" from ")?;
     write_source(text, plan, entry.source)?;
     text.push_all(b" ")?;
     write_message(text, plan, &entry.message)?;
     text.push_all(b"\n")
+}
+
+/// Appends the lines of an arrival with this stamp in place of its own, and of what it fired.
+pub fn write_entry(
+    text: &mut Bytes,
+    plan: &Plan,
+    version: u32,
+    entry: &Entry,
+    stamp: u64,
+) -> Result<(), NoMemory>
+    ensures { OnOk result (text.new ≡ text.old ++ entry_lines plan.now version (stamped entry.now stamp)) }
+{
+    write_arrival(text, plan, version, entry, stamp)?;
+    write_firing(text, plan, &entry.firing)
 }
 
 fn write_entries(
@@ -99,8 +120,7 @@ fn write_entries(
     ensures { OnOk result (text.new ≡ text.old ++ flat_map (entry_lines plan.now version) entries.now) }
 {
     for entry in entries {
-        write_arrival(text, plan, version, entry)?;
-        write_firing(text, plan, &entry.firing)?;
+        write_entry(text, plan, version, entry, entry.stamp)?;
     }
     Ok(())
 }
@@ -135,8 +155,25 @@ fn write_end(text: &mut Bytes, run: &ActorRun) -> Result<(), NoMemory>
     text.push_all(b"\n")
 }
 
-// The lines of an actor.
-pub(crate) fn write_actor(
+/// Appends the first line of an actor's section.
+pub fn write_heading(text: &mut Bytes, actor: &ActorPlan) -> Result<(), NoMemory>
+    ensures { OnOk result (text.new ≡ text.old ++ heading_line actor.now) }
+{
+    text.push_all(b"actor ")?;
+    text.push_all(actor.name.bytes())?;
+    text.push_all(b"\n")
+}
+
+/// Appends the lines of an actor's section behind those of its entries.
+pub fn write_last_lines(text: &mut Bytes, plan: &Plan, run: &ActorRun) -> Result<(), NoMemory>
+    ensures { OnOk result (text.new ≡ text.old ++ last_lines plan.now run.now) }
+{
+    write_lates(text, plan, run.late.as_slice())?;
+    write_end(text, run)
+}
+
+/// Appends the lines of one actor with its run: those that its section of a log has.
+pub fn write_actor(
     text: &mut Bytes,
     plan: &Plan,
     version: u32,
@@ -145,10 +182,7 @@ pub(crate) fn write_actor(
 ) -> Result<(), NoMemory>
     ensures { OnOk result (text.new ≡ text.old ++ actor_lines plan.now version actor.now run.now) }
 {
-    text.push_all(b"actor ")?;
-    text.push_all(actor.name.bytes())?;
-    text.push_all(b"\n")?;
+    write_heading(text, actor)?;
     write_entries(text, plan, version, run.entries.as_slice())?;
-    write_lates(text, plan, run.late.as_slice())?;
-    write_end(text, run)
+    write_last_lines(text, plan, run)
 }

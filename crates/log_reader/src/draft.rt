@@ -92,6 +92,24 @@ fn entry_with(arrival: Arrival, firing: Option<Firing>) -> Entry
     }
 }
 
+/// The same firing, in no more memory than it needs.
+pub fn trimmed(firing: Firing) -> Firing
+    ensures { result ≡ firing }
+{
+    let Firing {
+        rule,
+        taken,
+        effects,
+    } = firing;
+    let mut rows = effects.into_vec();
+    rows.shrink_to_fit();
+    Firing {
+        rule,
+        taken,
+        effects: Items::from_vec(rows),
+    }
+}
+
 // The entries with the open one.
 fn held(entries: Items<Entry>, reached: Open) -> Result<Items<Entry>, LineFault>
     ensures { Gives result (Some (entries ++ open_entry reached)) }
@@ -99,7 +117,10 @@ fn held(entries: Items<Entry>, reached: Open) -> Result<Items<Entry>, LineFault>
     let mut entries = entries;
     match reached {
         Open::Arrived(arrival) => entries.push(entry_with(arrival, None))?,
-        Open::Fired(arrival, firing) => entries.push(entry_with(arrival, Some(firing)))?,
+        Open::Fired(arrival, firing) => {
+            let firing = trimmed(firing);
+            entries.push(entry_with(arrival, Some(firing)))?
+        }
         Open::Heading => {}
         Open::Entries => {}
         Open::Lates(_) => {}
