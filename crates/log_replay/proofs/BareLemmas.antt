@@ -14,7 +14,7 @@ use Rattle.fair_semantics.specs.declared.run.Entry.{Entry}
 use Rattle.fair_semantics.specs.declared.run.Firing.{Firing}
 use Rattle.join_base.specs.Late.{Late}
 use Rattle.join_base.specs.Taken.{without}
-use Rattle.fair_semantics.specs.Step.{Arrival, Setting, State, Stepped, arrival_step, body_at, by_choice, definitions_of, entry_with, fair_step, firing_of, letters_of, letters_with, live_with, number_of, recorded}
+use Rattle.fair_semantics.specs.Step.{Arrival, Setting, State, Stepped, arrival_step, body_at, by_choice, definitions_of, entry_with, firing_of, letters_of, letters_with, live_with, number_of, recorded}
 use Rattle.fair_semantics.specs.Body.{stops}
 use Rattle.fair_semantics.specs.Fair.{Sent}
 use Rattle.fair_semantics.specs.Linked.{unstamped_entry}

@@ -29,7 +29,7 @@ use Rattle.log_replay.proofs.FirstLemmas.{First, first_behind}
 
 -- ---- tests and facts
 
-both_parts : (a b : Bool) → (a && b) ≡ true → (a ≡ true) × (b ≡ true)
+pub both_parts : (a b : Bool) → (a && b) ≡ true → (a ≡ true) × (b ≡ true)
 both_parts true b e = (refl, e)
 both_parts false b e = absurd cc
 
@@ -47,7 +47,7 @@ from_of (Actor a) from e = ap (λ (n : ℕ). Actor n) (equal a from e)
 from_is : (source : Source) (from : ℕ) → source ≡ Actor from → same_source source (Actor from) ≡ true
 from_is source from e = ap (λ (s : Source). same_source s (Actor from)) e ∙ itself from
 
-same_value_is : (v w : Value) → same_value v w ≡ true → v ≡ w
+pub same_value_is : (v w : Value) → same_value v w ≡ true → v ≡ w
 same_value_is (Int a) (Int b) e = ap (λ z. Int z) ((Decides-int_eq a b).0 e)
 same_value_is (Int a) (Words text) e = absurd cc
 same_value_is (Words text) (Int b) e = absurd cc
@@ -71,7 +71,7 @@ values_themselves : (vs : List Value) → same_values vs vs ≡ true
 values_themselves [] = refl
 values_themselves (v ∷ vs) = λ i. value_itself v i && values_themselves vs i
 
-same_message_is : (m k : Message) → same_message m k ≡ true → m ≡ k
+pub same_message_is : (m k : Message) → same_message m k ≡ true → m ≡ k
 same_message_is m k e =
     let h = both_parts (m.kind == k.kind) (same_values m.fields k.fields) e in
     let kinds = equal m.kind k.kind h.0 in

@@ -1,14 +1,11 @@
 -- Late counts: those of a state, and the list of them that a run shows.
-use Rattle.std.proofs.Common.{◌≡◌, ◌∙◌, ℕ, zero, suc, ◌+◌, ◌<◌, List, [], ◌∷◌, ◌++◌, length, map, Bool, true, false, refl, ap, sym, arith}
-use Rattle.std.specs.Prelude.{if◌then◌else◌, not, ◌||◌, ◌==◌, slice_index}
-use Rattle.std.specs.List.{list_any}
+use Rattle.std.proofs.Common.{◌≡◌, ◌∙◌, ℕ, suc, ◌+◌, ◌<◌, List, [], ◌∷◌, length, map, false, refl, ap, sym, arith}
+use Rattle.std.specs.Prelude.{◌||◌, slice_index}
 use Rattle.std.proofs.lemmas.List.{append-nil}
-use Rattle.std.proofs.lemmas.Bool.Decides.{nat_tests}
-use Rattle.join_base.specs.declared.message.Source.{Source}
 use Rattle.join_base.specs.declared.message.Source.TheVariants.{Feed, Actor}
 use Rattle.join_base.specs.Late.{Late}
-use Rattle.join_base.specs.Late.{late_counts, late_list}
-use Rattle.fair_semantics.specs.Linked.{count_of, numbers_from, same_source}
+use Rattle.join_base.specs.Late.{late_counts}
+use Rattle.fair_semantics.specs.Linked.{numbers_from}
 use Rattle.log_replay.specs.Expected.{some_late}
 pub use Rattle.fair_semantics.proofs.LateLemmas.{actor_count, actors_listed, feed_count, none_listed, some_of}
 

@@ -25,3 +25,8 @@ pub mod ConverseLemmas
 pub mod BackLemmas
 pub mod ExpectedFitsLemmas
 pub mod MadeLemmas
+pub mod ProgressLemmas
+pub mod SameLemmas
+pub mod SharedLemmas
+pub mod SwapLemmas
+pub mod WrittenLemmas

@@ -1,5 +1,5 @@
 -- The walk over the read arrivals of each actor.
-use Rattle.std.proofs.Common.{◌≡◌, ◌∙◌, inl, inr, ℕ, suc, ◌+◌, ◌-◌, ◌<◌, ◌≤◌, List, [], ◌∷◌, ◌++◌, length, length-append, map, drop, get_or, Option, append_assoc, slice_get, refl, sym, ap, subst, arith}
+use Rattle.std.proofs.Common.{◌≡◌, ◌∙◌, inl, inr, ℕ, zero, suc, ◌+◌, ◌-◌, ◌<◌, ◌≤◌, List, [], ◌∷◌, ◌++◌, length, length-append, map, drop, get_or, Option, Some, append_assoc, slice_get, refl, sym, ap, subst, arith}
 use Rattle.std.specs.List.{AllByRecursion}
 use Rattle.std.proofs.Math.ListN.{drop_of_length-le}
 use Rattle.std.proofs.lemmas.Bool.{cases_lt}
@@ -20,7 +20,7 @@ use Rattle.fair_semantics.specs.Fair.{after_all, rules_of, run_of, setting_of}
 use Rattle.fair_semantics.specs.Fits.{EntryFits, RuleFits, RunFits, SourceFits}
 use Rattle.fair_semantics.specs.Linked.{numbers_from}
 use Rattle.fair_semantics.specs.StampLaw.{arrivals_of}
-use Rattle.fair_semantics.specs.Step.{Stepped, fair_step, opening}
+use Rattle.fair_semantics.specs.Step.{State, Stepped, fair_step, opening}
 use Rattle.fair_semantics.proofs.ListLemmas.{each_from}
 use Rattle.actor_turn.specs.Held.{Held, new_actor}
 use Rattle.run_fits.specs.FitsLaw.{RulesFit}
@@ -28,7 +28,14 @@ use Rattle.log_replay.specs.Expected.{bare, entries_in, expected_run, read_entri
 use Rattle.log_replay.specs.Law.{AllRulesFit}
 use Rattle.log_replay.specs.declared.settling.Settlement.{Settlement}
 use Rattle.log_replay.specs.Kept.{entries_size, sections_size}
-use Rattle.log_replay.specs.Settling.{finished_runs, made_run, made_runs, settlements_of}
+use Rattle.log_replay.specs.Settling.{made_run, made_runs}
+use Rattle.log_replay.specs.declared.shared.Shared.{Shared}
+use Rattle.log_replay.specs.Shared.{finished_all, kept, kept_run, kept_runs, settlements_shown, shown, shown_all, shown_run}
+use Rattle.log_replay.proofs.SwapLemmas.{kept_shown, kept_stamps, settled_shown, swap_all}
+use Rattle.std.specs.Prelude.{slice_set}
+use Rattle.std.proofs.lemmas.List.{length-set}
+use Rattle.join_base.specs.declared.message.Stamped.{Stamped}
+use Rattle.actor_turn.specs.Held.{first_of, posts_behind, posts_for, without_first}
 use Rattle.log_replay.proofs.MadeLemmas.{read_fit}
 use Rattle.log_replay.proofs.SettledLemmas.{length-replicate, replay_is, sources_counted}
 use Rattle.log_replay.proofs.ConverseLemmas.{count_numbers}
@@ -68,17 +75,52 @@ goes_shown plan run index actor all place h past =
     let state : actor.state ≡ stepped plan run index = sym (ap (λ (es : List Entry). after_all actor.setting actor.state (map bare es)) none) ∙ h.left in
     λ i. run_of (h.setting i).rules (state i)
 
+pub goes_still : (plan : Plan) (run : Run) (index : ℕ) (actor next : Held) (all : List Entry) (place : ℕ) → Goes plan run index actor all place → next.state ≡ actor.state → next.setting ≡ actor.setting → Goes plan run index next all place
+goes_still plan run index actor next all place h state same = record {
+  left = (λ i. after_all (same i) (state i) (map bare (drop place all))) ∙ h.left;
+  setting = same ∙ h.setting;
+  counted = subst (λ (s : State). AllByRecursion (λ (entry : Entry). HasCount s.late entry.source) all) (sym state) h.counted;
+}
+
+-- ---- posts that nobody takes
+
+pub boxes_more : (target : ℕ) (entries : List Entry) (outbox : List (List Stamped)) → length (posts_behind target entries outbox) ≡ length outbox
+boxes_more target entries [] = refl
+boxes_more target entries (posts ∷ outbox) = ap suc (boxes_more (target + 1) entries outbox)
+
+pub less_state : (held : Held) (target : ℕ) (posts : List Stamped) → (without_first held target posts).state ≡ held.state
+less_state held target [] = refl
+less_state held target (post ∷ posts) = refl
+
+pub less_setting : (held : Held) (target : ℕ) (posts : List Stamped) → (without_first held target posts).setting ≡ held.setting
+less_setting held target [] = refl
+less_setting held target (post ∷ posts) = refl
+
+pub less_boxes : (held : Held) (target : ℕ) (posts : List Stamped) → length (without_first held target posts).outbox ≡ length held.outbox
+less_boxes held target [] = refl
+less_boxes held target (post ∷ posts) = length-set held.outbox target posts
+
+set_there : (outbox : List (List Stamped)) (target : ℕ) (posts : List Stamped) → target < length outbox → posts_for (slice_set outbox target posts) target ≡ posts
+set_there [] target posts l = absurd (omega arith)
+set_there (box ∷ outbox) zero posts l = refl
+set_there (box ∷ outbox) (suc target) posts l = set_there outbox target posts (omega (arith, l))
+
+-- where one was taken, fewer wait
+pub less_wait : (held : Held) (target : ℕ) (posts : List Stamped) (post : Stamped) → target < length held.outbox → posts ≡ posts_for held.outbox target → Some post ≡ first_of posts → length (posts_for (without_first held target posts).outbox target) < length (posts_for held.outbox target)
+less_wait held target [] post l is some = absurd cc
+less_wait held target (first ∷ posts) post l is some = omega (arith, ap length (set_there held.outbox target posts l), ap length is)
+
 -- ---- one actor more
 
-pub runs_next : (plan : Plan) (run : Run) (from n : ℕ) (own : ActorRun) (done next whole : List ActorRun) → from < n → own ≡ made_run plan run from → next ≡ done ++ own ∷ [] → done ++ made_runs plan run from (n - from) ≡ whole
-    → next ++ made_runs plan run (from + 1) (n - (from + 1)) ≡ whole
+pub runs_next : (plan : Plan) (run : Run) (from n : ℕ) (own : Shared) (done next whole : List Shared) → from < n → own ≡ kept_run plan run from → next ≡ done ++ own ∷ [] → done ++ kept_runs plan run from (n - from) ≡ whole
+    → next ++ kept_runs plan run (from + 1) (n - (from + 1)) ≡ whole
 runs_next plan run from n own done next whole below is more left =
-    let rest : List ActorRun = made_runs plan run (from + 1) (n - (from + 1)) in
+    let rest : List Shared = kept_runs plan run (from + 1) (n - (from + 1)) in
     let count : suc (n - (from + 1)) ≡ n - from = omega arith in
-    ap (λ (rs : List ActorRun). rs ++ rest) more
+    ap (λ (rs : List Shared). rs ++ rest) more
     ∙ append_assoc done (own ∷ []) rest
-    ∙ ap (λ (r : ActorRun). done ++ r ∷ rest) is
-    ∙ ap (λ (k : ℕ). done ++ made_runs plan run from k) count
+    ∙ ap (λ (r : Shared). done ++ r ∷ rest) is
+    ∙ ap (λ (k : ℕ). done ++ kept_runs plan run from k) count
     ∙ left
 
 pub texts_next : (plan : Plan) (limits : Limits) (index : ℕ) → ((actor : ℕ) → actor < index → RulesFit plan limits actor) → RulesFit plan limits index → (actor : ℕ) → actor < index + 1 → RulesFit plan limits actor
@@ -91,20 +133,52 @@ texts_all plan limits index all each actor =
 
 -- ---- all actors
 
-pub runs_count : (plan : Plan) (run : Run) (n : ℕ) → length (made_runs plan run 0 n) ≡ n
-runs_count plan run n = length-map (numbers_from 0 n) (made_run plan run) ∙ count_numbers 0 n
+pub runs_count : (plan : Plan) (run : Run) (n : ℕ) → length (kept_runs plan run 0 n) ≡ n
+runs_count plan run n = length-map (numbers_from 0 n) (kept_run plan run) ∙ count_numbers 0 n
 
-pub settlements_count : (made : List ActorRun) (run : Run) (to : ℕ) (owns reads : List ActorRun) → length owns ≡ length reads → length (settlements_of made run to owns reads) ≡ length owns
+made_count : (plan : Plan) (run : Run) (n : ℕ) → length (made_runs plan run 0 n) ≡ n
+made_count plan run n = length-map (numbers_from 0 n) (made_run plan run) ∙ count_numbers 0 n
+
+pub settlements_count : (made : List ActorRun) (run : Run) (to : ℕ) (owns : List Shared) (reads : List ActorRun) → length owns ≡ length reads → length (settlements_shown made run to owns reads) ≡ length owns
 settlements_count made run to [] reads same = refl
 settlements_count made run to (own ∷ owns) [] same = absurd (omega arith)
 settlements_count made run to (own ∷ owns) (read ∷ reads) same = ap suc (settlements_count made run (to + 1) owns reads (omega (arith, same)))
 
+pub finished_count : (plan : Plan) (to : ℕ) (owns : List Shared) (settlements : List Settlement) → length settlements ≡ length owns → length (finished_all plan to owns settlements) ≡ length owns
+finished_count plan to [] settlements same = refl
+finished_count plan to (own ∷ owns) [] same = absurd (omega arith)
+finished_count plan to (own ∷ owns) (settlement ∷ settlements) same = ap suc (finished_count plan (to + 1) owns settlements (omega (arith, same)))
+
+-- what is kept is what was made, with the read entries where they are the same
+kept_swapped : (plan : Plan) (run : Run) (from : ℕ) (reads : List ActorRun) (n : ℕ) → ((j : ℕ) → slice_get run.actors (from + j) ≡ slice_get reads j) → shown_all reads (kept_runs plan run from n) ≡ swap_all reads (made_runs plan run from n)
+kept_swapped plan run from [] n at = refl
+kept_swapped plan run from (read ∷ reads) zero at = refl
+kept_swapped plan run from (read ∷ reads) (suc n) at =
+    let none : from ≡ from + 0 = omega arith in
+    let here : read_entries run from ≡ read.entries = ap (λ (k : ℕ). read_entries run k) none ∙ ap entries_in (at 0) in
+    let first = ap (λ (es : List Entry). shown read (kept es (made_run plan run from))) here ∙ kept_shown read (made_run plan run from) in
+    let later = kept_swapped plan run (from + 1) reads n (λ j. let moved : from + 1 + j ≡ from + suc j = omega arith in ap (slice_get run.actors) moved ∙ at (suc j)) in
+    λ i. first i ∷ later i
+
+kept_bare : (plan : Plan) (run : Run) (ns : List ℕ) → AllByRecursion (λ (s : Shared). s.stamps ≡ []) (map (kept_run plan run) ns)
+kept_bare plan run [] = tt
+kept_bare plan run (n ∷ ns) = (kept_stamps (read_entries run n) (made_run plan run n), kept_bare plan run ns)
+
 -- put together, it is the expected run
-pub replayed : (plan : Plan) (run : Run) (made slice : List ActorRun) (settlements : List Settlement) (actors : List ActorRun) → IsTyped plan → RunFits plan run → AllRulesFit plan run.limits → made ≡ made_runs plan run 0 (length plan.actors) → slice ≡ made
-    → settlements ≡ settlements_of slice run 0 slice run.actors → actors ≡ finished_runs plan 0 made settlements → (record { version = run.version; limits = run.limits; feeds = run.feeds; actors = actors }) ≡ expected_run plan run
-replayed plan run made slice settlements actors typed fit texts are same by_settlements by_actors =
-    let all = by_actors ∙ ap (finished_runs plan 0 made) (by_settlements ∙ ap (λ (rs : List ActorRun). settlements_of rs run 0 rs run.actors) same) ∙ replay_is plan run made typed fit texts are (sources_counted plan run fit) in
-    λ i. record { version = run.version; limits = run.limits; feeds = run.feeds; actors = all i }
+pub replayed : (plan : Plan) (run : Run) (made slice : List Shared) (settlements : List Settlement) (runs : List Shared) → IsTyped plan → RunFits plan run → AllRulesFit plan run.limits → made ≡ kept_runs plan run 0 (length plan.actors) → slice ≡ made
+    → settlements ≡ settlements_shown (shown_all run.actors slice) run 0 slice run.actors → runs ≡ finished_all plan 0 made settlements → shown_run run runs ≡ expected_run plan run
+replayed plan run made slice settlements runs typed fit texts are same by_settlements by_runs =
+    let n : ℕ = length plan.actors in
+    let owns : List ActorRun = made_runs plan run 0 n in
+    let many : length owns ≡ length run.actors = made_count plan run n ∙ sym fit.actors in
+    let swapped : shown_all run.actors made ≡ swap_all run.actors owns =
+    ap (shown_all run.actors) are ∙ kept_swapped plan run 0 run.actors n (λ j. let e : 0 + j ≡ j = omega arith in ap (slice_get run.actors) e) in
+    let bare_stamps = subst (AllByRecursion (λ (s : Shared). s.stamps ≡ [])) (sym are) (kept_bare plan run (numbers_from 0 n)) in
+    let all =
+    ap (shown_all run.actors) (by_runs ∙ ap (finished_all plan 0 made) (by_settlements ∙ ap (λ (rs : List Shared). settlements_shown (shown_all run.actors rs) run 0 rs run.actors) same))
+    ∙ settled_shown plan run owns made many swapped bare_stamps
+    ∙ replay_is plan run owns typed fit texts refl (sources_counted plan run fit)
+    in λ i. record { version = run.version; limits = run.limits; feeds = run.feeds; actors = all i }
 
 -- ---- arrivals
 

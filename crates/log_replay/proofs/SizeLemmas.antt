@@ -1,20 +1,14 @@
 -- The late counts of a state stay as many, and which are 0.
-use Rattle.std.proofs.Common.{◌≡◌, ◌∙◌, ℕ, zero, suc, ◌+◌, ◌-◌, ◌<◌, List, [], ◌∷◌, ◌++◌, length, map, Bool, true, false, Some, slice_get, refl, ap, sym, subst, arith}
-use Rattle.std.specs.Prelude.{not, ◌==◌, slice_index, Contains}
+use Rattle.std.proofs.Common.{◌≡◌, ◌∙◌, ℕ, zero, suc, ◌+◌, ◌<◌, List, [], ◌∷◌, ◌++◌, length, map, false, Some, slice_get, refl, ap, sym, subst, arith}
+use Rattle.std.specs.Prelude.{not, ◌==◌, Contains}
 use Rattle.std.specs.List.{AllByRecursion, list_any}
-use Rattle.std.proofs.lemmas.List.{length-set, length-replicate}
 use Rattle.std.proofs.lemmas.Bool.Decides.{nat_tests}
-use Rattle.join_base.specs.declared.message.Source.{Source}
 use Rattle.join_base.specs.declared.message.Source.TheVariants.{Feed, Actor}
-use Rattle.join_base.specs.Late.{Late, late_more, raised}
-use Rattle.fair_semantics.specs.Step.{Setting, State, is_refused, is_running, opening}
+use Rattle.join_base.specs.Late.{Late}
 use Rattle.join_base.specs.Late.{late_counts}
-use Rattle.fair_semantics.specs.Fair.{Sent, after_all}
 use Rattle.fair_semantics.specs.Linked.{numbers_from, sources}
-use Rattle.fair_semantics.proofs.KeptLemmas.{late_list_zero}
 use Rattle.log_replay.specs.Expected.{count_where, some_late}
-use Rattle.log_replay.proofs.BareLemmas.{next_of}
-use Rattle.log_replay.proofs.TakenLemmas.{late_is, or_parts, records, spent_is}
+use Rattle.log_replay.proofs.TakenLemmas.{or_parts}
 pub use Rattle.fair_semantics.proofs.SizeLemmas.{Sized, none_counted, sized, sized_more, sized_opening}
 
 pub zero_where : (f : ℕ → ℕ) (ns : List ℕ) → AllByRecursion (λ n. n ≡ 0) (map (λ k. count_where false (f k)) ns)

@@ -1,19 +1,11 @@
 -- Chains of fair steps: an ended actor changes its late counts alone, and a chain that records each message.
-use Rattle.std.proofs.Common.{◌≡◌, ◌∙◌, ◌⊎◌, inl, inr, ℕ, ◌+◌, ◌<◌, max, List, [], ◌∷◌, ◌++◌, length, length-append, append_assoc, map, Bool, true, false, Option, None, Some, refl, ap, sym, subst, arith}
+use Rattle.std.proofs.Common.{◌≡◌, ◌∙◌, ℕ, ◌+◌, ◌<◌, max, List, [], ◌∷◌, ◌++◌, length, append_assoc, map, Bool, true, false, refl, ap, sym, subst, arith}
 use Rattle.std.specs.Prelude.{if◌then◌else◌, nat_lt, nat_le, not, ◌||◌}
 use Rattle.std.proofs.lemmas.List.{append-nil, length-map}
 use Rattle.std.proofs.lemmas.Bool.Decides.{nat_tests}
 use Rattle.join_base.specs.Stamps.{greatest_stamp}
-use Rattle.pattern_core.specs.declared.candidate.Candidate.{Candidate}
-use Rattle.pattern_core.specs.Matches.{partial_count}
-use Rattle.pattern_core.specs.Choice.{choice}
-use Rattle.fair_semantics.specs.declared.run.Ending.TheVariants as ending
-use Rattle.fair_semantics.specs.declared.run.Outcome.TheVariants as outcome
 use Rattle.fair_semantics.specs.declared.run.Entry.{Entry}
-use Rattle.fair_semantics.specs.declared.run.Firing.{Firing}
-use Rattle.join_base.specs.Taken.{without}
-use Rattle.fair_semantics.specs.Step.{Arrival, Setting, State, Stepped, arrival_step, body_at, by_choice, definitions_of, entry_with, firing_of, fits, is_refused, is_running, late_step, latest_stamp, letters_with, live_with, recorded, running_step, spent_step, step_by}
-use Rattle.fair_semantics.specs.Body.{stops}
+use Rattle.fair_semantics.specs.Step.{Setting, State, entry_with, fits, is_refused, is_running, latest_stamp}
 use Rattle.fair_semantics.specs.Fair.{Sent, after_all}
 use Rattle.fair_semantics.specs.Linked.{unstamped_entry}
 use Rattle.fair_semantics.proofs.FairLemmas.{latest_stamp-more}

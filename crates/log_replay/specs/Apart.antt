@@ -1,5 +1,7 @@
--- Where two texts part, in lines.
-use Rattle.std.specs.Prelude.{ℕ, ◌+◌, List, [], ◌∷◌, ◌==◌, Option, None, Some, if◌then◌else◌}
+-- Where bytes and a text part, in lines.
+use Rattle.std.specs.Prelude.{ℕ, ◌+◌, ◌≤◌, nat_lt, List, [], ◌∷◌, length, ◌==◌, Option, None, Some, slice_get, if◌then◌else◌}
+use Rattle.log_replay.specs.declared.apart.Progress.{Progress}
+use Rattle.log_replay.specs.declared.apart.Progress.TheVariants.{Along, Parted}
 
 -- how many lines end with this byte, where so many ended before
 abbrev pub ended_with : ℕ → ℕ → ℕ
@@ -11,3 +13,29 @@ lines_before ended [] [] = None
 lines_before ended [] (c ∷ other) = Some ended
 lines_before ended (b ∷ own) [] = Some ended
 lines_before ended (b ∷ own) (c ∷ other) = if b == c then lines_before (ended_with b ended) own other else Some ended
+
+-- ---- a text that comes piece by piece
+
+-- with a byte more of the text, where they are one up to this place and this byte stands there
+abbrev pub one_more : ℕ → ℕ → ℕ → Option ℕ → Progress
+one_more place ended byte None = Parted ended
+one_more place ended byte (Some own) = if own == byte then Along (place + 1) (ended_with byte ended) else Parted ended
+
+abbrev pub with_byte : List ℕ → Progress → ℕ → Progress
+with_byte bytes (Along place ended) byte = one_more place ended byte (slice_get bytes place)
+with_byte bytes (Parted ended) byte = Parted ended
+
+-- with a piece more
+abbrev pub behind : List ℕ → Progress → List ℕ → Progress
+behind bytes progress [] = progress
+behind bytes progress (byte ∷ piece) = behind bytes (with_byte bytes progress byte) piece
+
+-- no more lines ended than there are bytes before, and the place is one of the bytes or behind the last
+abbrev pub IsWithin : List ℕ → Progress → Type 0
+IsWithin bytes (Along place ended) = (ended ≤ place) × (place ≤ length bytes)
+IsWithin bytes (Parted ended) = ended ≤ length bytes
+
+-- how many lines ended in front of the first difference, where no more of the text comes
+abbrev pub parted : List ℕ → Progress → Option ℕ
+parted bytes (Along place ended) = if nat_lt place (length bytes) then Some ended else None
+parted bytes (Parted ended) = Some ended

@@ -7,4 +7,6 @@ pub mod Law
 -- what private functions compute
 pub mod Apart
 pub mod Kept
+pub mod Same
 pub mod Settling
+pub mod Shared

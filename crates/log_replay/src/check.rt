@@ -50,7 +50,7 @@ pub fn check_log<L: Ledger>(
         Ok(expected) => expected,
         Err(NoMemory) => return Err(LogRefusal::NoMemory),
     };
-    match first_fault(alloc, plan, bytes, &run, &expected) {
+    match first_fault(alloc, plan, bytes, &run, expected.as_slice()) {
         Ok(None) => Ok(arrival_count(&run)),
         Ok(Some(line)) => Err(LogRefusal::Differs { line }),
         Err(NoMemory) => Err(LogRefusal::NoMemory),

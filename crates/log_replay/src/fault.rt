@@ -1,16 +1,17 @@
 //! The first line in fault of the log of a run, by its expected run.
-ghost use Rattle.std.specs.Prelude.{◌≡◌, ◌+◌, ◌-◌, ◌^◌, ◌<◌, IfOk, IfSome};
+ghost use Rattle.std.specs.Prelude.{◌≡◌, ◌+◌, ◌-◌, ◌^◌, ◌<◌, length, IfOk, IfSome};
 ghost use Rattle.script_types.specs.Typed.{IsTyped};
 ghost use Rattle.fair_semantics.specs.Fits.{RunFits};
 ghost use Rattle.arrival_log.specs.LogText.{log_text};
 ghost use Rattle.log_replay.specs.Check.{IsFirstFault, numbered};
 ghost use Rattle.log_replay.specs.Expected.{expected_run};
+ghost use Rattle.log_replay.specs.Shared.{shown_run};
 
-use crate::apart::lines_before;
 use crate::kept::{earlier, posts_fault};
-use arrival_log::print_log;
+use crate::section::parted_at;
+use crate::shared::Shared;
 use fair_semantics::Run;
-use join_base::{Bytes, NoMemory};
+use join_base::NoMemory;
 use script_types::Plan;
 use std::alloc::Global;
 
@@ -26,28 +27,27 @@ fn numbered(place: Option<u64>) -> Option<u64>
 }
 
 /// The number of the first line in fault of the log of a run, from 1 on, or `None` where no line is. The bytes are that log, and the
-/// other run is its expected run.
+/// other runs are its expected run.
 ///
-/// The log of the expected run is printed and compared byte by byte, and each arrival from an actor with that actor's next post. So
-/// the time is that of both logs, and for each actor that of all arrivals and effects once more.
-pub fn first_fault(
+/// The log of the expected run is written section by section and compared byte by byte, and each arrival from an actor with that
+/// actor's next post. So the time is that of both logs, and for each actor that of all arrivals and effects once more.
+pub(crate) fn first_fault(
     alloc: Global,
     plan: &Plan,
     bytes: &[u8],
     run: &Run,
-    expected: &Run,
+    expected: &[Shared],
 ) -> Result<Option<u64>, NoMemory>
     requires typed { IsTyped plan.now }
     requires fits { RunFits plan.now run.now }
     requires text { bytes.now ≡ log_text plan.now run.now }
-    requires expected_fits { RunFits plan.now expected.now }
-    requires is_expected { expected.now ≡ expected_run plan.now run.now }
+    requires many { length expected.now ≡ length plan.now.actors }
+    requires expected_fits { RunFits plan.now (shown_run run.now expected.now) }
+    requires is_expected { shown_run run.now expected.now ≡ expected_run plan.now run.now }
     ensures first { IfOk result (IsFirstFault plan.now run.now) }
 {
-    let mut text = Bytes::new(alloc);
-    print_log(alloc, plan, expected, &mut text)?;
     let kept = posts_fault(alloc, run, expected)?;
-    let parted = lines_before(bytes, text.bytes());
+    let parted = parted_at(alloc, plan, bytes, run, expected)?;
     let found = earlier(kept, parted);
     Ok(numbered(found))
 }

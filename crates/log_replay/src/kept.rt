@@ -4,9 +4,11 @@ ghost use Rattle.fair_semantics.specs.Linked.{same_source};
 ghost use Rattle.fair_semantics.specs.Step.{is_running};
 ghost use Rattle.join_base.specs.declared.message.Source.TheVariants.{Actor};
 ghost use Rattle.log_replay.specs.Expected.{entries_in};
-ghost use Rattle.log_replay.specs.Kept.{earlier, ends_running, entries_size, entry_size, link_fault, posts_fault, section_fault, section_size, sections_size};
+ghost use Rattle.log_replay.specs.Kept.{earlier, entries_size, entry_size, link_fault, posts_fault, section_fault, section_size, sections_size};
+ghost use Rattle.log_replay.specs.Shared.{runs_at, shown_run};
 
-use crate::posts::{has_message, posts_made};
+use crate::posts::has_message;
+use crate::shared::{Shared, posts_shown};
 use fair_semantics::{ActorRun, Ending, Entry, Run};
 use join_base::{NoMemory, Source, Stamped};
 use std::alloc::Global;
@@ -96,12 +98,15 @@ pub(crate) fn is_running(ending: Ending) -> bool
 }
 
 // Whether the actor at this place runs on.
-fn runs_on(runs: &[ActorRun], place: usize) -> bool
-    ensures { result ≡ ends_running (slice_get runs.now place) }
+fn runs_on(reads: &[ActorRun], runs: &[Shared], place: usize) -> bool
+    ensures { result ≡ runs_at (slice_get reads.now place) (slice_get runs.now place) }
 {
-    match runs.get(place) {
-        Some(own) => is_running(own.ending),
+    match reads.get(place) {
         None => false,
+        Some(_) => match runs.get(place) {
+            None => false,
+            Some(shared) => is_running(shared.own.ending),
+        },
     }
 }
 
@@ -122,23 +127,22 @@ pub(crate) fn earlier(first: Option<u64>, second: Option<u64>) -> Option<u64>
 fn section_fault(
     alloc: Global,
     run: &Run,
-    expected: &Run,
+    expected: &[Shared],
     to: u32,
     line: u64,
     own: &ActorRun,
 ) -> Result<Option<u64>, NoMemory>
     requires few { length run.now.actors ≤ 32 }
     requires small { line + section_size own.now < 2 ^ 64 }
-    ensures { IfOk result (λ fault. fault ≡ section_fault run.now expected.now to line own.now) }
+    ensures { IfOk result (λ fault. fault ≡ section_fault run.now (shown_run run.now expected.now) to line own.now) }
 {
-    let runs_on = runs_on(expected.actors.as_slice(), to as usize);
+    let reads = run.actors.as_slice();
+    let runs_on = runs_on(reads, expected, to as usize);
     let late = own.late.len() as u64;
     let mut first = None;
     let mut from: u32 = 0;
     while (from as usize) < run.actors.len() {
-        let made = entries_at(expected.actors.as_slice(), from as usize);
-        let lines = entries_at(run.actors.as_slice(), from as usize);
-        let posts = posts_made(alloc, to, made, lines)?;
+        let posts = posts_shown(alloc, reads, expected, from as usize, to)?;
         let fault = link_fault(
             posts.as_slice(),
             from,
@@ -154,10 +158,14 @@ fn section_fault(
 }
 
 // The first line of the run that does not hold of the posts of its expected run.
-pub(crate) fn posts_fault(alloc: Global, run: &Run, expected: &Run) -> Result<Option<u64>, NoMemory>
+pub(crate) fn posts_fault(
+    alloc: Global,
+    run: &Run,
+    expected: &[Shared],
+) -> Result<Option<u64>, NoMemory>
     requires few { length run.now.actors ≤ 32 }
     requires small { 1 + sections_size run.now.actors < 2 ^ 64 }
-    ensures { IfOk result (λ fault. fault ≡ posts_fault run.now expected.now) }
+    ensures { IfOk result (λ fault. fault ≡ posts_fault run.now (shown_run run.now expected.now)) }
 {
     let mut line: u64 = 1;
     for (to, own) in run.actors.as_slice().iter().enumerate() {

@@ -8,7 +8,7 @@ use fair_semantics::{Effect, Entry, Firing};
 use join_base::{Items, Message, NoMemory, Stamped, Value};
 use std::alloc::Global;
 
-fn same_value(own: &Value, other: &Value) -> bool
+pub(crate) fn same_value(own: &Value, other: &Value) -> bool
     ensures { result ≡ same_value own.now other.now }
 {
     match own {
@@ -38,7 +38,7 @@ fn same_values(own: &[Value], other: &[Value]) -> bool
     true
 }
 
-fn same_message(own: &Message, other: &Message) -> bool
+pub(crate) fn same_message(own: &Message, other: &Message) -> bool
     ensures { result ≡ same_message own.now other.now }
 {
     own.kind == other.kind && same_values(own.fields.as_slice(), other.fields.as_slice())

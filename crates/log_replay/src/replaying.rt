@@ -7,16 +7,46 @@ ghost use Rattle.fair_semantics.specs.Linked.{numbers_from};
 ghost use Rattle.run_fits.specs.FitsLaw.{RulesFit};
 ghost use Rattle.log_replay.specs.Expected.{expected_run, stepped};
 ghost use Rattle.log_replay.specs.Law.{AllRulesFit};
-ghost use Rattle.log_replay.specs.Settling.{made_run, made_runs};
+ghost use Rattle.log_replay.specs.Settling.{made_run};
+ghost use Rattle.log_replay.specs.Shared.{kept_run, kept_runs, shown_run};
 
 use crate::kept::entries_at;
 use crate::settling::{finished_runs, settlements_of};
+use crate::shared::{Shared, kept};
 use actor_turn::Actor;
-use fair_semantics::{ActorRun, Run};
+use fair_semantics::{ActorRun, Outcome, Run};
 use join_base::{Items, NoMemory, Steps};
 use script_types::Plan;
 use std::alloc::Global;
 use std::sync::ledger::Ledger;
+
+// Lets go of the posts that wait for an actor of the plan.
+fn forget_posts(actor: &mut Actor, target: u32)
+    requires exists { target < length actor.old.outbox }
+    ensures state { actor.new.state ≡ actor.old.state }
+    ensures setting { actor.new.setting ≡ actor.old.setting }
+    ensures many { length actor.new.outbox ≡ length actor.old.outbox }
+{
+    'posts: while let Some(_) = actor.take_post(target) {}
+}
+
+// Lets go of all posts that wait, where there may be some. Nobody takes them here.
+fn forget_fired(actor: &mut Actor, outcome: Outcome, count: usize)
+    requires many { length actor.old.outbox ≡ count }
+    requires few { count ≤ 32 }
+    ensures state { actor.new.state ≡ actor.old.state }
+    ensures setting { actor.new.setting ≡ actor.old.setting }
+    ensures many { length actor.new.outbox ≡ count }
+{
+    if outcome != Outcome::Fired {
+        return;
+    }
+    let mut target: u32 = 0;
+    while (target as usize) < count {
+        forget_posts(actor, target);
+        target += 1;
+    }
+}
 
 // The run that an actor shows behind the fair steps over its read arrivals, without stamps.
 fn made_run<L: Ledger>(
@@ -34,27 +64,47 @@ fn made_run<L: Ledger>(
 {
     let mut actor = Actor::new(alloc, plan, index, run.limits, run.feeds)?;
     for entry in entries_at(run.actors.as_slice(), index as usize) {
-        actor.arrive(alloc, entry.source, &entry.message, 0, steps)?;
+        let outcome = actor.arrive(alloc, entry.source, &entry.message, 0, steps)?;
+        forget_fired(&mut actor, outcome, plan.actors.len());
     }
     Ok(actor.into_run())
 }
 
+// The same, without its entries where they are the read ones but for stamps.
+fn kept_run<L: Ledger>(
+    alloc: Global,
+    plan: &Plan,
+    run: &Run,
+    index: u32,
+    steps: &mut Steps<L>,
+) -> Result<Shared, NoMemory>
+    requires typed { IsTyped plan.now }
+    requires fits { RunFits plan.now run.now }
+    requires exists { index < length plan.now.actors }
+    ensures own { IfOk result (λ shared. shared ≡ kept_run plan.now run.now index) }
+    ensures texts { OnOk result (RulesFit plan.now run.now.limits index) }
+{
+    let own = made_run(alloc, plan, run, index, steps)?;
+    let read = entries_at(run.actors.as_slice(), index as usize);
+    Ok(kept(alloc, own, read))
+}
+
 // These runs of all actors.
-fn made_runs<L: Ledger>(
+fn kept_runs<L: Ledger>(
     alloc: Global,
     plan: &Plan,
     run: &Run,
     steps: &mut Steps<L>,
-) -> Result<Items<ActorRun>, NoMemory>
+) -> Result<Items<Shared>, NoMemory>
     requires typed { IsTyped plan.now }
     requires fits { RunFits plan.now run.now }
-    ensures runs { IfOk result (λ runs. runs ≡ made_runs plan.now run.now 0 (length plan.now.actors)) }
+    ensures runs { IfOk result (λ runs. runs ≡ kept_runs plan.now run.now 0 (length plan.now.actors)) }
     ensures texts { OnOk result (AllRulesFit plan.now run.now.limits) }
 {
     let mut runs = Items::new(alloc);
     let mut index: u32 = 0;
     while (index as usize) < plan.actors.len() {
-        let own = made_run(alloc, plan, run, index, steps)?;
+        let own = kept_run(alloc, plan, run, index, steps)?;
         runs.push(own)?;
         index += 1;
     }
@@ -65,26 +115,22 @@ fn made_runs<L: Ledger>(
 /// order, under its limits. Its late counts are, of an actor that has ended or is full, the read ones for the feeds and for the
 /// actors their posts beyond those that arrived; its stamps are those of the version.
 ///
-/// It fits the plan. A step is counted as in `Actor::arrive`.
-pub fn replay<L: Ledger>(
+/// Entries that are the read ones but for their stamps are let go of as soon as their actor has made its steps. So beside the
+/// run that was read there is one actor at a time, and what differs. It fits the plan. A step is counted as in `Actor::arrive`.
+pub(crate) fn replay<L: Ledger>(
     alloc: Global,
     plan: &Plan,
     run: &Run,
     steps: &mut Steps<L>,
-) -> Result<Run, NoMemory>
+) -> Result<Items<Shared>, NoMemory>
     requires typed { IsTyped plan.now }
     requires fits { RunFits plan.now run.now }
-    ensures expected { IfOk result (λ expected. expected ≡ expected_run plan.now run.now) }
-    ensures fits { IfOk result (RunFits plan.now) }
+    ensures expected { IfOk result (λ runs. shown_run run.now runs ≡ expected_run plan.now run.now) }
+    ensures fits { IfOk result (λ runs. RunFits plan.now (shown_run run.now runs)) }
+    ensures many { IfOk result (λ runs. length runs ≡ length plan.now.actors) }
     ensures texts { OnOk result (AllRulesFit plan.now run.now.limits) }
 {
-    let made = made_runs(alloc, plan, run, steps)?;
+    let made = kept_runs(alloc, plan, run, steps)?;
     let settlements = settlements_of(alloc, made.as_slice(), run)?;
-    let actors = finished_runs(alloc, plan, made, settlements)?;
-    Ok(Run {
-        version: run.version,
-        limits: run.limits,
-        feeds: run.feeds,
-        actors,
-    })
+    finished_runs(alloc, plan, made, settlements)
 }

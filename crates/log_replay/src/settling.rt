@@ -4,11 +4,12 @@ ghost use Rattle.std.specs.List.{AllByRecursion};
 ghost use Rattle.join_base.specs.Late.{late_list, late_one};
 ghost use Rattle.join_base.specs.declared.message.Source.TheVariants.{Actor, Feed};
 ghost use Rattle.fair_semantics.specs.Linked.{count_of, same_source, stamp_at, taken_from};
-ghost use Rattle.log_replay.specs.Expected.{count_where, next_stamp};
-ghost use Rattle.log_replay.specs.Settling.{IsCounted, actor_counts, carried_by, definition_count, feed_counts, finished, finished_runs, lates_made, links_to, may_be_late, settled_run, settlement_of, settlements_of, stamps_in, stamps_made, taken_after, with_stamps};
+ghost use Rattle.log_replay.specs.Expected.{count_where, next_stamp, with_entries};
+ghost use Rattle.log_replay.specs.Settling.{IsCounted, actor_counts, carried_by, definition_count, feed_counts, lates_made, links_to, may_be_late, settled_run, settlement_of, stamps_in, stamps_made, taken_after, with_stamps};
+ghost use Rattle.log_replay.specs.Shared.{finished_all, finished_shared, settlements_shown, shown, shown_all};
 
-use crate::kept::{entries_at, is_from, is_running};
-use crate::posts::posts_made;
+use crate::kept::{is_from, is_running};
+use crate::shared::{Shared, plain, posts_shown};
 use fair_semantics::{ActorRun, Ending, Entry, Limits, Run};
 use join_base::{Items, NoMemory, Source, Stamped};
 use script_types::Plan;
@@ -17,25 +18,24 @@ use std::alloc::Global;
 // The posts to an actor from each actor of the run, by the entries that they made.
 fn links_to(
     alloc: Global,
-    made: &[ActorRun],
+    made: &[Shared],
     run: &Run,
     to: u32,
 ) -> Result<Items<Items<Stamped>>, NoMemory>
     requires few { length run.now.actors ≤ 32 }
-    ensures { IfOk result (λ links. links ≡ links_to made.now run.now to 0 (length run.now.actors)) }
+    ensures { IfOk result (λ links. links ≡ links_to (shown_all run.now.actors made.now) run.now to 0 (length run.now.actors)) }
 {
     let mut links = Items::new(alloc);
     let mut from: usize = 0;
     while from < run.actors.len() {
-        let own = entries_at(made, from);
-        let lines = entries_at(run.actors.as_slice(), from);
-        links.push(posts_made(alloc, to, own, lines)?)?;
+        let posts = posts_shown(alloc, run.actors.as_slice(), made, from, to)?;
+        links.push(posts)?;
         from += 1;
     }
     Ok(links)
 }
 
-fn same_source(source: Source, other: Source) -> bool
+pub(crate) fn same_source(source: Source, other: Source) -> bool
     ensures { result ≡ same_source source other }
 {
     match source {
@@ -269,10 +269,13 @@ fn stamps_in(
 }
 
 // Whether a message may be late at an actor with this run: it has ended, or it is full.
-fn may_be_late(limits: Limits, own: &ActorRun) -> bool
-    ensures { result ≡ may_be_late limits own.now }
+#[tactic(auto, using(crate::proofs::SharedLemmas::late_shown))]
+fn may_be_late(limits: Limits, own: &Shared, read: &ActorRun) -> bool
+    ensures { result ≡ may_be_late limits (shown read.now own.now) }
 {
-    !is_running(own.ending) || own.entries.len() >= limits.arrivals as usize
+    let has_ended = !is_running(own.own.ending);
+    let is_full = limits.arrivals as usize <= plain(read, own).len();
+    has_ended || is_full
 }
 
 // The entries with these stamps, as far as there are any.
@@ -300,20 +303,20 @@ pub(crate) struct Settlement {
 // What is to be made of the run of this actor, by the runs of all and its section as it was read.
 fn settlement_of(
     alloc: Global,
-    made: &[ActorRun],
+    made: &[Shared],
     run: &Run,
     to: u32,
-    own: &ActorRun,
+    own: &Shared,
     read: &ActorRun,
 ) -> Result<Settlement, NoMemory>
     requires few { length run.now.actors ≤ 32 }
     requires feeds { run.now.feeds ≤ 16 }
     requires exist { AllByRecursion (λ entry. IsCounted (length run.now.actors) entry.source) read.now.entries }
-    ensures { IfOk result (λ s. s ≡ settlement_of made.now run.now to own.now read.now) }
+    ensures { IfOk result (λ s. s ≡ settlement_of (shown_all run.now.actors made.now) run.now to (shown read.now own.now) read.now) }
 {
     let links = links_to(alloc, made, run, to)?;
     let entries = read.entries.as_slice();
-    let may = may_be_late(run.limits, own);
+    let may = may_be_late(run.limits, own, read);
     let late = lates_made(
         alloc,
         may,
@@ -327,19 +330,43 @@ fn settlement_of(
 }
 
 // The run of an actor, settled: with these late counts and stamps, and spent where it ran and one came too late.
-fn finished(alloc: Global, own: ActorRun, settlement: Settlement, definitions: u64) -> ActorRun
-    ensures { result ≡ finished own settlement definitions }
+fn finished(alloc: Global, shared: Shared, settlement: Settlement, definitions: u64) -> Shared
+    ensures { result ≡ finished_shared shared settlement definitions }
 {
     let Settlement { late, stamps } = settlement;
+    let Shared {
+        as_read,
+        stamps: _,
+        own,
+    } = shared;
+    let own = settled_run(alloc, own, late, definitions);
+    if as_read {
+        return Shared {
+            as_read,
+            stamps,
+            own,
+        };
+    }
+    Shared {
+        as_read,
+        stamps: Items::new(alloc),
+        own: stamped(own, stamps.as_slice()),
+    }
+}
+
+// The run with these stamps.
+fn stamped(own: ActorRun, stamps: &[u64]) -> ActorRun
+    ensures { result ≡ with_entries own (with_stamps stamps.now own.entries) }
+{
     let ActorRun {
         entries,
         late,
         ending,
         left,
         partials,
-    } = settled_run(alloc, own, late, definitions);
+    } = own;
     ActorRun {
-        entries: with_stamps(entries, stamps.as_slice()),
+        entries: with_stamps(entries, stamps),
         late,
         ending,
         left,
@@ -350,14 +377,14 @@ fn finished(alloc: Global, own: ActorRun, settlement: Settlement, definitions: u
 // What is to be made of the runs of all actors.
 pub(crate) fn settlements_of(
     alloc: Global,
-    made: &[ActorRun],
+    made: &[Shared],
     run: &Run,
 ) -> Result<Items<Settlement>, NoMemory>
     requires few { length run.now.actors ≤ 32 }
     requires feeds { run.now.feeds ≤ 16 }
     requires many { length made.now ≡ length run.now.actors }
     requires exist { AllByRecursion (λ own. AllByRecursion (λ entry. IsCounted (length run.now.actors) entry.source) own.entries) run.now.actors }
-    ensures { IfOk result (λ ss. ss ≡ settlements_of made.now run.now 0 made.now run.now.actors) }
+    ensures { IfOk result (λ ss. ss ≡ settlements_shown (shown_all run.now.actors made.now) run.now 0 made.now run.now.actors) }
 {
     let mut settlements = Items::new(alloc);
     for (to, read) in run.actors.as_slice().iter().enumerate() {
@@ -381,11 +408,11 @@ fn definition_count(plan: &Plan, actor: usize) -> u64
 pub(crate) fn finished_runs(
     alloc: Global,
     plan: &Plan,
-    made: Items<ActorRun>,
+    made: Items<Shared>,
     settlements: Items<Settlement>,
-) -> Result<Items<ActorRun>, NoMemory>
+) -> Result<Items<Shared>, NoMemory>
     requires many { length settlements ≡ length made }
-    ensures { IfOk result (λ runs. runs ≡ finished_runs plan.now 0 made settlements) }
+    ensures { IfOk result (λ runs. runs ≡ finished_all plan.now 0 made settlements) }
 {
     let mut owns = made.into_vec();
     let mut settlements = settlements.into_vec();

@@ -1,6 +1,7 @@
-use Rattle.std.proofs.Common.{◌≡◌, ◌∙◌, ℕ, List, ◌++◌, length, sym, ap, subst, arith}
-use Rattle.arrival_log.specs.LogText.{log_text}
+use Rattle.std.proofs.Common.{length, refl, sym, ap, subst, arith}
 use Rattle.log_replay.specs.Check.{IsFirstFault}
+use Rattle.log_replay.specs.Shared.{shown_run}
+use Rattle.arrival_log.specs.LogText.{log_text}
 use Rattle.log_replay.proofs.FoundLemmas.{found_first, found_small, lines_few}
 use Rattle.log_replay.proofs.fault.first_fault.Goals as goal
 
@@ -12,14 +13,13 @@ posts_fault-requires-clause-small c =
 pub numbered-requires : goal.numbered-requires
 numbered-requires c =
     let few = lines_few c.args.plan.now c.args.run.now c.requires.typed c.requires.fits in
-    found_small c.args.plan.now c.args.run.now c.requires.typed c.requires.fits c.args.expected.now c.requires.is_expected c.in_ok-kept.kept c.lines_before-parted.result c.earlier-found.result (length c.args.bytes.now) c.in_ok-kept.ensures
-    c.lines_before-parted.ensures.few c.earlier-found.ensures (omega (arith, few, ap length c.requires.text)) (omega (arith))
+    found_small c.args.plan.now c.args.run.now c.requires.typed c.requires.fits (shown_run c.args.run.now c.args.expected.now) c.requires.is_expected c.in_ok-kept.kept c.in_ok-parted.parted c.earlier-found.result (length c.args.bytes.now)
+    c.in_ok-kept.ensures c.in_ok-parted.ensures.few c.earlier-found.ensures (omega (arith, few, ap length c.requires.text)) (omega (arith))
 
 pub returns : goal.returns
 returns c =
-    let text : c.bytes.result.now ≡ log_text c.args.plan.now c.args.expected.now =
-    c.bytes.ensures.same ∙ c.in_ok-print_log.ensures.ok ∙ ap (λ (t : List ℕ). t ++ log_text c.args.plan.now c.args.expected.now) c.new-text.ensures.empty in
+    let expected = shown_run c.args.run.now c.args.expected.now in
     let first =
-    found_first c.args.plan.now c.args.run.now c.requires.typed c.requires.fits c.args.expected.now c.requires.is_expected c.requires.expected_fits c.args.bytes.now c.bytes.result.now c.requires.text text c.in_ok-kept.kept c.lines_before-parted.result
-    c.earlier-found.result c.in_ok-kept.ensures c.lines_before-parted.ensures.lines c.earlier-found.ensures
+    found_first c.args.plan.now c.args.run.now c.requires.typed c.requires.fits expected c.requires.is_expected c.requires.expected_fits c.args.bytes.now (log_text c.args.plan.now expected) c.requires.text refl c.in_ok-kept.kept c.in_ok-parted.parted
+    c.earlier-found.result c.in_ok-kept.ensures c.in_ok-parted.ensures.lines c.earlier-found.ensures
     in record { first = subst (IsFirstFault c.args.plan.now c.args.run.now) (sym c.numbered.ensures) first }

@@ -1,7 +1,9 @@
 use Rattle.std.proofs.Common.{◌∙◌, length, ap, subst, sym}
+use Rattle.std.proofs.lemmas.Result.{IfOk-weaker}
 use Rattle.fair_semantics.specs.Fits.{RunFits}
+use Rattle.log_replay.specs.Shared.{shown_all}
 use Rattle.log_replay.proofs.MadeLemmas.{expected_fits}
-use Rattle.log_replay.proofs.ReplayLemmas.{replayed, runs_count, settlements_count}
+use Rattle.log_replay.proofs.ReplayLemmas.{finished_count, replayed, runs_count, settlements_count}
 use Rattle.log_replay.proofs.SettledLemmas.{sources_counted}
 use Rattle.log_replay.proofs.replaying.replay.Goals as goal
 
@@ -15,16 +17,28 @@ pub finished_runs-requires : goal.finished_runs-requires
 finished_runs-requires g c =
     let same = c.as_slice.ensures.same in
     let many = ap length (same ∙ c.in_ok-made.ensures.runs) ∙ runs_count c.args.plan.now c.args.run.now (length c.args.plan.now.actors) ∙ sym c.requires.fits.actors in
-    record { many = ap length c.in_ok-settlements.ensures ∙ settlements_count c.as_slice.result.now c.args.run.now 0 c.as_slice.result.now c.args.run.now.actors many ∙ ap length same }
+    record { many = ap length c.in_ok-settlements.ensures ∙ settlements_count (shown_all c.args.run.now.actors c.as_slice.result.now) c.args.run.now 0 c.as_slice.result.now c.args.run.now.actors many ∙ ap length same }
 
 pub returns-clause-expected : goal.returns-clause-expected
 returns-clause-expected g c =
-    replayed c.args.plan.now c.args.run.now c.in_ok-made.made c.as_slice.result.now c.in_ok-settlements.settlements c.in_ok-actors.actors c.requires.typed c.requires.fits c.in_ok-made.ensures.texts c.in_ok-made.ensures.runs c.as_slice.ensures.same
-    c.in_ok-settlements.ensures c.in_ok-actors.ensures
+    IfOk-weaker c.finished_runs.result _ _
+    (λ runs is.
+    replayed c.args.plan.now c.args.run.now c.in_ok-made.made c.as_slice.result.now c.in_ok-settlements.settlements runs c.requires.typed c.requires.fits c.in_ok-made.ensures.texts c.in_ok-made.ensures.runs c.as_slice.ensures.same c.in_ok-settlements.ensures is)
+    c.finished_runs.ensures
 
 pub returns-clause-fits : goal.returns-clause-fits
 returns-clause-fits g c =
+    IfOk-weaker c.finished_runs.result _ _
+    (λ runs is.
     let same =
-    replayed c.args.plan.now c.args.run.now c.in_ok-made.made c.as_slice.result.now c.in_ok-settlements.settlements c.in_ok-actors.actors c.requires.typed c.requires.fits c.in_ok-made.ensures.texts c.in_ok-made.ensures.runs c.as_slice.ensures.same
-    c.in_ok-settlements.ensures c.in_ok-actors.ensures
-    in subst (RunFits c.args.plan.now) (sym same) (expected_fits c.args.plan.now c.args.run.now c.requires.typed c.in_ok-made.ensures.texts c.requires.fits)
+    replayed c.args.plan.now c.args.run.now c.in_ok-made.made c.as_slice.result.now c.in_ok-settlements.settlements runs c.requires.typed c.requires.fits c.in_ok-made.ensures.texts c.in_ok-made.ensures.runs c.as_slice.ensures.same c.in_ok-settlements.ensures is
+    in subst (RunFits c.args.plan.now) (sym same) (expected_fits c.args.plan.now c.args.run.now c.requires.typed c.in_ok-made.ensures.texts c.requires.fits))
+    c.finished_runs.ensures
+
+pub returns-clause-many : goal.returns-clause-many
+returns-clause-many g c =
+    let same = c.as_slice.ensures.same in
+    let counted = ap length c.in_ok-made.ensures.runs ∙ runs_count c.args.plan.now c.args.run.now (length c.args.plan.now.actors) in
+    let many = ap length same ∙ counted ∙ sym c.requires.fits.actors in
+    let settled = ap length c.in_ok-settlements.ensures ∙ settlements_count (shown_all c.args.run.now.actors c.as_slice.result.now) c.args.run.now 0 c.as_slice.result.now c.args.run.now.actors many ∙ ap length same in
+    IfOk-weaker c.finished_runs.result _ _ (λ runs is. ap length is ∙ finished_count c.args.plan.now 0 c.in_ok-made.made c.in_ok-settlements.settlements settled ∙ counted) c.finished_runs.ensures

@@ -1,6 +1,6 @@
 use Rattle.std.proofs.Common.{length, arith}
 use Rattle.log_replay.proofs.ReplayLemmas.{runs_next, texts_all, texts_next}
-use Rattle.log_replay.proofs.replaying.made_runs.Goals as goal
+use Rattle.log_replay.proofs.replaying.kept_runs.Goals as goal
 
 pub loop-index-preserved : goal.loop-index-preserved
 loop-index-preserved g c =

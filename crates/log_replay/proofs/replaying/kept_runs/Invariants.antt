@@ -1,11 +1,11 @@
 use Rattle.std.proofs.Common.{◌≡◌, ◌++◌, ◌-◌, ◌<◌, ◌≤◌, ℕ, length}
 use Rattle.run_fits.specs.FitsLaw.{RulesFit}
-use Rattle.log_replay.specs.Settling.{made_runs}
-use Rattle.log_replay.proofs.replaying.made_runs.Given as goal
+use Rattle.log_replay.specs.Shared.{kept_runs}
+use Rattle.log_replay.proofs.replaying.kept_runs.Given as goal
 
 abbrev pub invariant-loop-index : goal.invariant-loop-index
 invariant-loop-index g l = record {
-  left : l.runs ++ made_runs l.plan l.run l.index (length l.plan.actors - l.index) ≡ made_runs l.plan l.run 0 (length l.plan.actors);
+  left : l.runs ++ kept_runs l.plan l.run l.index (length l.plan.actors - l.index) ≡ kept_runs l.plan l.run 0 (length l.plan.actors);
   within : l.index ≤ length l.plan.actors;
   texts : (actor : ℕ) → actor < l.index → RulesFit l.plan l.run.limits actor;
 }

@@ -1,0 +1,126 @@
+-- What tests of equality tell.
+use Rattle.std.proofs.Common.{◌≡◌, ◌∙◌, ℕ, suc, List, [], ◌∷◌, length, map, Bool, true, false, Option, None, Some, refl, ap, arith}
+use Rattle.std.specs.Prelude.{◌&&◌, ◌==◌}
+use Rattle.std.proofs.lemmas.Bool.Decides.{nat_tests}
+use Rattle.std.proofs.lemmas.Slice.Eq.{bytes_eq-Decides}
+use Rattle.join_base.specs.declared.message.Source.{Source}
+use Rattle.join_base.specs.declared.message.Source.TheVariants.{Feed, Actor}
+use Rattle.fair_semantics.specs.declared.run.Effect.{Effect}
+use Rattle.fair_semantics.specs.declared.run.Effect.TheVariants.{Print, Post, Reply}
+use Rattle.fair_semantics.specs.declared.run.Entry.{Entry}
+use Rattle.fair_semantics.specs.declared.run.Firing.{Firing}
+use Rattle.fair_semantics.specs.Linked.{same_source, unstamped_entry}
+use Rattle.log_replay.specs.Kept.{same_message, same_value}
+use Rattle.log_replay.specs.Same.{same_effect, same_effects, same_entries, same_entry, same_fired, same_firing, same_numbers}
+use Rattle.log_replay.proofs.KeepsLemmas.{both_parts, same_message_is, same_value_is}
+
+none_false : (b : Bool) → (b && false) ≡ false
+none_false true = refl
+none_false false = refl
+
+-- ---- lists that are not as long
+
+pub effects_apart : (own other : List Effect) → (length own ≡ length other → ⊥) → same_effects own other ≡ false
+effects_apart [] [] apart = absurd (apart refl)
+effects_apart [] (w ∷ other) apart = refl
+effects_apart (v ∷ own) [] apart = refl
+effects_apart (v ∷ own) (w ∷ other) apart = ap (λ (b : Bool). same_effect v w && b) (effects_apart own other (λ e. apart (ap suc e))) ∙ none_false (same_effect v w)
+
+pub numbers_apart : (own other : List ℕ) → (length own ≡ length other → ⊥) → same_numbers own other ≡ false
+numbers_apart [] [] apart = absurd (apart refl)
+numbers_apart [] (w ∷ other) apart = refl
+numbers_apart (v ∷ own) [] apart = refl
+numbers_apart (v ∷ own) (w ∷ other) apart = ap (λ (b : Bool). (v == w) && b) (numbers_apart own other (λ e. apart (ap suc e))) ∙ none_false (v == w)
+
+pub entries_apart : (own other : List Entry) → (length own ≡ length other → ⊥) → same_entries own other ≡ false
+entries_apart [] [] apart = absurd (apart refl)
+entries_apart [] (w ∷ other) apart = refl
+entries_apart (v ∷ own) [] apart = refl
+entries_apart (v ∷ own) (w ∷ other) apart = ap (λ (b : Bool). same_entry v w && b) (entries_apart own other (λ e. apart (ap suc e))) ∙ none_false (same_entry v w)
+
+-- ---- what is equal
+
+equal : (a b : ℕ) → (a == b) ≡ true → a ≡ b
+equal a b e = grind (arith, nat_tests)
+
+effect_is : (a b : Effect) → same_effect a b ≡ true → a ≡ b
+effect_is (Print text) (Print second) e = ap (λ t. Print t) ((bytes_eq-Decides text second).0 e)
+effect_is (Print text) (Post target message) e = absurd cc
+effect_is (Print text) (Reply number value) e = absurd cc
+effect_is (Post target message) (Print text) e = absurd cc
+effect_is (Post target message) (Post second sent) e =
+    let h = both_parts (target == second) (same_message message sent) e in
+    let t = equal target second h.0 in
+    let m = same_message_is message sent h.1 in
+    λ i. Post (t i) (m i)
+effect_is (Post target message) (Reply number value) e = absurd cc
+effect_is (Reply number value) (Print text) e = absurd cc
+effect_is (Reply number value) (Post target message) e = absurd cc
+effect_is (Reply number value) (Reply second given) e =
+    let h = both_parts (number == second) (same_value value given) e in
+    let n = equal number second h.0 in
+    let v = same_value_is value given h.1 in
+    λ i. Reply (n i) (v i)
+
+effects_are : (vs ws : List Effect) → same_effects vs ws ≡ true → vs ≡ ws
+effects_are [] [] e = refl
+effects_are [] (w ∷ ws) e = absurd cc
+effects_are (v ∷ vs) [] e = absurd cc
+effects_are (v ∷ vs) (w ∷ ws) e =
+    let h = both_parts (same_effect v w) (same_effects vs ws) e in
+    let first = effect_is v w h.0 in
+    let later = effects_are vs ws h.1 in
+    λ i. first i ∷ later i
+
+numbers_are : (vs ws : List ℕ) → same_numbers vs ws ≡ true → vs ≡ ws
+numbers_are [] [] e = refl
+numbers_are [] (w ∷ ws) e = absurd cc
+numbers_are (v ∷ vs) [] e = absurd cc
+numbers_are (v ∷ vs) (w ∷ ws) e =
+    let h = both_parts (v == w) (same_numbers vs ws) e in
+    let first = equal v w h.0 in
+    let later = numbers_are vs ws h.1 in
+    λ i. first i ∷ later i
+
+firing_is : (a b : Firing) → same_firing a b ≡ true → a ≡ b
+firing_is a b e =
+    let h = both_parts ((a.rule == b.rule) && same_numbers a.taken b.taken) (same_effects a.effects b.effects) e in
+    let k = both_parts (a.rule == b.rule) (same_numbers a.taken b.taken) h.0 in
+    let rules = equal a.rule b.rule k.0 in
+    let numbers = numbers_are a.taken b.taken k.1 in
+    let effects = effects_are a.effects b.effects h.1 in
+    λ i. record { rule = rules i; taken = numbers i; effects = effects i }
+
+fired_is : (a b : Option Firing) → same_fired a b ≡ true → a ≡ b
+fired_is None None e = refl
+fired_is None (Some b) e = absurd cc
+fired_is (Some a) None e = absurd cc
+fired_is (Some a) (Some b) e = ap (λ (f : Firing). Some f) (firing_is a b e)
+
+source_is : (a b : Source) → same_source a b ≡ true → a ≡ b
+source_is (Feed j) (Feed k) e = ap (λ (n : ℕ). Feed n) (equal j k e)
+source_is (Feed j) (Actor a) e = absurd cc
+source_is (Actor a) (Feed k) e = absurd cc
+source_is (Actor a) (Actor b) e = ap (λ (n : ℕ). Actor n) (equal a b e)
+
+entry_is : (a b : Entry) → same_entry a b ≡ true → unstamped_entry a ≡ unstamped_entry b
+entry_is a b e =
+    let h = both_parts ((a.number == b.number) && same_source a.source b.source && same_message a.message b.message) (same_fired a.firing b.firing) e in
+    let k = both_parts ((a.number == b.number) && same_source a.source b.source) (same_message a.message b.message) h.0 in
+    let l = both_parts (a.number == b.number) (same_source a.source b.source) k.0 in
+    let numbers = equal a.number b.number l.0 in
+    let sources = source_is a.source b.source l.1 in
+    let messages = same_message_is a.message b.message k.1 in
+    let firings = fired_is a.firing b.firing h.1 in
+    λ i. record { number = numbers i; source = sources i; message = messages i; stamp = 0; firing = firings i }
+
+-- the entries are equal but for their stamps
+pub entries_are : (es fs : List Entry) → same_entries es fs ≡ true → map unstamped_entry es ≡ map unstamped_entry fs
+entries_are [] [] e = refl
+entries_are [] (f ∷ fs) e = absurd cc
+entries_are (x ∷ es) [] e = absurd cc
+entries_are (x ∷ es) (f ∷ fs) e =
+    let h = both_parts (same_entry x f) (same_entries es fs) e in
+    let first = entry_is x f h.0 in
+    let later = entries_are es fs h.1 in
+    λ i. first i ∷ later i

@@ -1,0 +1,93 @@
+//! The runs of actors beside those that were read: what is the same is kept once.
+ghost use Rattle.std.specs.Prelude.{◌≡◌, slice_get, IfOk};
+ghost use Rattle.log_replay.specs.Expected.{entries_in};
+ghost use Rattle.log_replay.specs.Kept.{posts_made};
+ghost use Rattle.log_replay.specs.Shared.{kept, plain, plain_at, shown_all};
+
+use crate::kept::entries_at;
+use crate::posts::posts_made;
+use crate::same::same_entries;
+use fair_semantics::{ActorRun, Entry};
+use join_base::{Items, NoMemory, Stamped};
+use std::alloc::Global;
+
+// The run of an actor beside the one that was read.
+#[derive(Drop)]
+pub(crate) struct Shared {
+    // Whether the entries are the read ones but for their stamps. Those of `own` are none then.
+    pub(crate) as_read: bool,
+    // The stamps of such entries, as far as they differ from the read ones.
+    pub(crate) stamps: Items<u64>,
+    pub(crate) own: ActorRun,
+}
+
+// Lets go of the entries where they are the read ones but for their stamps.
+pub(crate) fn kept(alloc: Global, own: ActorRun, read: &[Entry]) -> Shared
+    ensures { result ≡ kept read.now own }
+{
+    let stamps = Items::new(alloc);
+    if !same_entries(own.entries.as_slice(), read) {
+        return Shared {
+            as_read: false,
+            stamps,
+            own,
+        };
+    }
+    let ActorRun {
+        entries: _,
+        late,
+        ending,
+        left,
+        partials,
+    } = own;
+    Shared {
+        as_read: true,
+        stamps,
+        own: ActorRun {
+            entries: Items::new(alloc),
+            late,
+            ending,
+            left,
+            partials,
+        },
+    }
+}
+
+// The entries but for their stamps.
+pub(crate) fn plain<'a>(read: &'a ActorRun, shared: &'a Shared) -> &'a [Entry]
+    ensures { result.now ≡ plain read.now shared.now }
+{
+    if shared.as_read {
+        read.entries.as_slice()
+    } else {
+        shared.own.entries.as_slice()
+    }
+}
+
+// Those of the actor at this place, or none.
+fn plain_at<'a>(reads: &'a [ActorRun], runs: &'a [Shared], place: usize) -> &'a [Entry]
+    ensures { result.now ≡ plain_at (slice_get reads.now place) (slice_get runs.now place) }
+{
+    match reads.get(place) {
+        None => &[],
+        Some(read) => match runs.get(place) {
+            None => &[],
+            Some(shared) => plain(read, shared),
+        },
+    }
+}
+
+// The posts from one actor to another, each with the stamp of the line that was read at its place.
+pub(crate) fn posts_shown(
+    alloc: Global,
+    reads: &[ActorRun],
+    runs: &[Shared],
+    from: usize,
+    to: u32,
+) -> Result<Items<Stamped>, NoMemory>
+    ensures { IfOk result (λ posts. posts ≡ posts_made to (entries_in (slice_get (shown_all reads.now runs.now) from)) (entries_in (slice_get reads.now from))) }
+{
+    let made = plain_at(reads, runs, from);
+    let lines = entries_at(reads, from);
+    posts_made(alloc, to, made, lines)
+}
