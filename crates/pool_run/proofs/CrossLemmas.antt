@@ -56,6 +56,8 @@ use Rattle.atomic_table.proofs.send_lease.SendLease.TheSendSync.{the_sync as lea
 use Rattle.atomic_table.proofs.shared.Shared.TheSendSync.{the_sync as shared-sync}
 use Rattle.std.proofs.sync.atomic.AtomicU64.TheSendSync.{the_sync as atomic-sync}
 use Rattle.actor_pool.specs.contracts.pool.Pool as Pool
+use Rattle.pool_run.specs.contracts.parts.FeedPart as FeedPart
+use Rattle.pool_run.specs.contracts.parts.Returned as Returned
 use Rattle.rtrb.proofs.end.End.TheSendSync.{the_send as end-send}
 
 lists-send : (R : RattleType) → IsSend R → IsSend (Vec.the_row (VecDeque.the_row R Global.the_row ghosts) Global.the_row ghosts)
@@ -206,3 +208,15 @@ poster-send = search (sendable, crosses, seat-send, cell-send, outward-send) dep
 -- threads may share a pool
 pub pool-sync : IsSync Pool.the_row
 pool-sync = declared_sync Pool.the_type (search (sendable, crosses, shared-sync, lease-sync, cell-send) depth 40 fits 100000, (search (sendable, crosses, shared-sync, lease-sync) depth 40 fits 100000, (search (sendable, crosses, atomic-sync) depth 40, (search (sendable, crosses) depth 40, (search (sendable, crosses) depth 40, tt)))))
+
+pub part-send : IsSend FeedPart.the_row
+part-send = declared_send FeedPart.the_type (search (sendable, crosses, poster-send) depth 40, (search (sendable, crosses, helper-send) depth 40, (search (sendable, crosses, message-send) depth 40, tt)))
+
+pub returned-send : IsSend Returned.the_row
+returned-send = declared_send Returned.the_type (search (sendable, crosses, poster-send) depth 40, (search (sendable, crosses, helper-send) depth 40, tt))
+
+pub parts-send : IsSend (Vec.the_row FeedPart.the_row Global.the_row ghosts)
+parts-send = vec-send FeedPart.the_row part-send
+
+pub helpers-send : IsSend (Vec.the_row Helper.the_row Global.the_row ghosts)
+helpers-send = vec-send Helper.the_row helper-send
