@@ -139,3 +139,7 @@ whole-now plan limits p posters h parts now helper whole same fed own first tags
       tags = subst (λ (n : ℕ). AreTagsOf plan limits n (seat_of helper).tags) (sym count) (subst (AreTagsOf plan limits (length posters)) (sym tags) whole.tags);
       wired = subst (λ (l : List PosterTag). AreWired (seat_of helper).tags l) (sym links) (subst (λ (l : List CellTag). AreWired l (map feed_tag posters)) (sym tags) whole.wired);
     }
+
+-- as many posters came back as there are feeds
+pub count-now : (p : Pool) (feeds : List (List (ℕ × Message))) (parts : List FeedPart) (now : List Poster) → map part_posts parts ≡ feeds → AllZip (IsFed p) parts now → length now ≡ length feeds
+count-now p feeds parts now posts fed = fed-count p parts now fed ∙ sym (length-map parts part_posts) ∙ ap length posts
