@@ -16,7 +16,6 @@ use denote.Hole.Fix.{holes}
 use denote.Hole.FixSend.{Sends, fix_send}
 use Rattle.guard_eval.specs.contracts.term.Operand as Operand
 use Rattle.guard_eval.specs.declared.conjunct.Atom.TheBlock as block
-use denote.Param.Send.{recorded_send, view_send, struct_send}
 use denote.Param.SendFields.{variants_send, declared_send, declared_sync, as_row_send}
 use Rattle.std.proofs.Crossing.{crosses}
 use denote.Model.Goals.{send, one_law, tied_goals, has_of, All}

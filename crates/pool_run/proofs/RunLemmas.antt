@@ -1,6 +1,6 @@
 -- From what threads gave back to what finishing asks.
-use Rattle.std.proofs.Common.{◌≡◌, ℕ, zero, suc, ◌+◌, ◌<◌, List, [], ◌∷◌, ◌++◌, Bool, true, false, All, length, map, refl, sym, ap, ◌∙◌, subst, arith}
-use Rattle.std.specs.Prelude.{Option, Some, None, slice_get, ◌==◌, if◌then◌else◌}
+use Rattle.std.proofs.Common.{◌≡◌, ℕ, zero, suc, ◌<◌, List, [], ◌∷◌, ◌++◌, Bool, true, false, All, length, map, refl, sym, ap, ◌∙◌, subst, arith}
+use Rattle.std.specs.Prelude.{Some, slice_get, ◌==◌, if◌then◌else◌}
 use Rattle.std.specs.List.{AllByRecursion, AllZip, filter_map}
 use Rattle.std.proofs.lemmas.List.{length-append, length-map}
 use Rattle.std.proofs.lemmas.List.Elements.{All-nil, All-cons, All-head, All-push, All-tail}
@@ -11,7 +11,6 @@ use Rattle.fair_semantics.specs.declared.run.Limits.{Limits}
 use Rattle.fair_semantics.specs.Fits.{PostFits}
 use Rattle.fair_semantics.specs.Linked.{feed_posts, post_for}
 use Rattle.schedule_law.specs.Reached.{FeedsFit, ValuesFit}
-use Rattle.post_ring.specs.Links.{sent}
 use Rattle.cell_links.specs.declared.ends.Outward.{Outward}
 use Rattle.cell_links.specs.Ends.{PosterTag, sent_to}
 use Rattle.cell_links.specs.Making.{IsNewOut}
@@ -20,7 +19,7 @@ use Rattle.actor_cells.specs.Prepared.{AreWired, IsNewPoster}
 use Rattle.actor_pool.specs.declared.helper.Helper.{Helper}
 use Rattle.actor_pool.specs.declared.pool.Pool.{Pool}
 use Rattle.actor_pool.specs.declared.poster.Poster.{Poster}
-use Rattle.actor_pool.specs.Helpers.{IsHelperOf, IsFirstHelper, seat_of, actor_count, feed_count}
+use Rattle.actor_pool.specs.Helpers.{IsHelperOf, IsFirstHelper, seat_of}
 use Rattle.actor_pool.specs.Posters.{IsPosterOf, feed_ends, feed_tag, feed_links}
 use Rattle.actor_pool.specs.Whole.{AreTagsOf, IsWhole}
 use Rattle.pool_run.specs.declared.parts.FeedPart.{FeedPart}

@@ -1,4 +1,4 @@
-use Rattle.std.proofs.Common.{ℕ, ◌∙◌, length, subst, sym}
+use Rattle.std.proofs.Common.{◌∙◌, length, subst, sym}
 use Rattle.std.proofs.lemmas.Result.{IfOk-weaker}
 use Rattle.fair_semantics.specs.Fits.{IsFrom1To}
 use Rattle.actor_pool.specs.Helpers.{actor_count}

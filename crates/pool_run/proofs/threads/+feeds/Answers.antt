@@ -1,4 +1,4 @@
-use Rattle.std.proofs.Common.{rules, length, ℕ}
+use Rattle.std.proofs.Common.{rules, length}
 use Rattle.std.proofs.lemmas.Result.{IfOk-at_ok}
 use denote.Param.Send.{sendable}
 use Rattle.std.proofs.Crossing.{crosses}
