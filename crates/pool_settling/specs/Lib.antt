@@ -1,7 +1,6 @@
 -- what is claimed of actors: what they stand by, and what draining links does
 pub mod Standing
 pub mod Drained
-pub mod Settling
 -- what private functions do
 pub mod Flat
 pub mod Ends

@@ -11,7 +11,5 @@
 mod apart;
 mod draining;
 mod ends;
-mod settling;
 
 pub use draining::drain_links;
-pub use settling::settle;
