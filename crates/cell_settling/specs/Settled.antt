@@ -31,6 +31,11 @@ pub record IsTagOf (plan : Plan) (limits : Limits) (feeds actor : ℕ) (tag : Ce
   pub feed_count : tag.feeds ≡ feeds
   pub actor_count : tag.actors ≡ length plan.actors
 
+-- a tag for each actor of the plan, in order
+pub record AreTagsOf (plan : Plan) (limits : Limits) (feeds : ℕ) (tags : List CellTag) : Type 0 where
+  pub count : length tags ≡ length plan.actors
+  pub each : (actor : ℕ) (tag : CellTag) → slice_get tags actor ≡ Some tag → IsTagOf plan limits feeds actor tag
+
 -- a lawful cell of each actor of the plan, in order
 pub record AreOwn (plan : Plan) (limits : Limits) (feeds : ℕ) (cells : List Cell) : Type 0 where
   pub count : length cells ≡ length plan.actors

@@ -1,12 +1,11 @@
 -- The ends of links in lists: what they carried, and the ends of one link.
-use Rattle.std.proofs.Common.{◌≡◌, ◌∙◌, ◌⊎◌, inl, inr, ℕ, zero, suc, ◌+◌, ◌<◌, ◌≤◌, List, [], ◌∷◌, ◌++◌, length, map, get_or, set, Bool, true, false, Some, slice_get, refl, ap, sym, subst, arith}
+use Rattle.std.proofs.Common.{◌≡◌, ◌∙◌, ◌⊎◌, inl, inr, ℕ, zero, suc, ◌+◌, ◌<◌, ◌≤◌, List, [], ◌∷◌, length, map, get_or, set, Bool, true, false, Some, slice_get, refl, ap, sym, subst, arith}
 use Rattle.std.specs.Prelude.{if◌then◌else◌, ◌==◌, ◌&&◌, All, slice_index_or, Result, Ok, Err, OnOk}
 use Rattle.join_base.specs.declared.items.NoMemory.{NoMemory}
 use Rattle.std.proofs.lemmas.Bool.{cases_lt}
 use Rattle.std.proofs.lemmas.List.{get_or-map, length-map, length-set}
 use Rattle.join_base.specs.declared.message.Source.{Source}
 use Rattle.join_base.specs.declared.message.Source.TheVariants.{Actor}
-use Rattle.join_base.specs.declared.message.Stamped.{Stamped}
 use Rattle.fair_semantics.specs.Linked.{same_source}
 use Rattle.run_order.proofs.EventLemmas.{same_number, same_source_is}
 use Rattle.run_order.proofs.SourceLemmas.{is_itself, itself}
@@ -58,10 +57,10 @@ get_here (y ∷ xs) (suc k) x l e = get_here xs k x (omega arith) e
 pub within_map : {X Y : Type 0} (f : X → Y) (xs : List X) (k : ℕ) → k < length xs → k < length (map f xs)
 within_map f xs k l = subst (λ (n : ℕ). k < n) (sym (length-map xs f)) l
 
-some_is : {X : Type 0} (x y : X) → Some x ≡ Some y → x ≡ y
+pub some_is : {X : Type 0} (x y : X) → Some x ≡ Some y → x ≡ y
 some_is x y h = cc
 
-same_or_not : (j k : ℕ) → (j ≡ k) ⊎ (¬ (j ≡ k))
+pub same_or_not : (j k : ℕ) → (j ≡ k) ⊎ (¬ (j ≡ k))
 same_or_not j k = by (j == k) refl
   where
     by : (b : Bool) → (j == k) ≡ b → (j ≡ k) ⊎ (¬ (j ≡ k))

@@ -3,7 +3,6 @@ use Rattle.std.proofs.Common.{◌≡◌, ◌∙◌, ◌⊎◌, inl, inr, ℕ, ze
 use Rattle.std.specs.Prelude.{if◌then◌else◌}
 use Rattle.std.specs.List.{flat_map}
 use Rattle.std.proofs.lemmas.List.{append-nil, map-append}
-use mathlib.Core.List.{IsPrefix}
 use Rattle.join_base.specs.declared.message.Source.{Source}
 use Rattle.join_base.specs.declared.message.Stamped.{Stamped}
 use Rattle.fair_semantics.specs.declared.run.Entry.{Entry}
@@ -12,7 +11,6 @@ use Rattle.fair_semantics.specs.Step.{Setting, State, fair_step}
 use Rattle.fair_semantics.specs.Linked.{entry_posts, same_source, sources}
 use Rattle.fair_semantics.proofs.SizeLemmas.{Sized, sized}
 use Rattle.run_order.proofs.EventLemmas.{same_source_is}
-use Rattle.run_order.proofs.SourceLemmas.{NoneOf, itself}
 use Rattle.post_ring.specs.declared.link_out.LinkOut.{LinkOut}
 use Rattle.post_ring.specs.Links.{has_met, received, waiting}
 use Rattle.post_ring.specs.Looks.{IsEmptyLook, IsTake}

@@ -1,5 +1,5 @@
 -- From lawful and wired cells to actors that stand by their links, and from drained links to drained actors.
-use Rattle.std.proofs.Common.{◌≡◌, ◌∙◌, ◌⊎◌, inl, inr, ℕ, zero, suc, ◌+◌, ◌<◌, List, [], ◌∷◌, ◌++◌, length, map, Bool, true, false, Option, None, Some, slice_get, refl, ap, sym, subst, arith}
+use Rattle.std.proofs.Common.{◌≡◌, ◌∙◌, ◌⊎◌, inl, inr, ℕ, zero, suc, ◌+◌, ◌<◌, List, [], ◌∷◌, ◌++◌, length, map, Bool, true, false, Option, Some, slice_get, refl, ap, sym, subst, arith}
 use Rattle.std.specs.Prelude.{if◌then◌else◌, All}
 use Rattle.std.specs.List.{AllByRecursion}
 use Rattle.std.proofs.lemmas.List.{length-map}
@@ -66,7 +66,7 @@ receivers_each P i (c ∷ cells) h =
     (All-map P (receiver_of i) c.inward.items (subst (λ (m : ℕ). All (λ w. P (receiver_of m w)) c.inward.items) n (h 0 c refl)))
     (receivers_each P (i + 1) cells (λ k d e. let m : i + suc k ≡ i + 1 + k = omega arith in subst (λ (j : ℕ). All (λ w. P (receiver_of j w)) d.inward.items) m (h (suc k) d e)))
 
-map_get : {X Y : Type 0} (f : X → Y) (xs : List X) (k : ℕ) (x : X) → slice_get xs k ≡ Some x → slice_get (map f xs) k ≡ Some (f x)
+pub map_get : {X Y : Type 0} (f : X → Y) (xs : List X) (k : ℕ) (x : X) → slice_get xs k ≡ Some x → slice_get (map f xs) k ≡ Some (f x)
 map_get f [] k x e = absurd cc
 map_get {X} f (y ∷ xs) zero x e = let same : y ≡ x = cc in ap (λ (z : X). Some (f z)) same
 map_get f (y ∷ xs) (suc k) x e = map_get f xs k x e

@@ -6,7 +6,7 @@ use Rattle.join_base.specs.declared.message.Stamped.{Stamped}
 use Rattle.fair_semantics.specs.Linked.{same_source}
 use Rattle.post_ring.specs.Links.{sent, received, identity_in, identity_out}
 use Rattle.actor_turn.specs.Held.{Held}
-use Rattle.cell_links.specs.Wiring.{AreLinked, Key}
+use Rattle.cell_links.specs.Wiring.{Key}
 use Rattle.actor_cells.specs.Lawful.{IsAmong}
 use Rattle.pool_settling.specs.declared.ends.Sender.{Sender}
 use Rattle.pool_settling.specs.declared.ends.Receiver.{Receiver}

@@ -1,6 +1,8 @@
--- what is claimed of actors: what they stand by, and what draining links does
+-- what is claimed: the run that settling gives; actors that stand by what came and went, and draining links
+pub mod Settling
 pub mod Standing
 pub mod Drained
 -- what private functions do
 pub mod Flat
 pub mod Ends
+pub mod Rounds

@@ -2,7 +2,7 @@ use Rattle.std.proofs.Common.{arith, rules, sym, subst, List, get_or}
 use Rattle.cell_links.specs.Wiring.{Key}
 use Rattle.pool_settling.specs.declared.ends.Sender.{Sender}
 use Rattle.pool_settling.specs.Ends.{IsServed, Serves, entries, keys_of}
-use Rattle.pool_settling.proofs.EndLemmas.{then_drained, then_on, then_stand, ends_meet, entries_set, get_here, has_count_of, sent_by_sender, served_at, target_there}
+use Rattle.pool_settling.proofs.EndLemmas.{then_drained, then_on, then_stand, ends_meet, entries_set, has_count_of, served_at, target_there}
 use Rattle.pool_settling.proofs.draining.drain_at.Goals as goal
 
 pub place_of-from-requires : goal.place_of-from-requires

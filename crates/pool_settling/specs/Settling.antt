@@ -1,0 +1,34 @@
+-- What settling claims: the feeds that the run is linked to, and what the arrivals of its actors go on from.
+use Rattle.std.specs.Prelude.{◌≡◌, ℕ, ◌<◌, List, ◌++◌, Some, length, map, slice_get}
+use mathlib.Core.List.{IsPrefix}
+use Rattle.join_base.specs.declared.message.Message.{Message}
+use Rattle.script_types.specs.declared.plan.Plan.{Plan}
+use Rattle.fair_semantics.specs.declared.run.ActorRun.{ActorRun}
+use Rattle.fair_semantics.specs.declared.run.Limits.{Limits}
+use Rattle.fair_semantics.specs.declared.run.Run.{Run}
+use Rattle.fair_semantics.specs.Linked.{IsLinked, feed_posts}
+use Rattle.run_order.specs.Order.{IsScheduled}
+use Rattle.schedule_law.specs.Reached.{FeedsFit}
+use Rattle.cell_links.specs.declared.poster.Poster.{Poster}
+use Rattle.cell_links.specs.Ends.{poster_links, sent_to}
+use Rattle.actor_cells.specs.declared.cell.Cell.{Cell}
+use Rattle.actor_cells.specs.Lawful.{history_of, noted}
+
+-- a feed for each poster: its posts to each actor of the plan are what the poster sent there, and then those left of it; and their values are in range
+pub record AreFeedsWith (plan : Plan) (posters : List Poster) (rest feeds : List (List (ℕ × Message))) : Type 0 where
+  pub count : length feeds ≡ length posters
+  pub values : FeedsFit feeds
+  pub each : (k actor : ℕ) (poster : Poster) → actor < length plan.actors → slice_get posters k ≡ Some poster → feed_posts actor (slice_get feeds k) ≡ sent_to (poster_links poster) actor ++ feed_posts actor (slice_get rest k)
+
+-- the run is linked to all such feeds
+abbrev pub IsLinkedToAll : Plan → Limits → List Poster → List (List (ℕ × Message)) → Run → Type 0
+IsLinkedToAll plan limits posters rest run = (feeds : List (List (ℕ × Message))) → AreFeedsWith plan posters rest feeds → IsLinked plan limits feeds run
+
+-- and over each of them it is that of one schedule
+abbrev pub IsScheduledOverAll : Plan → Limits → List Poster → List (List (ℕ × Message)) → Run → Type 0
+IsScheduledOverAll plan limits posters rest run = (feeds : List (List (ℕ × Message))) → AreFeedsWith plan posters rest feeds → IsScheduled plan limits feeds run
+
+-- a run of each cell, in order, whose arrivals begin with the history of the cell
+pub record GoesOnFrom (cells : List Cell) (run : Run) : Type 0 where
+  pub count : length run.actors ≡ length cells
+  pub history : (actor : ℕ) (cell : Cell) (own : ActorRun) → slice_get cells actor ≡ Some cell → slice_get run.actors actor ≡ Some own → IsPrefix (history_of cell) (map noted own.entries)
