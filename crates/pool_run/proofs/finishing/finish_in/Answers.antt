@@ -1,5 +1,4 @@
 use Rattle.actor_pool.specs.Helpers.{seat_of}
-use Rattle.pool_run.specs.Finishing.{IsLinkedToSent}
 use Rattle.pool_run.proofs.FinishLemmas.{linked-sent, own-wired, scheduled-sent, seen-on}
 use Rattle.std.proofs.lemmas.Result.{IfOk-weaker}
 use Rattle.pool_run.proofs.finishing.finish_in.Goals as goal
