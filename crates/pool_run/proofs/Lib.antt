@@ -1,3 +1,4 @@
+mod CrossLemmas
 mod FinishLemmas
 mod HandLemmas
 mod RunLemmas

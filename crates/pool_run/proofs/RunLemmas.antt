@@ -2,8 +2,8 @@
 use Rattle.std.proofs.Common.{◌≡◌, ℕ, zero, suc, ◌+◌, ◌<◌, List, [], ◌∷◌, ◌++◌, Bool, true, false, All, length, map, refl, sym, ap, ◌∙◌, subst, arith}
 use Rattle.std.specs.Prelude.{Option, Some, None, slice_get, ◌==◌, if◌then◌else◌}
 use Rattle.std.specs.List.{AllByRecursion, AllZip, filter_map}
-use Rattle.std.proofs.lemmas.List.{length-map}
-use Rattle.std.proofs.lemmas.List.Elements.{All-nil, All-cons, All-head, All-tail, All-get_or}
+use Rattle.std.proofs.lemmas.List.{length-append, length-map}
+use Rattle.std.proofs.lemmas.List.Elements.{All-nil, All-cons, All-head, All-push, All-tail}
 use Rattle.join_base.specs.declared.message.Message.{Message}
 use Rattle.join_base.specs.declared.message.Stamped.{Stamped}
 use Rattle.script_types.specs.declared.plan.Plan.{Plan}
@@ -24,8 +24,9 @@ use Rattle.actor_pool.specs.Helpers.{IsHelperOf, IsFirstHelper, seat_of, actor_c
 use Rattle.actor_pool.specs.Posters.{IsPosterOf, feed_ends, feed_tag, feed_links}
 use Rattle.actor_pool.specs.Whole.{AreTagsOf, IsWhole}
 use Rattle.pool_run.specs.declared.parts.FeedPart.{FeedPart}
+use Rattle.pool_run.specs.declared.parts.Returned.{Returned}
 use Rattle.pool_run.specs.Finishing.{AreSent}
-use Rattle.pool_run.specs.Parts.{IsFed, part_poster, part_posts}
+use Rattle.pool_run.specs.Parts.{AreReturned, IsFed, IsSpare, part_poster, part_posts}
 
 -- ---- what the posts of feeds are
 
@@ -85,6 +86,17 @@ module _ (p : Pool) where
   fed-at (a ∷ parts) (b ∷ posters) zero now all at = (a, refl, refl, (let e : b ≡ now = cc in subst (IsFed p a) e all.0))
   fed-at (a ∷ parts) (b ∷ posters) (suc k) now all at = fed-at parts posters k now all.1 at
 
+-- one part more came back
+pub returned-more : (p : Pool) (parts left : List FeedPart) (part : FeedPart) (workers : ℕ) (back now : Returned) (poster : Poster) (helper : Helper) → parts ≡ left ++ part ∷ [] → AreReturned p left workers back → IsFed p part poster → IsSpare p helper
+    → now.posters.items ≡ back.posters.items ++ poster ∷ [] → now.helpers.items ≡ back.helpers.items ++ helper ∷ [] → AreReturned p parts workers now
+returned-more p parts left part workers back now poster helper last before fed spare posters helpers =
+    let count = before.count in record {
+      fed = subst (λ (l : List FeedPart). AllZip (IsFed p) l now.posters.items) (sym last)
+          (subst (AllZip (IsFed p) (left ++ part ∷ [])) (sym posters) (zip-more (IsFed p) left back.posters.items part poster before.fed fed));
+      count = omega (arith, count, ap length last, ap length helpers, length-append left (part ∷ []), length-append back.helpers.items (helper ∷ []));
+      spare = subst (All (IsSpare p)) (sym helpers) (All-push (IsSpare p) back.helpers.items helper before.spare spare);
+    }
+
 -- a new poster has sent nothing
 new-sent : (ring : ℕ) (outward : List Outward) (actor : ℕ) → All (IsNewOut ring) outward → sent_to outward actor ≡ []
 new-sent ring [] actor new = refl
@@ -127,3 +139,7 @@ whole-now plan limits p posters h parts now helper whole same fed own first tags
       tags = subst (λ (n : ℕ). AreTagsOf plan limits n (seat_of helper).tags) (sym count) (subst (AreTagsOf plan limits (length posters)) (sym tags) whole.tags);
       wired = subst (λ (l : List PosterTag). AreWired (seat_of helper).tags l) (sym links) (subst (λ (l : List CellTag). AreWired l (map feed_tag posters)) (sym tags) whole.wired);
     }
+
+-- as many posters came back as there are feeds
+pub count-now : (p : Pool) (feeds : List (List (ℕ × Message))) (parts : List FeedPart) (now : List Poster) → map part_posts parts ≡ feeds → AllZip (IsFed p) parts now → length now ≡ length feeds
+count-now p feeds parts now posts fed = fed-count p parts now fed ∙ sym (length-map parts part_posts) ∙ ap length posts

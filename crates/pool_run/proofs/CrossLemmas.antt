@@ -1,0 +1,222 @@
+-- Helpers and posters may be sent to another thread.
+use denote.RattleType.{RattleType}
+use denote.Param.Send.{IsSend, IsSync, sendable}
+use denote.Struct.Field.{Field, row_field, u32-field, u64-field}
+use Rattle.std.proofs.Common.{List, [], ◌∷◌}
+use denote.Hole.{as_row}
+use denote.Hole.Layer.{enum_layer, struct_layer}
+use denote.Hole.FixLaws.{layer_row}
+use Rattle.join_base.specs.contracts.message.Relation as Relation
+use denote.Struct.Declared as S
+use Rattle.std.specs.contracts.option.Option as Option
+use Rattle.pattern_core.specs.contracts.candidate.Candidate as Candidate
+use Rattle.match_tree.specs.contracts.pending.Pending as Pending
+use Rattle.std.specs.contracts.boxed.Box as Box
+use denote.Hole.Fix.{holes}
+use denote.Hole.FixSend.{Sends, fix_send}
+use Rattle.guard_eval.specs.contracts.term.Operand as Operand
+use Rattle.guard_eval.specs.declared.conjunct.Atom.TheBlock as block
+use denote.Param.Send.{recorded_send, view_send, struct_send}
+use denote.Param.SendFields.{variants_send, declared_send, declared_sync, as_row_send}
+use Rattle.std.proofs.Crossing.{crosses}
+use denote.Model.Goals.{send, one_law, tied_goals, has_of, All}
+use denote.Model.Local.{Parts, rows}
+use Rattle.match_tree.specs.declared.node.Node.TheDeep.{the_members, member-Node}
+use Rattle.match_tree.specs.contracts.node.Node.TheKnot as knot
+use Rattle.match_tree.specs.contracts.node.Node as Node
+use Rattle.std.specs.contracts.vec.Vec as Vec
+use Rattle.std.specs.contracts.collections.VecDeque as VecDeque
+use Rattle.std.specs.contracts.alloc.Global as Global
+use Rattle.std.specs.contracts.impls.GlobalAllocator.TheImpl.{ghosts}
+use Rattle.guard_eval.specs.contracts.conjunct.Atom as Atom
+use Rattle.guard_eval.specs.contracts.conjunct.Conjunct as Conjunct
+use Rattle.guard_eval.specs.contracts.conjunct.ConjunctList as ConjunctList
+use Rattle.pattern_core.specs.contracts.definition.Definition as Definition
+use Rattle.join_base.specs.contracts.message.Message as Message
+use Rattle.join_base.specs.contracts.message.Stamped as Stamped
+use Rattle.script_types.specs.contracts.plan.Statement as Statement
+use Rattle.script_types.specs.contracts.plan.Rule as Rule
+use Rattle.match_tree.specs.contracts.tree.MatchTree as MatchTree
+use Rattle.mailbox_core.specs.contracts.mailbox.Mailbox as Mailbox
+use Rattle.actor_turn.specs.contracts.outbox.Outbox as Outbox
+use Rattle.fair_semantics.specs.contracts.run.Effect as Effect
+use Rattle.fair_semantics.specs.contracts.run.Firing as Firing
+use Rattle.fair_semantics.specs.contracts.run.Entry as Entry
+use Rattle.post_ring.specs.contracts.link_in.LinkIn as LinkIn
+use Rattle.post_ring.specs.contracts.link_out.LinkOut as LinkOut
+use Rattle.cell_links.specs.contracts.ends.Inward as Inward
+use Rattle.cell_links.specs.contracts.ends.Outward as Outward
+use Rattle.actor_turn.specs.contracts.actor.Actor as Actor
+use Rattle.actor_cells.specs.contracts.cell.Cell as Cell
+use Rattle.ready_queue.specs.contracts.pass.TicketPass as TicketPass
+use Rattle.actor_pool.specs.contracts.helper.Helper as Helper
+use Rattle.actor_pool.specs.contracts.poster.Poster as Poster
+use Rattle.atomic_table.proofs.shared.Seat.TheSendSync.{the_send as seat-send}
+use Rattle.atomic_table.proofs.send_lease.SendLease.TheSendSync.{the_sync as lease-sync}
+use Rattle.atomic_table.proofs.shared.Shared.TheSendSync.{the_sync as shared-sync}
+use Rattle.std.proofs.sync.atomic.AtomicU64.TheSendSync.{the_sync as atomic-sync}
+use Rattle.actor_pool.specs.contracts.pool.Pool as Pool
+use Rattle.pool_run.specs.contracts.parts.FeedPart as FeedPart
+use Rattle.pool_run.specs.contracts.parts.Returned as Returned
+use Rattle.rtrb.proofs.end.End.TheSendSync.{the_send as end-send}
+
+lists-send : (R : RattleType) → IsSend R → IsSend (Vec.the_row (VecDeque.the_row R Global.the_row ghosts) Global.the_row ghosts)
+lists-send R s = search (sendable, crosses) depth 40
+
+step-send : (p : Parts knot.frame) → IsSend (rows knot.frame p member-Node) → IsSend (rows knot.frame (knot.step p) member-Node)
+step-send p all = has_of knot.frame send (knot.step p) member-Node (λ d vs x. ((λ vss. (tt, ((tt, tt), ((lists-send (rows knot.frame p member-Node) all).owned (x.0.rows) (vss.1.0), tt)))), tt))
+
+by-member : (p : Parts knot.frame) → All (one_law the_members send) (rows knot.frame p) → All (one_law the_members send) (rows knot.frame (knot.step p))
+by-member p all member-Node = step-send p (all member-Node)
+
+pub node-send : IsSend Node.the_row
+node-send = tied_goals knot.frame knot.step knot.sizes (one_law the_members send) by-member member-Node
+
+vec-send : (R : RattleType) → IsSend R → IsSend (Vec.the_row R Global.the_row ghosts)
+vec-send R s = search (sendable, crosses) depth 40
+
+operand-send : IsSend Operand.the_row
+operand-send = search (sendable, crosses) depth 40
+
+relation-send : IsSend Relation.the_row
+relation-send = search (sendable, crosses) depth 40
+
+box-send : (R : RattleType) → IsSend R → IsSend (Box.the_row R Global.the_row ghosts)
+box-send R s = search (sendable, crosses) depth 40
+
+-- the fields of an atom, variant by variant, and of a conjunct, over other atoms and conjuncts
+abbrev atom_parts : RattleType → RattleType → List (List Field)
+atom_parts atom conjunct =
+    (row_field Operand.the_row ∷ row_field Relation.the_row ∷ row_field Operand.the_row ∷ []) ∷ (row_field (Box.the_row atom Global.the_row ghosts) ∷ []) ∷ (row_field conjunct ∷ []) ∷ []
+
+abbrev conjunct_parts : RattleType → List Field
+conjunct_parts atom = row_field (Vec.the_row atom Global.the_row ghosts) ∷ []
+
+atom-step : (h : block.the_members → RattleType) → IsSend (h block.member-Atom) → IsSend (h block.member-Conjunct) → IsSend (layer_row Atom.the_ring block.member-Atom h)
+atom-step h atom conjunct =
+    let operand : IsSend (as_row (row_field Operand.the_row)) = as_row_send (row_field Operand.the_row) operand-send in
+    let relation : IsSend (as_row (row_field Relation.the_row)) = as_row_send (row_field Relation.the_row) relation-send in
+    let boxed : IsSend (as_row (row_field (Box.the_row (h block.member-Atom) Global.the_row ghosts))) = as_row_send (row_field (Box.the_row (h block.member-Atom) Global.the_row ghosts)) (box-send _ atom) in
+    let group : IsSend (as_row (row_field (h block.member-Conjunct))) = as_row_send (row_field (h block.member-Conjunct)) conjunct in
+    let s = variants_send (enum_layer [] [] [] (atom_parts (h block.member-Atom) (h block.member-Conjunct))) ((operand, (relation, (operand, tt))), ((boxed, tt), ((group, tt), tt))) in
+    record { owned = s.owned; leaving = s.leaving }
+
+conjunct-step : (h : block.the_members → RattleType) → IsSend (h block.member-Atom) → IsSend (layer_row Atom.the_ring block.member-Conjunct h)
+conjunct-step h atom =
+    let s = declared_send (struct_layer [] [] [] (conjunct_parts (h block.member-Atom))) (as_row_send (row_field (Vec.the_row (h block.member-Atom) Global.the_row ghosts)) (vec-send _ atom), tt) in
+    record { owned = s.owned; leaving = s.leaving }
+
+steps : (i : block.the_members) → Sends Atom.the_ring i
+steps block.member-Atom = record { send = λ h all. atom-step h (all block.member-Atom) (all block.member-Conjunct) }
+steps block.member-Conjunct = record { send = λ h all. conjunct-step h (all block.member-Atom) }
+
+hole-send : (i : block.the_members) → IsSend (holes Atom.the_ring i)
+hole-send = fix_send Atom.the_ring steps
+
+conj-send : IsSend Conjunct.the_row
+conj-send = declared_send Conjunct.the_type (as_row_send (row_field (Vec.the_row (holes Atom.the_ring block.member-Atom) Global.the_row ghosts)) (vec-send _ (hole-send block.member-Atom)), tt)
+
+pub list-send : IsSend ConjunctList.the_row
+list-send = search (sendable, crosses, vec-send, conj-send) depth 40 fits 100000
+
+pub definition-send : IsSend Definition.the_row
+definition-send = search (sendable, crosses, list-send) depth 40 fits 100000
+
+pub message-send : IsSend Message.the_row
+message-send = search (sendable, crosses) depth 40 fits 100000
+
+pub stamped-send : IsSend Stamped.the_row
+stamped-send = search (sendable, crosses, message-send) depth 40 fits 100000
+
+pub statement-send : IsSend Statement.the_row
+statement-send = search (sendable, crosses, operand-send) depth 40 fits 100000
+
+pub rule-send : IsSend Rule.the_row
+rule-send = declared_send Rule.the_type (search (sendable, crosses, as_row_send, definition-send) depth 40, (search (sendable, crosses) depth 40, (search (sendable, crosses, statement-send) depth 40, tt)))
+
+rows-send : IsSend (Vec.the_row (VecDeque.the_row Node.the_row Global.the_row ghosts) Global.the_row ghosts)
+rows-send = lists-send Node.the_row node-send
+
+candidate-send : IsSend Candidate.the_row
+candidate-send = search (sendable, crosses) depth 40
+
+pending-send : IsSend Pending.the_row
+pending-send = search (sendable, crosses, candidate-send) depth 40
+
+maybe-send : IsSend (Option.the_row Pending.the_row)
+maybe-send = search (sendable, crosses, pending-send) depth 40
+
+abbrev tree_parts : List Field
+tree_parts = row_field Global.the_row ∷ row_field Definition.the_row ∷ u32-field ∷ row_field (Vec.the_row (VecDeque.the_row Node.the_row Global.the_row ghosts) Global.the_row ghosts) ∷ u64-field ∷ row_field (Option.the_row Pending.the_row) ∷ []
+
+tree-fields : IsSend (S.row (struct_layer [] [] [] tree_parts))
+tree-fields =
+    let alloc : IsSend (as_row (row_field Global.the_row)) = search (sendable, crosses) depth 40 in
+    let number : IsSend (as_row u32-field) = search (sendable, crosses) depth 40 in
+    let count : IsSend (as_row u64-field) = search (sendable, crosses) depth 40 in
+    declared_send (struct_layer [] [] [] tree_parts) (alloc, (as_row_send (row_field Definition.the_row) definition-send, (number, (as_row_send (row_field (Vec.the_row (VecDeque.the_row Node.the_row Global.the_row ghosts) Global.the_row ghosts)) rows-send,
+    (count, (as_row_send (row_field (Option.the_row Pending.the_row)) maybe-send, tt))))))
+
+tree-send : IsSend MatchTree.the_row
+tree-send = record {
+  owned = λ d vs x. (tree-fields.owned (x.0.alloc, (x.0.definition, (x.0.rule, (x.0.rows, (x.0.count, (x.0.pending, tt)))))) vs, tt);
+  leaving = λ k d w. tt;
+}
+
+pub mailbox-send : IsSend Mailbox.the_row
+mailbox-send = search (sendable, crosses, message-send) depth 40 fits 100000
+
+pub outbox-send : IsSend Outbox.the_row
+outbox-send = search (sendable, crosses, stamped-send) depth 40 fits 100000
+
+pub effect-send : IsSend Effect.the_row
+effect-send = search (sendable, crosses, message-send) depth 40 fits 100000
+
+pub firing-send : IsSend Firing.the_row
+firing-send = search (sendable, crosses, effect-send) depth 40 fits 100000
+
+pub entry-send : IsSend Entry.the_row
+entry-send = search (sendable, crosses, message-send, firing-send) depth 40 fits 100000
+
+pub in-send : IsSend LinkIn.the_row
+in-send = search (sendable, crosses, end-send) depth 40 fits 100000
+
+pub out-send : IsSend LinkOut.the_row
+out-send = search (sendable, crosses, end-send) depth 40 fits 100000
+
+pub inward-send : IsSend Inward.the_row
+inward-send = declared_send Inward.the_type (search (sendable, crosses, out-send) depth 40, (search (sendable, crosses, as_row_send, out-send) depth 40, tt))
+
+pub outward-send : IsSend Outward.the_row
+outward-send = declared_send Outward.the_type (search (sendable, crosses, in-send) depth 40, (search (sendable, crosses, as_row_send, in-send) depth 40, tt))
+
+pub actor-send : IsSend Actor.the_row
+actor-send = search (sendable, crosses, rule-send, mailbox-send, tree-send, firing-send, outbox-send, entry-send) depth 40 fits 100000
+
+pub cell-send : IsSend Cell.the_row
+cell-send = search (sendable, crosses, actor-send, inward-send, outward-send) depth 40 fits 100000
+
+pub pass-send : IsSend TicketPass.the_row
+pass-send = search (sendable, crosses, seat-send) depth 40 fits 100000
+
+pub helper-send : IsSend Helper.the_row
+helper-send = search (sendable, crosses, seat-send, cell-send, pass-send) depth 40 fits 100000
+
+pub poster-send : IsSend Poster.the_row
+poster-send = search (sendable, crosses, seat-send, cell-send, outward-send) depth 40 fits 100000
+
+-- threads may share a pool
+pub pool-sync : IsSync Pool.the_row
+pool-sync = declared_sync Pool.the_type (search (sendable, crosses, shared-sync, lease-sync, cell-send) depth 40 fits 100000, (search (sendable, crosses, shared-sync, lease-sync) depth 40 fits 100000, (search (sendable, crosses, atomic-sync) depth 40, (search (sendable, crosses) depth 40, (search (sendable, crosses) depth 40, tt)))))
+
+pub part-send : IsSend FeedPart.the_row
+part-send = declared_send FeedPart.the_type (search (sendable, crosses, poster-send) depth 40, (search (sendable, crosses, helper-send) depth 40, (search (sendable, crosses, message-send) depth 40, tt)))
+
+pub returned-send : IsSend Returned.the_row
+returned-send = declared_send Returned.the_type (search (sendable, crosses, poster-send) depth 40, (search (sendable, crosses, helper-send) depth 40, tt))
+
+pub parts-send : IsSend (Vec.the_row FeedPart.the_row Global.the_row ghosts)
+parts-send = vec-send FeedPart.the_row part-send
+
+pub helpers-send : IsSend (Vec.the_row Helper.the_row Global.the_row ghosts)
+helpers-send = vec-send Helper.the_row helper-send
