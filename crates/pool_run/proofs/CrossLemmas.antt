@@ -153,8 +153,19 @@ tree-fields =
     let alloc : IsSend (as_row (row_field Global.the_row)) = search (sendable, crosses) depth 40 in
     let number : IsSend (as_row u32-field) = search (sendable, crosses) depth 40 in
     let count : IsSend (as_row u64-field) = search (sendable, crosses) depth 40 in
-    declared_send (struct_layer [] [] [] tree_parts) (alloc, (as_row_send (row_field Definition.the_row) definition-send, (number, (as_row_send (row_field (Vec.the_row (VecDeque.the_row Node.the_row Global.the_row ghosts) Global.the_row ghosts)) rows-send,
-    (count, (as_row_send (row_field (Option.the_row Pending.the_row)) maybe-send, tt))))))
+    declared_send (struct_layer [] [] [] tree_parts) (
+      alloc,
+      (
+        as_row_send (row_field Definition.the_row) definition-send,
+        (
+          number,
+          (
+            as_row_send (row_field (Vec.the_row (VecDeque.the_row Node.the_row Global.the_row ghosts) Global.the_row ghosts)) rows-send,
+            (count, (as_row_send (row_field (Option.the_row Pending.the_row)) maybe-send, tt)),
+          ),
+        ),
+      ),
+    )
 
 tree-send : IsSend MatchTree.the_row
 tree-send = record {

@@ -17,8 +17,7 @@ fn run_building<R: Threads + Wait + Sync, G: Gate>(
     ring: u32,
     workers: u32,
     gate: &G,
-) -> Result<Run, NoMemory>
-{
+) -> Result<Run, NoMemory> {
     if rows < 1 || rows > 20_000 || ring < 1 || ring > 4096 || workers > 64 {
         return Err(NoMemory);
     }

@@ -23,12 +23,12 @@ pub returns-clause-linked : goal.returns-clause-linked
 returns-clause-linked g c =
     let parts = c.in_ok-parts.ensures in
     let sent = sent-now c.args.plan.now c.in_ok-pool.pool (length c.args.plan.now.actors) c.args.ring c.in_ok-pool.posters.items c.args.feeds c.in_ok-parts.parts.items c.in_ok-posters.field-0.posters.items
-        parts.posters parts.posts c.in_ok-pool.ensures.fresh c.in_ok-posters.ensures.returned.fed (feeds-fit c.args.plan.now c.args.feeds c.requires.posts) in
+    parts.posters parts.posts c.in_ok-pool.ensures.fresh c.in_ok-posters.ensures.returned.fed (feeds-fit c.args.plan.now c.args.feeds c.requires.posts) in
     IfOk-weaker c.finish.result _ _ (λ run linked. linked c.args.feeds sent) c.finish.ensures.linked
 
 pub returns-clause-scheduled : goal.returns-clause-scheduled
 returns-clause-scheduled g c =
     let parts = c.in_ok-parts.ensures in
     let sent = sent-now c.args.plan.now c.in_ok-pool.pool (length c.args.plan.now.actors) c.args.ring c.in_ok-pool.posters.items c.args.feeds c.in_ok-parts.parts.items c.in_ok-posters.field-0.posters.items
-        parts.posters parts.posts c.in_ok-pool.ensures.fresh c.in_ok-posters.ensures.returned.fed (feeds-fit c.args.plan.now c.args.feeds c.requires.posts) in
+    parts.posters parts.posts c.in_ok-pool.ensures.fresh c.in_ok-posters.ensures.returned.fed (feeds-fit c.args.plan.now c.args.feeds c.requires.posts) in
     IfOk-weaker c.finish.result _ _ (λ run scheduled. scheduled c.args.feeds sent) c.finish.ensures.scheduled
