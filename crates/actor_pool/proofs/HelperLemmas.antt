@@ -69,6 +69,17 @@ pub turn-went : (i k : ℕ) (v w1 w : SeatView) (c c0 d : Cell) (word : ℕ) →
 turn-went i k v w1 w c c0 d word at here got kept back =
     turn-done i v w1 w c d word got (subst (λ (x : Cell). IsPrefix (history_of x) (history_of d)) here kept.history) (subst (λ (m : ℕ). GivesBack history_of tally_of m w1 d word w) at back)
 
+pub went-goes : (p : Pool) (a b : Helper) (i : ℕ) (c d : Cell) → IsHelperOf p a → b.seat.seat.table_id ≡ a.seat.seat.table_id → b.pass ≡ a.pass → Went i c d (seat_of a) (seat_of b) → GoesOn p a b
+went-goes p a b i c d belongs same kept went = record {
+  own = record { seat = same ∙ belongs.seat; pass = ap (λ q. q.pass.table_id) kept ∙ belongs.pass; free = went.free };
+  role = went.role;
+  tags = went.tags;
+  seen = went.seen;
+  tries = went.tries;
+  claims = went.claims;
+  nones = (let e = ap (λ q. (pass_view q).nones) kept in omega (arith, e));
+}
+
 pub stays : (p : Pool) (a : Helper) → IsHelperOf p a → GoesOn p a a
 stays p a own = record { own = own; role = refl; tags = refl; seen = λ j. prefix-refl _; tries = omega arith; claims = omega arith; nones = omega arith }
 

@@ -12,7 +12,7 @@
 //! steps, in every schedule, a cell that nobody has the turn of is lawful, by the rule of the lock.
 //!
 //! Not said: that the calls answer `Ok` where memory is ample, that a turn is ever got, who announces whom, or that `feed`, `work`
-//! and `announce` return. The crate has no tests.
+//! and `announce` return. Its tests are those of `pool_run`.
 #![tactic(auto)]
 
 mod announcing;

@@ -1,4 +1,4 @@
--- Helpers and posters may be sent to another thread.
+-- Helpers and posters may be sent to another thread, and threads may share a pool: type by type, from what holds itself upwards. `search` finds each step, and not the whole.
 use denote.RattleType.{RattleType}
 use denote.Param.Send.{IsSend, IsSync, sendable}
 use denote.Struct.Field.{Field, row_field, u32-field, u64-field}
@@ -47,17 +47,17 @@ use Rattle.cell_links.specs.contracts.ends.Inward as Inward
 use Rattle.cell_links.specs.contracts.ends.Outward as Outward
 use Rattle.actor_turn.specs.contracts.actor.Actor as Actor
 use Rattle.actor_cells.specs.contracts.cell.Cell as Cell
-use Rattle.ready_queue.specs.contracts.pass.TicketPass as TicketPass
 use Rattle.actor_pool.specs.contracts.helper.Helper as Helper
 use Rattle.actor_pool.specs.contracts.poster.Poster as Poster
 use Rattle.atomic_table.proofs.shared.Seat.TheSendSync.{the_send as seat-send}
 use Rattle.atomic_table.proofs.send_lease.SendLease.TheSendSync.{the_sync as lease-sync}
 use Rattle.atomic_table.proofs.shared.Shared.TheSendSync.{the_sync as shared-sync}
-use Rattle.std.proofs.sync.atomic.AtomicU64.TheSendSync.{the_sync as atomic-sync}
 use Rattle.actor_pool.specs.contracts.pool.Pool as Pool
 use Rattle.pool_run.specs.contracts.parts.FeedPart as FeedPart
 use Rattle.pool_run.specs.contracts.parts.Returned as Returned
 use Rattle.rtrb.proofs.end.End.TheSendSync.{the_send as end-send}
+
+-- ---- nodes, which hold nodes in lists of lists
 
 lists-send : (R : RattleType) → IsSend R → IsSend (Vec.the_row (VecDeque.the_row R Global.the_row ghosts) Global.the_row ghosts)
 lists-send R s = search (sendable, crosses) depth 40
@@ -68,8 +68,10 @@ step-send p all = has_of knot.frame send (knot.step p) member-Node (λ d vs x. (
 by-member : (p : Parts knot.frame) → All (one_law the_members send) (rows knot.frame p) → All (one_law the_members send) (rows knot.frame (knot.step p))
 by-member p all member-Node = step-send p (all member-Node)
 
-pub node-send : IsSend Node.the_row
+node-send : IsSend Node.the_row
 node-send = tied_goals knot.frame knot.step knot.sizes (one_law the_members send) by-member member-Node
+
+-- ---- atoms and conjuncts, which hold each other
 
 vec-send : (R : RattleType) → IsSend R → IsSend (Vec.the_row R Global.the_row ghosts)
 vec-send R s = search (sendable, crosses) depth 40
@@ -91,6 +93,7 @@ atom_parts atom conjunct =
 abbrev conjunct_parts : RattleType → List Field
 conjunct_parts atom = row_field (Vec.the_row atom Global.the_row ghosts) ∷ []
 
+-- one layer of each, over what may be sent. A law sees no names, so the layer goes without
 atom-step : (h : block.the_members → RattleType) → IsSend (h block.member-Atom) → IsSend (h block.member-Conjunct) → IsSend (layer_row Atom.the_ring block.member-Atom h)
 atom-step h atom conjunct =
     let operand : IsSend (as_row (row_field Operand.the_row)) = as_row_send (row_field Operand.the_row) operand-send in
@@ -115,23 +118,25 @@ hole-send = fix_send Atom.the_ring steps
 conj-send : IsSend Conjunct.the_row
 conj-send = declared_send Conjunct.the_type (as_row_send (row_field (Vec.the_row (holes Atom.the_ring block.member-Atom) Global.the_row ghosts)) (vec-send _ (hole-send block.member-Atom)), tt)
 
-pub list-send : IsSend ConjunctList.the_row
+-- ---- what actors are made of
+
+list-send : IsSend ConjunctList.the_row
 list-send = search (sendable, crosses, vec-send, conj-send) depth 40 fits 100000
 
-pub definition-send : IsSend Definition.the_row
+definition-send : IsSend Definition.the_row
 definition-send = search (sendable, crosses, list-send) depth 40 fits 100000
 
-pub message-send : IsSend Message.the_row
+message-send : IsSend Message.the_row
 message-send = search (sendable, crosses) depth 40 fits 100000
 
-pub stamped-send : IsSend Stamped.the_row
-stamped-send = search (sendable, crosses, message-send) depth 40 fits 100000
+stamped-send : IsSend Stamped.the_row
+stamped-send = search (sendable, crosses) depth 40 fits 100000
 
-pub statement-send : IsSend Statement.the_row
+statement-send : IsSend Statement.the_row
 statement-send = search (sendable, crosses, operand-send) depth 40 fits 100000
 
-pub rule-send : IsSend Rule.the_row
-rule-send = declared_send Rule.the_type (search (sendable, crosses, as_row_send, definition-send) depth 40, (search (sendable, crosses) depth 40, (search (sendable, crosses, statement-send) depth 40, tt)))
+rule-send : IsSend Rule.the_row
+rule-send = declared_send Rule.the_type (search (sendable, crosses, definition-send) depth 40, (search (sendable, crosses) depth 40, (search (sendable, crosses, statement-send) depth 40, tt)))
 
 rows-send : IsSend (Vec.the_row (VecDeque.the_row Node.the_row Global.the_row ghosts) Global.the_row ghosts)
 rows-send = lists-send Node.the_row node-send
@@ -145,6 +150,7 @@ pending-send = search (sendable, crosses, candidate-send) depth 40
 maybe-send : IsSend (Option.the_row Pending.the_row)
 maybe-send = search (sendable, crosses, pending-send) depth 40
 
+-- the fields of a tree
 abbrev tree_parts : List Field
 tree_parts = row_field Global.the_row ∷ row_field Definition.the_row ∷ u32-field ∷ row_field (Vec.the_row (VecDeque.the_row Node.the_row Global.the_row ghosts) Global.the_row ghosts) ∷ u64-field ∷ row_field (Option.the_row Pending.the_row) ∷ []
 
@@ -173,53 +179,53 @@ tree-send = record {
   leaving = λ k d w. tt;
 }
 
-pub mailbox-send : IsSend Mailbox.the_row
+mailbox-send : IsSend Mailbox.the_row
 mailbox-send = search (sendable, crosses, message-send) depth 40 fits 100000
 
-pub outbox-send : IsSend Outbox.the_row
+outbox-send : IsSend Outbox.the_row
 outbox-send = search (sendable, crosses, stamped-send) depth 40 fits 100000
 
-pub effect-send : IsSend Effect.the_row
-effect-send = search (sendable, crosses, message-send) depth 40 fits 100000
+effect-send : IsSend Effect.the_row
+effect-send = search (sendable, crosses) depth 40 fits 100000
 
-pub firing-send : IsSend Firing.the_row
+firing-send : IsSend Firing.the_row
 firing-send = search (sendable, crosses, effect-send) depth 40 fits 100000
 
-pub entry-send : IsSend Entry.the_row
-entry-send = search (sendable, crosses, message-send, firing-send) depth 40 fits 100000
+entry-send : IsSend Entry.the_row
+entry-send = search (sendable, crosses, firing-send) depth 40 fits 100000
 
-pub in-send : IsSend LinkIn.the_row
+-- ---- links, cells, helpers and posters
+
+in-send : IsSend LinkIn.the_row
 in-send = search (sendable, crosses, end-send) depth 40 fits 100000
 
-pub out-send : IsSend LinkOut.the_row
+out-send : IsSend LinkOut.the_row
 out-send = search (sendable, crosses, end-send) depth 40 fits 100000
 
-pub inward-send : IsSend Inward.the_row
-inward-send = declared_send Inward.the_type (search (sendable, crosses, out-send) depth 40, (search (sendable, crosses, as_row_send, out-send) depth 40, tt))
+inward-send : IsSend Inward.the_row
+inward-send = declared_send Inward.the_type (search (sendable, crosses) depth 40, (search (sendable, crosses, out-send) depth 40, tt))
 
-pub outward-send : IsSend Outward.the_row
-outward-send = declared_send Outward.the_type (search (sendable, crosses, in-send) depth 40, (search (sendable, crosses, as_row_send, in-send) depth 40, tt))
+outward-send : IsSend Outward.the_row
+outward-send = declared_send Outward.the_type (search (sendable, crosses) depth 40, (search (sendable, crosses, in-send) depth 40, tt))
 
-pub actor-send : IsSend Actor.the_row
+actor-send : IsSend Actor.the_row
 actor-send = search (sendable, crosses, rule-send, mailbox-send, tree-send, firing-send, outbox-send, entry-send) depth 40 fits 100000
 
-pub cell-send : IsSend Cell.the_row
+cell-send : IsSend Cell.the_row
 cell-send = search (sendable, crosses, actor-send, inward-send, outward-send) depth 40 fits 100000
 
-pub pass-send : IsSend TicketPass.the_row
-pass-send = search (sendable, crosses, seat-send) depth 40 fits 100000
-
 pub helper-send : IsSend Helper.the_row
-helper-send = search (sendable, crosses, seat-send, cell-send, pass-send) depth 40 fits 100000
+helper-send = search (sendable, crosses, seat-send, cell-send) depth 40 fits 100000
 
-pub poster-send : IsSend Poster.the_row
+poster-send : IsSend Poster.the_row
 poster-send = search (sendable, crosses, seat-send, cell-send, outward-send) depth 40 fits 100000
 
--- threads may share a pool
-pub pool-sync : IsSync Pool.the_row
-pool-sync = declared_sync Pool.the_type (search (sendable, crosses, shared-sync, lease-sync, cell-send) depth 40 fits 100000, (search (sendable, crosses, shared-sync, lease-sync) depth 40 fits 100000, (search (sendable, crosses, atomic-sync) depth 40, (search (sendable, crosses) depth 40, (search (sendable, crosses) depth 40, tt)))))
+-- ---- what threads share, are given and give back
 
-pub part-send : IsSend FeedPart.the_row
+pub pool-sync : IsSync Pool.the_row
+pool-sync = declared_sync Pool.the_type (search (sendable, crosses, shared-sync, lease-sync, cell-send) depth 40 fits 100000, (search (sendable, crosses, shared-sync, lease-sync) depth 40 fits 100000, (search (sendable, crosses) depth 40, (search (sendable, crosses) depth 40, (search (sendable, crosses) depth 40, tt)))))
+
+part-send : IsSend FeedPart.the_row
 part-send = declared_send FeedPart.the_type (search (sendable, crosses, poster-send) depth 40, (search (sendable, crosses, helper-send) depth 40, (search (sendable, crosses, message-send) depth 40, tt)))
 
 pub returned-send : IsSend Returned.the_row

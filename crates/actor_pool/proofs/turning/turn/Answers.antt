@@ -1,10 +1,10 @@
-use Rattle.std.proofs.Common.{arith, subst, ◌∙◌}
+use Rattle.std.proofs.Common.{refl, subst, ◌∙◌}
 use Rattle.turn_lock.specs.Seats.{view_of}
 use Rattle.actor_cells.specs.declared.cell.Cell.{Cell}
 use Rattle.actor_cells.specs.Lawful.{tally_of}
 use Rattle.actor_cells.specs.Served.{Turns}
 use Rattle.actor_pool.specs.Helpers.{seat_of}
-use Rattle.actor_pool.proofs.HelperLemmas.{turn-went}
+use Rattle.actor_pool.proofs.HelperLemmas.{turn-went, went-goes}
 use Rattle.actor_pool.proofs.turning.turn.Goals as goal
 
 pub returns-in-Ok-served-clause-goes_on : goal.returns-in-Ok-served-clause-goes_on
@@ -12,30 +12,14 @@ returns-in-Ok-served-clause-goes_on g c =
     let back = c.release-asked.ensures.back in
     let went = turn-went c.args.actor c.in-Ok.held.index (seat_of c.args.helper.now) (view_of c.try_turn.new.seat) (view_of c.release-asked.new.seat)
     c.in-Ok.held.cell c.cell.result.now c.serve_noted-served.new.cell back.0 c.in-Ok.ensures.place c.cell.ensures.value c.in-Ok.ensures.got c.in-Ok-served.ensures.kept back.2 in
-    record {
-      own = record { seat = c.release-asked.ensures.own.0 ∙ c.in-Ok.ensures.own.0 ∙ c.requires.own.seat; pass = c.requires.own.pass; free = went.free };
-      role = went.role;
-      tags = went.tags;
-      seen = went.seen;
-      tries = went.tries;
-      claims = went.claims;
-      nones = omega arith;
-    }
+    went-goes c.args.pool.now c.args.helper.now _ c.args.actor c.in-Ok.held.cell c.serve_noted-served.new.cell c.requires.own (c.release-asked.ensures.own.0 ∙ c.in-Ok.ensures.own.0) refl went
 
 pub returns-in-Err-served-clause-goes_on : goal.returns-in-Err-served-clause-goes_on
 returns-in-Err-served-clause-goes_on g c =
     let back = c.release-asked.ensures.back in
     let went = turn-went c.args.actor c.in-Ok.held.index (seat_of c.args.helper.now) (view_of c.try_turn.new.seat) (view_of c.release-asked.new.seat)
     c.in-Ok.held.cell c.cell.result.now c.serve_noted-served.new.cell back.0 c.in-Ok.ensures.place c.cell.ensures.value c.in-Ok.ensures.got c.in-Err-served.ensures.kept back.2 in
-    record {
-      own = record { seat = c.release-asked.ensures.own.0 ∙ c.in-Ok.ensures.own.0 ∙ c.requires.own.seat; pass = c.requires.own.pass; free = went.free };
-      role = went.role;
-      tags = went.tags;
-      seen = went.seen;
-      tries = went.tries;
-      claims = went.claims;
-      nones = omega arith;
-    }
+    went-goes c.args.pool.now c.args.helper.now _ c.args.actor c.in-Ok.held.cell c.serve_noted-served.new.cell c.requires.own (c.release-asked.ensures.own.0 ∙ c.in-Ok.ensures.own.0) refl went
 
 pub returns-in-Ok-served-clause-served : goal.returns-in-Ok-served-clause-served
 returns-in-Ok-served-clause-served g c =
