@@ -1,8 +1,9 @@
 -- An arrival leaves no more work: it records a message only where there is room, and a body makes at most 16 posts.
-use Rattle.std.proofs.Common.{◌≡◌, ◌∙◌, ℕ, zero, suc, ◌+◌, ◌-◌, ◌*◌, ◌<◌, ◌≤◌, List, [], ◌∷◌, ◌++◌, length, length-append, set, drop, Bool, true, false, Option, None, Some, slice_get, refl, ap, sym, arith}
+use Rattle.std.proofs.Common.{◌≡◌, ◌∙◌, ℕ, zero, suc, ◌+◌, ◌-◌, ◌*◌, ◌<◌, ◌≤◌, List, [], ◌∷◌, ◌++◌, length, length-append, set, drop, Bool, true, false, Option, None, Some, slice_get, refl, ap, subst, sym, arith}
 use Rattle.std.specs.Prelude.{if◌then◌else◌, nat_le, nat_lt}
 use Rattle.std.specs.List.{sum_by}
 use Rattle.std.proofs.lemmas.Bool.Decides.{nat_tests}
+use Rattle.std.proofs.lemmas.List.Elements.{filter_map-append}
 use Rattle.std.proofs.lemmas.List.Sums.{sum_by-cons}
 use Rattle.std.proofs.Math.Seq.{drop-append_seam}
 use Rattle.join_base.specs.Taken.{without}
@@ -13,19 +14,38 @@ use Rattle.pattern_core.specs.declared.candidate.Candidate.{Candidate}
 use Rattle.pattern_core.specs.Matches.{partial_count}
 use Rattle.pattern_core.specs.Choice.{choice}
 use Rattle.script_types.specs.declared.plan.Rule.{Rule}
+use Rattle.script_types.specs.declared.plan.Statement.{Statement}
+use Rattle.script_types.specs.declared.plan.Statement.TheVariants as statement
 use Rattle.fair_semantics.specs.declared.run.Ending.TheVariants as ending
 use Rattle.fair_semantics.specs.declared.run.Outcome.TheVariants as outcome
 use Rattle.fair_semantics.specs.declared.run.Entry.{Entry}
 use Rattle.fair_semantics.specs.declared.run.Firing.{Firing}
-use Rattle.fair_semantics.specs.Body.{effects_of, stops}
+use Rattle.fair_semantics.specs.Body.{effects_of, statement_effects, stops}
 use Rattle.fair_semantics.specs.Step.{Arrival, Setting, State, Stepped, body_at, body_of, by_choice, definitions_of, entry_with, fair_step, firing_of, is_refused, is_running, letters_with, live_with, recorded, running_step, step_by}
 use Rattle.fair_semantics.proofs.ListLemmas.{each_at}
 use Rattle.fair_semantics.proofs.TakenLemmas.{or_parts}
 use Rattle.schedule_law.proofs.WorkLemmas.{AreSmall}
 use Rattle.actor_turn.specs.Held.{new_entries, posts_behind, posts_for}
-use Rattle.actor_turn.specs.Sent.{delivered, sent_by}
-use Rattle.actor_turn.proofs.BodiesLemmas.{posts_few}
+use Rattle.actor_turn.specs.Sent.{delivered, post_of, sent_by}
 use Rattle.actor_turn.proofs.PostsLemmas.{fired_posts, no_posts, unfired_posts}
+
+-- ---- a body makes a post at most with each statement
+
+module _ (letters : List Message) (taken : List ℕ) (stamp : ℕ) where
+  one_post : (s : Statement) → length (sent_by stamp (statement_effects letters taken s)) ≤ 1
+  one_post (statement.Print items) = omega arith
+  one_post (statement.Post target kind operands) = omega arith
+  one_post statement.Stop = omega arith
+  one_post (statement.Reply pattern operand) = omega arith
+
+  posts_few : (body : List Statement) → length (sent_by stamp (effects_of letters taken body)) ≤ length body
+  posts_few [] = omega arith
+  posts_few (s ∷ body) =
+      let parts = filter_map-append (post_of stamp) (statement_effects letters taken s) (effects_of letters taken body) in
+      let long = length-append (sent_by stamp (statement_effects letters taken s)) (sent_by stamp (effects_of letters taken body)) in
+      let one = one_post s in
+      let more = posts_few body in
+      subst (λ (ps : List (ℕ × Stamped)). length ps ≤ length (s ∷ body)) (sym parts) (omega arith)
 
 -- ---- sums
 
@@ -105,7 +125,7 @@ module _ (setting : Setting) (small : AreSmall setting.rules) (outbox : List (Li
   fired_few arrival c =
       let firing : Firing = record { rule = c.rule; taken = c.taken; effects = effects_of (letters_with arrival) c.taken (body_at setting.rules c.rule) } in
       let entry : Entry = entry_with arrival (Some firing) in
-      let few : length (sent_by entry.stamp firing.effects) ≤ length (body_at setting.rules c.rule) = posts_few 0 (letters_with arrival) c.taken entry.stamp (body_at setting.rules c.rule) in
+      let few : length (sent_by entry.stamp firing.effects) ≤ length (body_at setting.rules c.rule) = posts_few (letters_with arrival) c.taken entry.stamp (body_at setting.rules c.rule) in
       let body = small_body setting.rules c.rule small in
       let all = all_more (sent_by entry.stamp firing.effects) outbox in
       let is : count_of (delivered (sent_by entry.stamp firing.effects) outbox) ≡ count_of (posts_behind 0 (entry ∷ []) outbox) = ap count_of (fired_posts entry firing entry.stamp outbox refl refl) in
