@@ -1,10 +1,11 @@
 -- A message that is looked at, brought to the actor, and taken.
-use Rattle.std.proofs.Common.{◌≡◌, ◌∙◌, ℕ, zero, suc, ◌<◌, List, [], ◌∷◌, ◌++◌, length, map, get_or, set, Bool, true, false, Option, Some, None, refl, ap, sym, subst, arith}
-use Rattle.std.specs.Prelude.{Result, Ok, Err, IfOk, OnErr, MatchBool, slice_get}
+use Rattle.std.proofs.Common.{◌≡◌, ◌∙◌, ℕ, zero, suc, ◌<◌, List, [], ◌∷◌, ◌++◌, length, map, get_or, set, Option, Some, None, refl, ap, sym, subst, arith}
+use Rattle.std.specs.Prelude.{Result, Ok, Err, IfOk, OnErr, MatchOption, slice_get}
 use mathlib.Core.List.{IsPrefix}
 use Rattle.join_base.specs.declared.items.NoMemory.{NoMemory}
 use Rattle.join_base.specs.declared.message.Stamped.{Stamped}
 use Rattle.join_base.specs.Late.{HasCount}
+use Rattle.fair_semantics.specs.declared.run.Outcome.{Outcome}
 use Rattle.actor_turn.specs.Held.{Held, is_taken}
 use Rattle.post_ring.specs.declared.link_out.LinkOut.{LinkOut}
 use Rattle.post_ring.specs.Links.{empty_looks, identity_out, received, waiting}
@@ -58,15 +59,15 @@ get-set (v ∷ ws) (suc k) w within = get-set ws k w (omega arith)
 
 module _ (c after : Cell) (k : ℕ) (w : Inward) (l : LinkOut) (lawful : IsLawful c) (within : k < length c.inward.items) (here : get_or c.inward.items k w ≡ w)
     (inward : after.inward.items ≡ set c.inward.items k (record w { link = l })) (outward : after.outward.items ≡ c.outward.items) where
-  abbrev pub Found : Bool → Type 0
-  Found found = MatchBool found (Brings w.source c.actor after.actor w.link l) (FindsNone c.actor after.actor w.link l)
+  abbrev pub Found : Option Outcome → Type 0
+  Found found = MatchOption found (FindsNone c.actor after.actor w.link l) (λ outcome. Brings w.source c.actor after.actor w.link l)
 
-  pub kept : (result : Result Bool NoMemory) → IfOk result Found → OnErr result (Refuses c.actor after.actor w.link l) → IsKept c after
-  kept (Ok true) found refused = brought c after k w l lawful within here inward outward found.identity found
-  kept (Ok false) found refused = looked c after k w l lawful within here inward outward found.identity found.same found.took
+  pub kept : (result : Result (Option Outcome) NoMemory) → IfOk result Found → OnErr result (Refuses c.actor after.actor w.link l) → IsKept c after
+  kept (Ok (Some outcome)) found refused = brought c after k w l lawful within here inward outward found.identity found
+  kept (Ok None) found refused = looked c after k w l lawful within here inward outward found.identity found.same found.took
   kept (Err e) found refused = looked c after k w l lawful within here inward outward refused.identity refused.same refused.took
 
-  pub refusing : (result : Result Bool NoMemory) → OnErr result (Refuses c.actor after.actor w.link l) → OnErr result (IsRefusing after)
+  pub refusing : (result : Result (Option Outcome) NoMemory) → OnErr result (Refuses c.actor after.actor w.link l) → OnErr result (IsRefusing after)
   refusing (Ok found) refused = tt
   refusing (Err e) refused = record {
     place = k;
@@ -92,8 +93,8 @@ module _ (ws : List Inward) (before after : Held) (k : ℕ) (w : Inward) (l : Li
   tallied : (change : LinkTally → LinkTally) → link_tally (record w { link = l }) ≡ change (link_tally w) → map link_tally (set ws k (record w { link = l })) ≡ changed_at change (map link_tally ws) k
   tallied change is = tally-set change ws k w l here is
 
-  pub tally : (result : Result Bool NoMemory) → IfOk result (λ found. MatchBool found (Brings w.source before after w.link l) (FindsNone before after w.link l))
-      → IfOk result (λ found. MatchBool found (map link_tally (set ws k (record w { link = l })) ≡ changed_at one_received (map link_tally ws) k) (map link_tally (set ws k (record w { link = l })) ≡ changed_at one_look (map link_tally ws) k))
-  tally (Ok true) found = tallied one_received (λ i. record { received = (ap length found.took ∙ length-append (received w.link) (found.message ∷ [])) i; empty_looks = found.looks i })
-  tally (Ok false) found = tallied one_look (λ i. record { received = length (found.took i); empty_looks = found.looks i })
+  pub tally : (result : Result (Option Outcome) NoMemory) → IfOk result (λ found. MatchOption found (FindsNone before after w.link l) (λ outcome. Brings w.source before after w.link l))
+      → IfOk result (λ found. MatchOption found (map link_tally (set ws k (record w { link = l })) ≡ changed_at one_look (map link_tally ws) k) (λ outcome. map link_tally (set ws k (record w { link = l })) ≡ changed_at one_received (map link_tally ws) k))
+  tally (Ok (Some outcome)) found = tallied one_received (λ i. record { received = (ap length found.took ∙ length-append (received w.link) (found.message ∷ [])) i; empty_looks = found.looks i })
+  tally (Ok None) found = tallied one_look (λ i. record { received = length (found.took i); empty_looks = found.looks i })
   tally (Err e) found = tt

@@ -69,8 +69,8 @@ impl Cell {
         send_over(&mut self.actor, one.target, &mut one.link)
     }
 
-    // Notes what was moved and what is left.
-    fn note(&mut self, moved: u32, held: u32)
+    /// Notes what was moved and what is left.
+    pub(crate) fn note(&mut self, moved: u32, held: u32)
         requires lawful { IsLawful self.old }
         ensures kept { IsKept self.old self.new }
         ensures inward { self.new.inward ≡ self.old.inward }
@@ -80,15 +80,14 @@ impl Cell {
         self.held = held;
     }
 
-    /// Moves posts from the outboxes to their links as far as room is known. The answer is the mask with the bits of those that
-    /// something was sent to.
-    pub(crate) fn send(&mut self, mask: u32) -> u32
+    // Moves posts from the outboxes to their links as far as room is known, and notes it beside what was moved before.
+    fn send(&mut self)
         requires lawful { IsLawful self.old }
         ensures kept { IsKept self.old self.new }
         ensures inward { self.new.inward ≡ self.old.inward }
         ensures state { state_in self.new ≡ state_in self.old }
     {
-        let mut moved = mask;
+        let mut moved = self.moved;
         let mut held = 0;
         for place in 0..self.outward.len() {
             let sent = self.send_at(place);
@@ -96,6 +95,18 @@ impl Cell {
             held = with_bit(held, sent.target, sent.held);
         }
         self.note(moved, held);
-        moved
+    }
+
+    /// Moves posts where the outboxes may hold some: those that a firing has just made, or those that were left before.
+    pub(crate) fn send_rest(&mut self, fired: bool)
+        requires lawful { IsLawful self.old }
+        ensures kept { IsKept self.old self.new }
+        ensures inward { self.new.inward ≡ self.old.inward }
+        ensures state { state_in self.new ≡ state_in self.old }
+    {
+        if !fired && self.held == 0 {
+            return;
+        }
+        self.send();
     }
 }

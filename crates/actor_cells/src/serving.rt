@@ -1,5 +1,5 @@
 //! Serving a cell.
-ghost use Rattle.std.specs.Prelude.{◌≡◌, ◌<◌, ◌≤◌, ◌+◌, length, IfOk, OnErr, OnOk, MatchBool};
+ghost use Rattle.std.specs.Prelude.{◌≡◌, ◌<◌, ◌≤◌, ◌+◌, length, IfOk, OnErr, OnOk, MatchBool, MatchOption};
 ghost use Rattle.join_base.specs.Late.{HasCount};
 ghost use Rattle.actor_cells.specs.Lawful.{IsLawful, tally_of};
 ghost use Rattle.actor_cells.specs.Served.{IsKept, IsRefusing, LooksRose, Turns, all_received};
@@ -7,6 +7,7 @@ ghost use Rattle.actor_cells.specs.Steps.{Brings, FindsNone, LooksStay, Refuses,
 
 use crate::cell::Cell;
 use actor_turn::Actor;
+use fair_semantics::Outcome;
 use join_base::{NoMemory, Source, Steps};
 use post_ring::LinkOut;
 use std::alloc::Global;
@@ -21,24 +22,25 @@ pub enum Turned {
     Dry,
 }
 
-// Brings the message that waits first on a link to the actor, and takes it then. Without memory it stays.
+// Brings the message that waits first on a link to the actor, and takes it then. The answer is what became of it, or `None` where
+// the link showed nothing. Without memory the message stays.
 fn bring_one<L: Ledger>(
     alloc: Global,
     actor: &mut Actor,
     source: Source,
     link: &mut LinkOut,
     steps: &mut Steps<L>,
-) -> Result<bool, NoMemory>
+) -> Result<Option<Outcome>, NoMemory>
     requires known { HasCount actor.old.state.late source }
-    ensures brought { IfOk result (λ found. MatchBool found (Brings source actor.old actor.new link.old link.new) (FindsNone actor.old actor.new link.old link.new)) }
+    ensures brought { IfOk result (λ found. MatchOption found (FindsNone actor.old actor.new link.old link.new) (λ outcome. Brings source actor.old actor.new link.old link.new)) }
     ensures refused { OnErr result (Refuses actor.old actor.new link.old link.new) }
 {
     let Some(stamped) = link.peek() else {
-        return Ok(false);
+        return Ok(None);
     };
-    actor.arrive(alloc, source, &stamped.message, stamped.stamp, steps)?;
+    let outcome = actor.arrive(alloc, source, &stamped.message, stamped.stamp, steps)?;
     let _ = link.take();
-    Ok(true)
+    Ok(Some(outcome))
 }
 
 fn one_if(found: bool) -> u32
@@ -57,6 +59,24 @@ impl Cell {
         alloc: Global,
         place: usize,
         steps: &mut Steps<L>,
+    ) -> Result<Option<Outcome>, NoMemory>
+        requires within { place < length self.old.inward.items }
+        requires lawful { IsLawful self.old }
+        ensures kept { IsKept self.old self.new }
+        ensures tally { IfOk result (λ found. MatchOption found (tally_of self.new ≡ changed_at one_look (tally_of self.old) place) (λ outcome. tally_of self.new ≡ changed_at one_received (tally_of self.old) place)) }
+        ensures refused { OnErr result (IsRefusing self.new) }
+    {
+        let one = &mut self.inward[place];
+        bring_one(alloc, &mut self.actor, one.source, &mut one.link, steps)
+    }
+
+    // Brings the message that waits first on the link at a place, and moves the posts that it made to their links. So what an actor
+    // posts to itself stands on its own link when that is looked at next.
+    fn bring_and_send<L: Ledger>(
+        &mut self,
+        alloc: Global,
+        place: usize,
+        steps: &mut Steps<L>,
     ) -> Result<bool, NoMemory>
         requires within { place < length self.old.inward.items }
         requires lawful { IsLawful self.old }
@@ -64,8 +84,11 @@ impl Cell {
         ensures tally { IfOk result (λ found. MatchBool found (tally_of self.new ≡ changed_at one_received (tally_of self.old) place) (tally_of self.new ≡ changed_at one_look (tally_of self.old) place)) }
         ensures refused { OnErr result (IsRefusing self.new) }
     {
-        let one = &mut self.inward[place];
-        bring_one(alloc, &mut self.actor, one.source, &mut one.link, steps)
+        let Some(outcome) = self.bring(alloc, place, steps)? else {
+            return Ok(false);
+        };
+        self.send_rest(outcome == Outcome::Fired);
+        Ok(true)
     }
 
     // Looks at each inward link once and takes its first message, until so many were taken.
@@ -89,7 +112,7 @@ impl Cell {
             if taken == most {
                 return Ok(taken);
             }
-            taken += one_if(self.bring(alloc, place, steps)?);
+            taken += one_if(self.bring_and_send(alloc, place, steps)?);
         }
         Ok(taken)
     }
@@ -121,7 +144,7 @@ impl Cell {
     }
 
     /// Moves posts from the outboxes to their links as far as room is known, brings messages of the inward links to the actor in
-    /// rounds, and moves posts again. `More` exactly where `MOST` messages were taken.
+    /// rounds, and moves the posts that each of them made. `More` exactly where `MOST` messages were taken.
     /// After `NoMemory` the message that was refused still waits first on its link, and the earlier ones have arrived.
     pub fn serve<L: Ledger>(
         &mut self,
@@ -133,9 +156,10 @@ impl Cell {
         ensures turned { IfOk result (Turns (tally_of self.old) (tally_of self.new)) }
         ensures refused { OnErr result (IsRefusing self.new) }
     {
-        let moved = self.send(0);
+        self.note(0, self.held);
+        self.send_rest(false);
         let turned = self.take_all(alloc, steps)?;
-        self.send(moved);
+        self.send_rest(false);
         Ok(turned)
     }
 }
