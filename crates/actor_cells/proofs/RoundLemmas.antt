@@ -6,52 +6,107 @@ use Rattle.actor_cells.specs.declared.cell.Cell.{Cell}
 use Rattle.actor_cells.specs.declared.cell.LinkTally.{LinkTally}
 use Rattle.actor_cells.specs.Lawful.{IsLawful, link_tally, tally_of}
 use Rattle.actor_cells.specs.Served.{IsKept, LooksRose, all_received}
-use Rattle.actor_cells.specs.Steps.{LooksStay, changed_at, looked_first, one_if, one_look, one_received}
+use Rattle.actor_cells.specs.Steps.{LooksStay, TakesMany, changed_at, looked_first, one_look, one_received}
 use Rattle.actor_cells.proofs.CellLemmas.{kept-refl, kept-trans, prefix-refl}
 use Rattle.actor_cells.proofs.TallyLemmas.{length-changed, looked-all, looked-more, received-look, received-one, stay-look, stay-received, stay-refl, stay-trans}
+
+-- ---- what is taken
+
+pub takes-none : (tally : List LinkTally) → TakesMany tally tally 0
+takes-none tally = record { took = omega arith; stay = stay-refl tally; count = refl }
+
+pub takes-trans : (a b c : List LinkTally) (m n : ℕ) → TakesMany a b m → TakesMany b c n → TakesMany a c (m + n)
+takes-trans a b c m n p q =
+    let one = p.took in
+    let two = q.took in
+    record { took = omega (arith, one, two); stay = stay-trans a b c p.stay q.stay; count = q.count ∙ p.count }
+
+-- the link at a place was looked at
+abbrev pub Tallied : List LinkTally → List LinkTally → ℕ → Bool → Type 0
+Tallied before after place found = MatchBool found (after ≡ changed_at one_received before place) (after ≡ changed_at one_look before place)
+
+pub takes-one : (before after : List LinkTally) (place : ℕ) → place < length before → after ≡ changed_at one_received before place → TakesMany before after 1
+takes-one before after place within is = record {
+  took = ap all_received is ∙ received-one before place within;
+  stay = subst (LooksStay before) (sym is) (stay-received before place);
+  count = ap length is ∙ length-changed one_received before place;
+}
+
+pub takes-look : (before after : List LinkTally) (place : ℕ) → after ≡ changed_at one_look before place → TakesMany before after 0
+takes-look before after place is =
+    let same = ap all_received is ∙ received-look before place in
+    record {
+      took = omega (arith, same);
+      stay = subst (LooksStay before) (sym is) (stay-look before place);
+      count = ap length is ∙ length-changed one_look before place;
+    }
+
+-- it showed nothing
+pub tallied-none : (before after : List LinkTally) (place : ℕ) (found : Bool) → found ≡ false → Tallied before after place found → after ≡ changed_at one_look before place
+tallied-none before after place true e t = absurd cc
+tallied-none before after place false e t = t
+
+-- its message was taken
+pub tallied-one : (before after : List LinkTally) (place : ℕ) (found : Bool) → found ≡ true → Tallied before after place found → after ≡ changed_at one_received before place
+tallied-one before after place true e t = t
+tallied-one before after place false e t = absurd cc
+
+-- and then so many more
+pub takes-behind : (a b c : List LinkTally) (place more : ℕ) → place < length a → b ≡ changed_at one_received a place → TakesMany b c more → TakesMany a c (more + 1)
+takes-behind a b c place more within is takes = subst (TakesMany a c) (let e : 1 + more ≡ more + 1 = omega arith in e) (takes-trans a b c 1 more (takes-one a b place within is) takes)
+
+pub tally-within : (c : Cell) (place : ℕ) → place < length c.inward.items → place < length (tally_of c)
+tally-within c place l = let a = length-map c.inward.items link_tally in omega (arith, l, a)
+
+-- ---- posts to itself, so many of which were taken from the link at a place
+pub record Own (c now : Cell) (place taken : ℕ) : Type 0 where
+  pub kept : IsKept c now
+  pub takes : TakesMany (tally_of c) (tally_of now) taken
+  pub within : place < length now.inward.items
+
+pub own-first : (c : Cell) (place : ℕ) → IsLawful c → place < length c.inward.items → Own c c place 0
+own-first c place lawful within = record { kept = kept-refl c lawful; takes = takes-none (tally_of c); within = within }
+
+pub own-more : (c now next : Cell) (place taken : ℕ) → Own c now place taken → IsKept now next → tally_of next ≡ changed_at one_received (tally_of now) place → Own c next place (taken + 1)
+own-more c now next place taken o kept is =
+    let one = takes-one (tally_of now) (tally_of next) place (tally-within now place o.within) is in
+    let a = length-map now.inward.items link_tally in
+    let b = length-map next.inward.items link_tally in
+    let count = one.count in
+    let within = o.within in
+    record {
+      kept = kept-trans c now next o.kept kept;
+      takes = takes-trans (tally_of c) (tally_of now) (tally_of next) taken 1 o.takes one;
+      within = omega (arith, within, a, b, count);
+    }
+
+pub own-end : (c now next : Cell) (place taken : ℕ) → Own c now place taken → tally_of next ≡ changed_at one_look (tally_of now) place → TakesMany (tally_of c) (tally_of next) taken
+own-end c now next place taken o is =
+    subst (TakesMany (tally_of c) (tally_of next)) (let e : taken + 0 ≡ taken = omega arith in e) (takes-trans (tally_of c) (tally_of now) (tally_of next) taken 0 o.takes (takes-look (tally_of now) (tally_of next) place is))
+
+-- ---- rounds
 
 -- the first links of a round were looked at, and so many messages were taken
 pub record Round (c now : Cell) (most place taken : ℕ) : Type 0 where
   pub kept : IsKept c now
   pub few : taken ≤ most
-  pub took : all_received (tally_of now) ≡ all_received (tally_of c) + taken
-  pub stay : LooksStay (tally_of c) (tally_of now)
+  pub takes : TakesMany (tally_of c) (tally_of now) taken
   pub none : taken ≡ 0 → tally_of now ≡ looked_first place (tally_of c)
-  pub count : length (tally_of now) ≡ length (tally_of c)
 
 pub round-first : (c : Cell) (most : ℕ) → IsLawful c → Round c c most 0 0
-round-first c most lawful = record { kept = kept-refl c lawful; few = omega arith; took = omega arith; stay = stay-refl (tally_of c); none = λ e. refl; count = refl }
+round-first c most lawful = record { kept = kept-refl c lawful; few = omega arith; takes = takes-none (tally_of c); none = λ e. refl }
 
-abbrev pub Tallied : Cell → Cell → ℕ → Bool → Type 0
-Tallied now next place found = MatchBool found (tally_of next ≡ changed_at one_received (tally_of now) place) (tally_of next ≡ changed_at one_look (tally_of now) place)
-
-pub round-more : (c now next : Cell) (most place taken more : ℕ) (found : Bool) → Round c now most place taken → place < length (tally_of now) → ¬ (taken ≡ most) → more ≡ one_if found → IsKept now next → Tallied now next place found → Round c next most (place + 1) (taken + more)
-round-more c now next most place taken more true r within unfull is kept t =
-    let one = ap all_received t ∙ received-one (tally_of now) place within in
-    let few = r.few in
-    let took = r.took in
+pub round-more : (c now next : Cell) (most place taken more : ℕ) → Round c now most place taken → place < length (tally_of now) → taken + more ≤ most → IsKept now next
+    → TakesMany (tally_of now) (tally_of next) more → (more ≡ 0 → tally_of next ≡ changed_at one_look (tally_of now) place) → Round c next most (place + 1) (taken + more)
+round-more c now next most place taken more r within few kept takes none =
+    let count = r.takes.count in
     record {
       kept = kept-trans c now next r.kept kept;
-      few = omega (arith, few, unfull, is);
-      took = omega (arith, one, took, is);
-      stay = stay-trans (tally_of c) (tally_of now) (tally_of next) r.stay (subst (LooksStay (tally_of now)) (sym t) (stay-received (tally_of now) place));
-      none = λ e. absurd (omega (arith, e, is));
-      count = ap length t ∙ length-changed one_received (tally_of now) place ∙ r.count;
-    }
-round-more c now next most place taken more false r within unfull is kept t =
-    let one = ap all_received t ∙ received-look (tally_of now) place in
-    let few = r.few in
-    let took = r.took in
-    let count = r.count in
-    record {
-      kept = kept-trans c now next r.kept kept;
-      few = omega (arith, few, unfull, is);
-      took = omega (arith, one, took, is);
-      stay = stay-trans (tally_of c) (tally_of now) (tally_of next) r.stay (subst (LooksStay (tally_of now)) (sym t) (stay-look (tally_of now) place));
+      few = few;
+      takes = takes-trans (tally_of c) (tally_of now) (tally_of next) taken more r.takes takes;
       none = λ e.
           let before : tally_of now ≡ looked_first place (tally_of c) = r.none (omega (arith, e)) in
-          t ∙ ap (λ (ts : List LinkTally). changed_at one_look ts place) before ∙ looked-more place (tally_of c) (omega (arith, within, count));
-      count = ap length t ∙ length-changed one_look (tally_of now) place ∙ count;
+          none (omega (arith, e)) ∙ ap (λ (ts : List LinkTally). changed_at one_look ts place) before ∙ looked-more place (tally_of c) (omega (arith, within, count));
     }
 
 -- all links were looked at
@@ -64,7 +119,7 @@ pub place-within : (c now : Cell) (most place taken : ℕ) → Round c now most 
 place-within c now most place taken r l =
     let a = length-map c.inward.items link_tally in
     let b = length-map now.inward.items link_tally in
-    let count = r.count in
+    let count = r.takes.count in
     (omega (arith, l, a, b, count), omega (arith, l, a, count))
 
 -- ---- the same cell with other notes

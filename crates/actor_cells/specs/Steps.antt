@@ -1,5 +1,5 @@
 -- What private functions do.
-use Rattle.std.specs.Prelude.{◌≡◌, ℕ, zero, suc, ◌+◌, ◌-◌, ◌^◌, ◌≤◌, min, List, [], ◌∷◌, ◌++◌, Bool, true, false, length}
+use Rattle.std.specs.Prelude.{◌≡◌, ℕ, zero, suc, ◌+◌, ◌-◌, ◌^◌, ◌≤◌, min, List, [], ◌∷◌, ◌++◌, true, length}
 use Rattle.std.specs.List.{AllByRecursion}
 use mathlib.Core.List.{IsPrefix}
 use Rattle.join_base.specs.declared.message.Source.{Source}
@@ -10,6 +10,7 @@ use Rattle.post_ring.specs.Links.{empty_looks, identity_in, identity_out, one_mo
 use Rattle.fair_semantics.specs.Step.{fair_step}
 use Rattle.actor_turn.specs.Held.{Held, is_taken, new_entries, posts_behind, posts_for}
 use Rattle.actor_cells.specs.declared.cell.LinkTally.{LinkTally}
+use Rattle.actor_cells.specs.Served.{all_received}
 
 -- a message was taken from the link of a source, and the actor did its fair step
 pub record Brings (source : Source) (before after : Held) (old now : LinkOut) : Type 0 where
@@ -53,10 +54,6 @@ AreSmall posts = AllByRecursion (λ post. post.stamp ≤ 4294967295) posts
 
 -- ---- tallies
 
-abbrev pub one_if : Bool → ℕ
-one_if false = 0
-one_if true = 1
-
 abbrev pub one_received : LinkTally → LinkTally
 one_received link = record { received = link.received + 1; empty_looks = link.empty_looks }
 
@@ -81,3 +78,9 @@ LooksStay [] [] = Unit {0}
 LooksStay [] (link ∷ after) = ⊥
 LooksStay (link ∷ before) [] = ⊥
 LooksStay (link ∷ before) (now ∷ after) = (min link.empty_looks (2 ^ 64 - 1) ≤ min now.empty_looks (2 ^ 64 - 1)) × LooksStay before after
+
+-- so many messages were taken, and no number of empty looks fell
+pub record TakesMany (before after : List LinkTally) (taken : ℕ) : Type 0 where
+  pub took : all_received after ≡ all_received before + taken
+  pub stay : LooksStay before after
+  pub count : length after ≡ length before

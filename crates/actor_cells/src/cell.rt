@@ -14,6 +14,9 @@ pub struct Cell {
     pub actor: Actor,
     pub inward: Vec<Inward>,
     pub outward: Vec<Outward>,
+    /// The place of the actor's link to itself among those inward, or one behind them where it posts nothing to itself. No clause
+    /// rests on it.
+    pub own: usize,
     /// Bit t is set where the last `serve` sent something to actor t. No clause rests on it.
     pub moved: u32,
     /// Bit t is set where a post for actor t was left in its outbox by the last `serve`. No clause rests on it.

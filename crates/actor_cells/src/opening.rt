@@ -9,11 +9,21 @@ ghost use Rattle.actor_cells.specs.Targets.{new_actors};
 
 use crate::cell::Cell;
 use actor_turn::Actor;
-use cell_links::ActorLinks;
+use cell_links::{ActorLinks, Inward};
 use fair_semantics::Limits;
-use join_base::NoMemory;
+use join_base::{NoMemory, Source};
 use script_types::Plan;
 use std::alloc::Global;
+
+// The place of the link from this actor, or one behind the links where there is none.
+fn own_place(links: &[Inward], actor: u32) -> usize {
+    for place in 0..links.len() {
+        if links[place].source == Source::Actor(actor) {
+            return place;
+        }
+    }
+    links.len()
+}
 
 /// The cells of the actors of a plan before their first arrivals, with these links.
 pub fn opening_cells(
@@ -36,10 +46,12 @@ pub fn opening_cells(
     for own in links {
         let actor = Actor::new(alloc, plan, index, limits, feeds)?;
         let ActorLinks { inward, outward } = own;
+        let place = own_place(inward.as_slice(), index);
         cells.push(Cell {
             actor,
             inward,
             outward,
+            own: place,
             moved: 0,
             held: 0,
         })?;

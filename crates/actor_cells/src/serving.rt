@@ -1,9 +1,9 @@
 //! Serving a cell.
-ghost use Rattle.std.specs.Prelude.{◌≡◌, ◌<◌, ◌≤◌, ◌+◌, length, IfOk, OnErr, OnOk, MatchBool, MatchOption};
+ghost use Rattle.std.specs.Prelude.{◌≡◌, ◌<◌, ◌≤◌, length, IfOk, OnErr, OnOk, MatchBool, MatchOption};
 ghost use Rattle.join_base.specs.Late.{HasCount};
 ghost use Rattle.actor_cells.specs.Lawful.{IsLawful, tally_of};
-ghost use Rattle.actor_cells.specs.Served.{IsKept, IsRefusing, LooksRose, Turns, all_received};
-ghost use Rattle.actor_cells.specs.Steps.{Brings, FindsNone, LooksStay, Refuses, changed_at, one_if, one_look, one_received};
+ghost use Rattle.actor_cells.specs.Served.{IsKept, IsRefusing, LooksRose, Turns};
+ghost use Rattle.actor_cells.specs.Steps.{Brings, FindsNone, Refuses, TakesMany, changed_at, one_look, one_received};
 
 use crate::cell::Cell;
 use actor_turn::Actor;
@@ -43,15 +43,12 @@ fn bring_one<L: Ledger>(
     Ok(Some(outcome))
 }
 
-fn one_if(found: bool) -> u32
-    ensures { result ≡ one_if found }
-{
-    if found { 1 } else { 0 }
-}
-
 impl Cell {
     /// The most messages that one `serve` takes.
     pub const MOST: u32 = 256;
+
+    /// The most messages of an actor to itself that come before one that waits on another link.
+    pub const OWN: u32 = 64;
 
     // Brings the message that waits first on the link at a place.
     fn bring<L: Ledger>(
@@ -91,7 +88,58 @@ impl Cell {
         Ok(true)
     }
 
-    // Looks at each inward link once and takes its first message, until so many were taken.
+    // TakesMany what the actor posted to itself, at most `OWN` messages and at most so many.
+    fn take_own<L: Ledger>(
+        &mut self,
+        alloc: Global,
+        most: u32,
+        steps: &mut Steps<L>,
+    ) -> Result<u32, NoMemory>
+        requires lawful { IsLawful self.old }
+        ensures kept { IsKept self.old self.new }
+        ensures few { IfOk result (λ taken. taken ≤ most) }
+        ensures row { IfOk result (λ taken. taken ≤ 64) }
+        ensures taken { IfOk result (λ taken. TakesMany (tally_of self.old) (tally_of self.new) taken) }
+        ensures refused { OnErr result (IsRefusing self.new) }
+    {
+        let place = self.own;
+        if place >= self.inward.len() {
+            return Ok(0);
+        }
+        let limit = most.min(Cell::OWN);
+        for taken in 0..limit {
+            if !self.bring_and_send(alloc, place, steps)? {
+                return Ok(taken);
+            }
+        }
+        Ok(limit)
+    }
+
+    // TakesMany the first message of the link at a place, and then what the actor posted to itself, at most so many.
+    fn take_at<L: Ledger>(
+        &mut self,
+        alloc: Global,
+        place: usize,
+        most: u32,
+        steps: &mut Steps<L>,
+    ) -> Result<u32, NoMemory>
+        requires some { 1 ≤ most }
+        requires within { place < length self.old.inward.items }
+        requires lawful { IsLawful self.old }
+        ensures kept { IsKept self.old self.new }
+        ensures few { IfOk result (λ taken. taken ≤ most) }
+        ensures taken { IfOk result (λ taken. TakesMany (tally_of self.old) (tally_of self.new) taken) }
+        ensures none { IfOk result (λ taken. taken ≡ 0 → tally_of self.new ≡ changed_at one_look (tally_of self.old) place) }
+        ensures refused { OnErr result (IsRefusing self.new) }
+    {
+        if !self.bring_and_send(alloc, place, steps)? {
+            return Ok(0);
+        }
+        let own = self.take_own(alloc, most - 1, steps)?;
+        Ok(own + 1)
+    }
+
+    // Looks at each inward link once and takes its first message and the posts to itself that follow, until so many were taken.
     fn take_round<L: Ledger>(
         &mut self,
         alloc: Global,
@@ -102,8 +150,7 @@ impl Cell {
         requires lawful { IsLawful self.old }
         ensures kept { IsKept self.old self.new }
         ensures few { IfOk result (λ taken. taken ≤ most) }
-        ensures taken { IfOk result (λ taken. all_received (tally_of self.new) ≡ all_received (tally_of self.old) + taken) }
-        ensures stay { OnOk result (LooksStay (tally_of self.old) (tally_of self.new)) }
+        ensures taken { IfOk result (λ taken. TakesMany (tally_of self.old) (tally_of self.new) taken) }
         ensures none { IfOk result (λ taken. taken ≡ 0 → LooksRose (tally_of self.old) (tally_of self.new)) }
         ensures refused { OnErr result (IsRefusing self.new) }
     {
@@ -112,12 +159,12 @@ impl Cell {
             if taken == most {
                 return Ok(taken);
             }
-            taken += one_if(self.bring_and_send(alloc, place, steps)?);
+            taken += self.take_at(alloc, place, most - taken, steps)?;
         }
         Ok(taken)
     }
 
-    // Takes messages in rounds.
+    // TakesMany what the actor posted to itself, and then messages in rounds.
     fn take_all<L: Ledger>(
         &mut self,
         alloc: Global,
@@ -128,7 +175,7 @@ impl Cell {
         ensures turned { IfOk result (Turns (tally_of self.old) (tally_of self.new)) }
         ensures refused { OnErr result (IsRefusing self.new) }
     {
-        let mut taken = 0u32;
+        let mut taken = self.take_own(alloc, Cell::MOST, steps)?;
         for _ in 0..Cell::MOST {
             let left = Cell::MOST - taken;
             let more = self.take_round(alloc, left, steps)?;
@@ -144,7 +191,8 @@ impl Cell {
     }
 
     /// Moves posts from the outboxes to their links as far as room is known, brings messages of the inward links to the actor in
-    /// rounds, and moves the posts that each of them made. `More` exactly where `MOST` messages were taken.
+    /// rounds, and moves the posts that each of them made. What the actor posts to itself comes before the next message of another
+    /// link, up to `OWN` in a row. `More` exactly where `MOST` messages were taken.
     /// After `NoMemory` the message that was refused still waits first on its link, and the earlier ones have arrived.
     pub fn serve<L: Ledger>(
         &mut self,

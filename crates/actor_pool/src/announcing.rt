@@ -23,10 +23,14 @@ pub fn announce<R: Wait>(rt: &R, pool: &Pool, helper: &mut Helper, actor: u32)
     }
 }
 
-// Whether the latest turn of the helper left something to do for the actor. No clause rests on the answer.
+// Whether the latest turn of the helper left something to do for the actor. What an actor posted to itself was brought in its turn,
+// unless that had to end before. No clause rests on the answer.
 fn is_due(helper: &Helper, actor: u32) -> bool {
     let noted = &helper.noted;
-    (noted.again && noted.actor == actor) || noted.moved & (1 << (actor % 32)) != 0
+    if noted.actor == actor {
+        return noted.again;
+    }
+    noted.moved & (1 << (actor % 32)) != 0
 }
 
 // Flags and announces the actor where the latest turn of the helper left something to do for it.

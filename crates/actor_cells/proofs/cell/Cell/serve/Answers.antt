@@ -1,6 +1,6 @@
 use Rattle.std.proofs.Common.{sym, subst, List, ◌∙◌}
 use Rattle.actor_cells.specs.declared.cell.LinkTally.{LinkTally}
-use Rattle.actor_cells.specs.Served.{IsKept, Turns}
+use Rattle.actor_cells.specs.Served.{Turns}
 use Rattle.actor_cells.proofs.CellLemmas.{kept-trans}
 use Rattle.actor_cells.proofs.RoundLemmas.{same-tally}
 use Rattle.actor_cells.proofs.cell.Cell.serve.Goals as goal
