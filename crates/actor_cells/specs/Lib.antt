@@ -3,6 +3,7 @@ pub mod Lawful
 pub mod Served
 pub mod AllLawful
 pub mod Prepared
+pub mod Tags
 -- What private functions do.
 pub mod Steps
 pub mod Targets

@@ -16,7 +16,8 @@ use Rattle.actor_pool.specs.declared.pool.Pool.{Pool}
 use Rattle.actor_pool.specs.declared.poster.Poster.{Poster}
 use Rattle.actor_pool.specs.Helpers.{IsHelperOf, IsFirstHelper, seat_of, feed_count}
 use Rattle.actor_pool.specs.Posters.{IsPosterOf, feed_ends, feed_tag}
-use Rattle.actor_pool.specs.Whole.{AreTagsOf, IsTagOf, IsWhole}
+use Rattle.actor_pool.specs.Whole.{IsWhole}
+use Rattle.actor_cells.specs.Tags.{AreTagsOf, IsTagOf}
 
 -- the cell of a tag
 tag-at : (cells : List Cell) (i : ℕ) (tag : CellTag) → slice_get (map cell_tag cells) i ≡ Some tag → (c : Cell) × (slice_get cells i ≡ Some c) × (cell_tag c ≡ tag)

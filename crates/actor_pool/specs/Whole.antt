@@ -2,31 +2,17 @@
 use Rattle.std.specs.Prelude.{◌≡◌, ℕ, List, All, Some, length, map, slice_get}
 use Rattle.script_types.specs.declared.plan.Plan.{Plan}
 use Rattle.fair_semantics.specs.declared.run.Limits.{Limits}
-use Rattle.fair_semantics.specs.Fair.{setting_of}
 use mathlib.Core.List.{IsPrefix}
 use Rattle.turn_lock.specs.View.{seen_of}
 use Rattle.actor_cells.specs.declared.cell.Cell.{Cell}
-use Rattle.actor_cells.specs.declared.cell.CellTag.{CellTag}
 use Rattle.actor_cells.specs.Lawful.{history_of}
 use Rattle.actor_cells.specs.Prepared.{AreWired}
+use Rattle.actor_cells.specs.Tags.{AreTagsOf}
 use Rattle.actor_pool.specs.declared.helper.Helper.{Helper}
 use Rattle.actor_pool.specs.declared.pool.Pool.{Pool}
 use Rattle.actor_pool.specs.declared.poster.Poster.{Poster}
 use Rattle.actor_pool.specs.Helpers.{SeatView, IsHelperOf, IsFirstHelper, seat_of, feed_count}
 use Rattle.actor_pool.specs.Posters.{IsPosterOf, feed_tag}
-
--- the tag of an actor of the plan, where there are so many feeds
-pub record IsTagOf (plan : Plan) (limits : Limits) (feeds actor : ℕ) (tag : CellTag) : Type 0 where
-  pub sorts : tag.sorts ≡ (setting_of plan actor limits).sorts
-  pub rules : tag.rules ≡ (setting_of plan actor limits).rules
-  pub same_limits : tag.limits ≡ limits
-  pub feed_count : tag.feeds ≡ feeds
-  pub actor_count : tag.actors ≡ length plan.actors
-
--- a tag for each actor of the plan, in order
-pub record AreTagsOf (plan : Plan) (limits : Limits) (feeds : ℕ) (tags : List CellTag) : Type 0 where
-  pub count : length tags ≡ length plan.actors
-  pub each : (actor : ℕ) (tag : CellTag) → slice_get tags actor ≡ Some tag → IsTagOf plan limits feeds actor tag
 
 -- the pool is one of the plan, the posters are all those of it, and the helper is its first, with no other out
 pub record IsWhole (plan : Plan) (limits : Limits) (p : Pool) (posters : List Poster) (h : Helper) : Type 0 where

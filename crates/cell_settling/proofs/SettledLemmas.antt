@@ -31,7 +31,8 @@ use Rattle.cell_links.specs.declared.poster.Poster.{Poster}
 use Rattle.cell_links.specs.Ends.{inward_tag, poster_links, sent_to}
 use Rattle.actor_cells.specs.declared.cell.Cell.{Cell}
 use Rattle.actor_cells.specs.Lawful.{IsAmong, IsLawful, cell_tag, received_from, state_in}
-use Rattle.cell_settling.specs.Settled.{AreFeedsOf, AreOwn, AreSettled, IsTagOf, SettledIsLinked, cell_sent, poster_sent, run_in, run_shown, went}
+use Rattle.actor_cells.specs.Tags.{IsTagOf}
+use Rattle.cell_settling.specs.Settled.{AreFeedsOf, AreOwn, AreSettled, SettledIsLinked, cell_sent, poster_sent, run_in, run_shown, went}
 
 -- ---- the sources of a cell
 

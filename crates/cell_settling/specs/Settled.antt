@@ -8,7 +8,7 @@ use Rattle.script_types.specs.declared.plan.Plan.{Plan}
 use Rattle.fair_semantics.specs.declared.run.ActorRun.{ActorRun}
 use Rattle.fair_semantics.specs.declared.run.Limits.{Limits}
 use Rattle.fair_semantics.specs.declared.run.Run.{Run}
-use Rattle.fair_semantics.specs.Fair.{run_of, setting_of}
+use Rattle.fair_semantics.specs.Fair.{run_of}
 use Rattle.fair_semantics.specs.Linked.{IsLinked, feed_posts}
 use Rattle.pattern_core.specs.Members.{IsIn}
 use Rattle.schedule_law.specs.Reached.{IsServable}
@@ -19,22 +19,9 @@ use Rattle.actor_turn.specs.Held.{posts_for}
 use Rattle.cell_links.specs.declared.poster.Poster.{Poster}
 use Rattle.cell_links.specs.Ends.{poster_links, poster_tag, sent_to}
 use Rattle.actor_cells.specs.declared.cell.Cell.{Cell}
-use Rattle.actor_cells.specs.declared.cell.CellTag.{CellTag}
 use Rattle.actor_cells.specs.Prepared.{AreWired}
+use Rattle.actor_cells.specs.Tags.{IsTagOf}
 use Rattle.actor_cells.specs.Lawful.{IsLawful, cell_tag, received_from, state_in}
-
--- the tag of the cell of an actor of the plan, where there are so many feeds
-pub record IsTagOf (plan : Plan) (limits : Limits) (feeds actor : ℕ) (tag : CellTag) : Type 0 where
-  pub sorts : tag.sorts ≡ (setting_of plan actor limits).sorts
-  pub rules : tag.rules ≡ (setting_of plan actor limits).rules
-  pub same_limits : tag.limits ≡ limits
-  pub feed_count : tag.feeds ≡ feeds
-  pub actor_count : tag.actors ≡ length plan.actors
-
--- a tag for each actor of the plan, in order
-pub record AreTagsOf (plan : Plan) (limits : Limits) (feeds : ℕ) (tags : List CellTag) : Type 0 where
-  pub count : length tags ≡ length plan.actors
-  pub each : (actor : ℕ) (tag : CellTag) → slice_get tags actor ≡ Some tag → IsTagOf plan limits feeds actor tag
 
 -- a lawful cell of each actor of the plan, in order
 pub record AreOwn (plan : Plan) (limits : Limits) (feeds : ℕ) (cells : List Cell) : Type 0 where

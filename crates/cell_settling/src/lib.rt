@@ -4,8 +4,7 @@
 //! outbox holds a post, the runs of the cells are a linked run of the feeds that the posters sent. Where cells and posters are wired, and
 //! the two ends of each link have met with nothing left waiting, all has arrived.
 //!
-//! The definitions say too which tags the cells of a plan have (`AreTagsOf`), and what went over a link (`went`). The calls that
-//! bring what still waits are those of `pool_settling`.
+//! The definitions say too what went over a link (`went`). The calls that bring what still waits are those of `pool_settling`.
 #![tactic(auto)]
 
 mod law;

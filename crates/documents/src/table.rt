@@ -1,7 +1,7 @@
 //! The examples: the file that holds what is printed, and the words that print it.
 
-/// What the words print, to the byte. Each actor of these scripts gets its messages from one source alone, or from the second
-/// only after all of the first, so there is one log.
+/// What the words print, to the byte. Beside what it posts to itself, each actor of these scripts gets its messages from one source
+/// alone, or from the second only after all of the first, so there is one log.
 pub const PRINTED: &[(&str, &[&str])] = &[
     ("guide/01.refused", &["check", "guide/01.join"]),
     ("guide/02.plan", &["check", "guide/02.join"]),
@@ -16,12 +16,24 @@ pub const PRINTED: &[(&str, &[&str])] = &[
     ("guide/11.log", &["run", "guide/11.join", "guide/11.feed"]),
     ("alarm.log", &["run", "alarm.join", "alarm.feed"]),
     (
+        "bounded_buffer.log",
+        &["run", "bounded_buffer.join", "bounded_buffer.feed"],
+    ),
+    (
+        "dark_room.log",
+        &["run", "dark_room.join", "dark_room.feed"],
+    ),
+    (
         "disagreement.log",
         &["run", "disagreement.join", "disagreement.feed"],
     ),
     (
         "door_alarm.log",
         &["run", "door_alarm.join", "door_alarm.feed"],
+    ),
+    (
+        "forgotten_window.log",
+        &["run", "forgotten_window.join", "forgotten_window.feed"],
     ),
     (
         "hand_over.log",
@@ -42,7 +54,7 @@ pub const PRINTED: &[(&str, &[&str])] = &[
     ("workers.log", &["run", "workers.join", "workers.feed"]),
 ];
 
-/// Logs that are one of several right ones, since an actor posts to itself while rows of its feed come: the words replay them.
+/// Logs that the words replay: of scripts with an actor that posts to itself while rows of its feed come.
 pub const REPLAYED: &[(&str, &[&str])] = &[
     (
         "bounded_buffer.log",

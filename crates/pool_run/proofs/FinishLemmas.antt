@@ -13,12 +13,12 @@ use Rattle.cell_links.specs.Ends.{PosterTag, poster_links, poster_tag, sent_to}
 use Rattle.actor_cells.specs.declared.cell.Cell.{Cell}
 use Rattle.actor_cells.specs.declared.cell.CellTag.{CellTag}
 use Rattle.actor_cells.specs.Prepared.{AreWired}
-use Rattle.cell_settling.specs.Settled as settled
+use Rattle.actor_cells.specs.Tags.{AreTagsOf}
 use Rattle.pool_settling.specs.Settling.{AreFeedsWith, GoesOnFrom, IsLinkedToAll, IsScheduledOverAll}
 use Rattle.actor_pool.specs.declared.poster.Poster.{Poster}
 use Rattle.actor_pool.specs.Helpers.{SeatView}
 use Rattle.actor_pool.specs.Posters.{feed_ends, feed_tag}
-use Rattle.actor_pool.specs.Whole.{AreTagsOf, IsTagOf, HoldSeen}
+use Rattle.actor_pool.specs.Whole.{HoldSeen}
 use Rattle.pool_run.specs.Finishing.{AreSent, GoesOnFromSeen, IsLinkedToSent, IsScheduledOverSent}
 
 prefix-trans : {X : Type 0} (a b c : List X) → IsPrefix a b → IsPrefix b c → IsPrefix a c
@@ -28,14 +28,8 @@ pub tags-of : (posters : List Poster) → map poster_tag (map feed_ends posters)
 tags-of [] = refl
 tags-of (p ∷ posters) = ap (λ (l : List PosterTag). feed_tag p ∷ l) (tags-of posters)
 
-same-tag : (plan : Plan) (limits : Limits) (n m actor : ℕ) (tag : CellTag) → n ≡ m → IsTagOf plan limits n actor tag → settled.IsTagOf plan limits m actor tag
-same-tag plan limits n m actor tag same h = record { sorts = h.sorts; rules = h.rules; same_limits = h.same_limits; feed_count = h.feed_count ∙ same; actor_count = h.actor_count }
-
-pub own-tags : (plan : Plan) (limits : Limits) (n m : ℕ) (tags now : List CellTag) → n ≡ m → now ≡ tags → AreTagsOf plan limits n tags → settled.AreTagsOf plan limits m now
-own-tags plan limits n m tags now same is h = record {
-  count = ap length is ∙ h.count;
-  each = λ actor tag at. same-tag plan limits n m actor tag same (h.each actor tag (ap (λ (l : List CellTag). slice_get l actor) (sym is) ∙ at));
-}
+pub own-tags : (plan : Plan) (limits : Limits) (n m : ℕ) (tags now : List CellTag) → n ≡ m → now ≡ tags → AreTagsOf plan limits n tags → AreTagsOf plan limits m now
+own-tags plan limits n m tags now same is h = subst (λ (x : ℕ × List CellTag). AreTagsOf plan limits x.0 x.1) (λ i. (same i, sym is i)) h
 
 pub own-wired : (tags now : List CellTag) (posters : List Poster) (own : List ends.Poster) → now ≡ tags → own ≡ map feed_ends posters → AreWired tags (map feed_tag posters) → AreWired now (map poster_tag own)
 own-wired tags now posters own is same wired =

@@ -21,7 +21,8 @@ use Rattle.actor_pool.specs.declared.pool.Pool.{Pool}
 use Rattle.actor_pool.specs.declared.poster.Poster.{Poster}
 use Rattle.actor_pool.specs.Helpers.{IsHelperOf, IsFirstHelper, seat_of}
 use Rattle.actor_pool.specs.Posters.{IsPosterOf, feed_ends, feed_tag, feed_links}
-use Rattle.actor_pool.specs.Whole.{AreTagsOf, IsWhole}
+use Rattle.actor_cells.specs.Tags.{AreTagsOf}
+use Rattle.actor_pool.specs.Whole.{IsWhole}
 use Rattle.pool_run.specs.declared.parts.FeedPart.{FeedPart}
 use Rattle.pool_run.specs.declared.parts.Returned.{Returned}
 use Rattle.pool_run.specs.Finishing.{AreSent}

@@ -36,7 +36,8 @@ use Rattle.cell_links.specs.Ends.{sent_to}
 use Rattle.actor_cells.specs.declared.cell.Cell.{Cell}
 use Rattle.actor_cells.specs.Lawful.{IsAmong, cell_tag, history_of, noted}
 use Rattle.actor_cells.proofs.CellLemmas.{prefix-trans}
-use Rattle.cell_settling.specs.Settled.{AreTagsOf, IsTagOf, cell_sent, poster_sent, went}
+use Rattle.actor_cells.specs.Tags.{AreTagsOf, IsTagOf}
+use Rattle.cell_settling.specs.Settled.{cell_sent, poster_sent, went}
 use Rattle.pool_settling.specs.Standing.{actor_count, arrivals_of, feed_count}
 use Rattle.pool_settling.specs.Drained.{AreDrained}
 use Rattle.pool_settling.specs.Ends.{GoOn}

@@ -12,7 +12,7 @@ use Rattle.actor_cells.specs.declared.cell.Cell.{Cell}
 use Rattle.actor_cells.specs.declared.serving.Turned.{Turned}
 use Rattle.actor_cells.specs.Lawful.{cell_tag}
 use Rattle.actor_cells.specs.Prepared.{ArePrepared, IsServedAt}
-use Rattle.cell_settling.specs.Settled.{AreTagsOf, IsTagOf}
+use Rattle.actor_cells.specs.Tags.{AreTagsOf, IsTagOf}
 
 pub prepared_tags : (plan : Plan) (limits : Limits) (feeds ring : ℕ) (cells : List Cell) (posters : List Poster) → ArePrepared plan limits feeds ring cells posters → AreTagsOf plan limits feeds (map cell_tag cells)
 prepared_tags plan limits feeds ring cells posters are = record {

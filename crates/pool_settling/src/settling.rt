@@ -8,7 +8,7 @@ ghost use Rattle.cell_links.specs.Ends.{poster_tag};
 ghost use Rattle.actor_cells.specs.AllLawful.{AreLawful};
 ghost use Rattle.actor_cells.specs.Lawful.{cell_tag};
 ghost use Rattle.actor_cells.specs.Prepared.{AreWired};
-ghost use Rattle.cell_settling.specs.Settled.{AreTagsOf};
+ghost use Rattle.actor_cells.specs.Tags.{AreTagsOf};
 ghost use Rattle.pool_settling.specs.Settling.{GoesOnFrom, IsLinkedToAll, IsScheduledOverAll};
 
 use crate::draining::drain_links;

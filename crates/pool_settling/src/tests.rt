@@ -6,7 +6,7 @@ ghost use Rattle.cell_links.specs.Ends.{link_count, poster_tag};
 ghost use Rattle.actor_cells.specs.AllLawful.{AreLawful};
 ghost use Rattle.actor_cells.specs.Lawful.{cell_tag};
 ghost use Rattle.actor_cells.specs.Prepared.{AreWired, cells_of};
-ghost use Rattle.cell_settling.specs.Settled.{AreTagsOf};
+ghost use Rattle.actor_cells.specs.Tags.{AreTagsOf};
 
 use crate::settle;
 use actor_cells::{Cells, Turned, prepare};
