@@ -110,15 +110,6 @@ pub fn trimmed(firing: Firing) -> Firing
     }
 }
 
-// The same entries, in no more memory than they need.
-fn fitted(entries: Items<Entry>) -> Items<Entry>
-    ensures { result ≡ entries }
-{
-    let mut rows = entries.into_vec();
-    rows.shrink_to_fit();
-    Items::from_vec(rows)
-}
-
 // The entries with the open one.
 fn held(entries: Items<Entry>, reached: Open) -> Result<Items<Entry>, LineFault>
     ensures { Gives result (Some (entries ++ open_entry reached)) }
@@ -322,7 +313,7 @@ fn ends(
     let entries = held(entries, reached)?;
     let mut actors = actors;
     actors.push(ActorRun {
-        entries: fitted(entries),
+        entries,
         late,
         ending,
         left,
