@@ -8,7 +8,7 @@
 //! A contract sees all three as values of specs/: `load_plan` writes the kinds, the actors and the rules out, `load_feed` each row by
 //! its place, and `summary_text` the lines.
 //!
-//! Only tested: that the plan is that of its script as text (in `join_tool`, which reads scripts).
+//! Only tested: that the plan is that of its script as text (in `join_command`, which reads scripts).
 #![tactic(auto)]
 
 mod feed;

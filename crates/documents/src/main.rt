@@ -1,4 +1,4 @@
-//! Runs the program on each example of the documents, and tells whether it prints what the documents show.
+//! Runs the program on each example of the documents, and tells whether it prints what the documents show and accepts the logs.
 //!
 //! The examples are the data of this crate, and README.md and the documents under docs/ show them between marks that
 //! `.ci/documents` compares with the files. So no output in a document can grow old unseen. Nothing is proved here but that it is
@@ -9,7 +9,7 @@ mod example;
 mod table;
 
 use crate::example::{is_done, is_printed};
-use crate::table::{PRINTED, REPLAYED};
+use crate::table::{ACCEPTED, PRINTED};
 use join_base::NoMemory;
 use std::io;
 
@@ -22,12 +22,21 @@ fn tell(rt: &HostRuntime, name: &str, found: Result<bool, NoMemory>) -> io::Resu
     }
 }
 
+// Prints whether a replay accepts a log.
+fn tell_accepted(rt: &HostRuntime, name: &str, found: Result<bool, NoMemory>) -> io::Result<()> {
+    match found {
+        Ok(true) => println!(rt; "{name} is accepted"),
+        Ok(false) => println!(rt; "{name} is refused"),
+        Err(NoMemory) => println!(rt; "{name}: there was no memory"),
+    }
+}
+
 fn main(rt: HostRuntime) -> io::Result<()> {
     for (file, texts) in PRINTED.iter() {
         tell(&rt, file, is_printed(&rt, rt.alloc(), texts, file))?;
     }
-    for (file, texts) in REPLAYED.iter() {
-        tell(&rt, file, is_done(&rt, rt.alloc(), texts))?;
+    for (script, log) in ACCEPTED.iter() {
+        tell_accepted(&rt, log, is_done(&rt, rt.alloc(), &["replay", script, log]))?;
     }
     Ok(())
 }

@@ -54,18 +54,24 @@ pub const PRINTED: &[(&str, &[&str])] = &[
     ("workers.log", &["run", "workers.join", "workers.feed"]),
 ];
 
-/// Logs that the words replay: of scripts with an actor that posts to itself while rows of its feed come.
-pub const REPLAYED: &[(&str, &[&str])] = &[
-    (
-        "bounded_buffer.log",
-        &["replay", "bounded_buffer.join", "bounded_buffer.log"],
-    ),
-    (
-        "dark_room.log",
-        &["replay", "dark_room.join", "dark_room.log"],
-    ),
-    (
-        "forgotten_window.log",
-        &["replay", "forgotten_window.join", "forgotten_window.log"],
-    ),
+/// Each log of the examples, with its script: a replay accepts it.
+pub const ACCEPTED: &[(&str, &str)] = &[
+    ("guide/04.join", "guide/04.log"),
+    ("guide/05.join", "guide/05.log"),
+    ("guide/06.join", "guide/06.log"),
+    ("guide/08.join", "guide/08.log"),
+    ("guide/09.join", "guide/09.log"),
+    ("guide/10.join", "guide/10.log"),
+    ("guide/11.join", "guide/11.log"),
+    ("alarm.join", "alarm.log"),
+    ("disagreement.join", "disagreement.log"),
+    ("door_alarm.join", "door_alarm.log"),
+    ("hand_over.join", "hand_over.log"),
+    ("rate_alarm.join", "rate_alarm.log"),
+    ("ticket_desk.join", "ticket_desk.log"),
+    ("two_persons.join", "two_persons.log"),
+    ("workers.join", "workers.log"),
+    ("bounded_buffer.join", "bounded_buffer.log"),
+    ("dark_room.join", "dark_room.log"),
+    ("forgotten_window.join", "forgotten_window.log"),
 ];

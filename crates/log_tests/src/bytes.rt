@@ -1,0 +1,113 @@
+//! Logs with one byte changed, and cut logs.
+ghost use Rattle.script_types.specs.Typed.{IsTyped};
+
+use crate::answer::{Answer, answer_to};
+use crate::table::{Log, Mark, Wanted};
+use crate::tally::Tally;
+use join_base::NoMemory;
+use script_types::Plan;
+use std::alloc::Global;
+
+// The answer that a mark gives for a change in the line of this number.
+fn answer_of(wanted: Wanted, line: u64) -> Answer {
+    match wanted {
+        Wanted::Accepted(arrivals) => Answer::Accepted(arrivals),
+        Wanted::Bad(other) => Answer::Bad(other),
+        Wanted::BadNext => Answer::Bad(line.saturating_add(1)),
+        Wanted::Differs(other) => Answer::Differs(other),
+        Wanted::DiffersHere => Answer::Differs(line),
+    }
+}
+
+// The answer that is wanted where this byte stands at a place with this mark. Where no row has both, the line is none.
+fn wanted(marks: &[Mark], mark: u8, byte: u8, line: u64) -> Answer {
+    for (own, bytes, wanted) in marks {
+        if *own == mark && bytes.contains(&byte) {
+            return answer_of(*wanted, line);
+        }
+    }
+    Answer::Bad(line)
+}
+
+/// The lines of the log, each ended by LF, and a mark for each byte: none may stand in place of LF.
+fn marked(alloc: Global, log: &Log) -> Result<(Vec<u8>, Vec<u8>), NoMemory> {
+    let mut text = Vec::new(alloc);
+    let mut marks = Vec::new(alloc);
+    for line in log.lines {
+        text.extend_from_slice(line.text.as_bytes())?;
+        text.push(b'\n')?;
+        marks.extend_from_slice(line.marks.as_bytes())?;
+        marks.push(b'.')?;
+    }
+    Ok((text, marks))
+}
+
+// Every other byte in place of the one at a place of the text.
+fn other_bytes(
+    alloc: Global,
+    plan: &Plan,
+    log: &Log,
+    text: &mut [u8],
+    place: usize,
+    mark: u8,
+    line: u64,
+    tally: &mut Tally,
+) -> Result<(), NoMemory>
+    requires typed { IsTyped plan.now }
+{
+    let Some(own) = text.get(place).copied() else {
+        return Ok(());
+    };
+    for byte in 0..=255u8 {
+        if byte != own {
+            text[place] = byte;
+            let found = answer_to(alloc, plan, text)?;
+            tally.count(
+                line,
+                "another byte",
+                found,
+                wanted(log.marks, mark, byte, line),
+            );
+        }
+    }
+    text[place] = own;
+    Ok(())
+}
+
+/// Each byte replaced by each other one.
+pub fn changed_bytes(
+    alloc: Global,
+    plan: &Plan,
+    log: &Log,
+    tally: &mut Tally,
+) -> Result<(), NoMemory>
+    requires typed { IsTyped plan.now }
+{
+    let (mut text, marks) = marked(alloc, log)?;
+    let mut line: u64 = 1;
+    for (place, mark) in marks.iter().enumerate() {
+        other_bytes(alloc, plan, log, &mut text, place, *mark, line, tally)?;
+        if text.get(place) == Some(&b'\n') {
+            line = line.saturating_add(1);
+        }
+    }
+    Ok(())
+}
+
+/// The log cut behind each number of bytes: the line in which it is cut is none. Whole it is accepted.
+pub fn cut_bytes(alloc: Global, plan: &Plan, log: &Log, tally: &mut Tally) -> Result<(), NoMemory>
+    requires typed { IsTyped plan.now }
+{
+    let (text, _) = marked(alloc, log)?;
+    let mut line: u64 = 1;
+    for (place, byte) in text.iter().enumerate() {
+        let found = answer_to(alloc, plan, &text[..place])?;
+        tally.count(line, "cut", found, Answer::Bad(line));
+        if *byte == b'\n' {
+            line = line.saturating_add(1);
+        }
+    }
+    let found = answer_to(alloc, plan, text.as_slice())?;
+    tally.count(line, "whole", found, Answer::Accepted(log.arrivals));
+    Ok(())
+}

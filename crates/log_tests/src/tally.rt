@@ -1,0 +1,45 @@
+//! How many changed logs were replayed, and which got another answer.
+
+use crate::answer::Answer;
+
+/// A log that got another answer: the line that was changed, and how.
+#[derive(Clone, Copy)]
+pub struct Miss {
+    pub line: u64,
+    pub change: &'static str,
+}
+
+/// What was found so far.
+#[derive(Clone, Copy)]
+pub struct Tally {
+    pub logs: u64,
+    pub misses: u64,
+    pub first: Option<Miss>,
+}
+
+impl Tally {
+    pub fn new() -> Tally {
+        Tally {
+            logs: 0,
+            misses: 0,
+            first: None,
+        }
+    }
+
+    /// Counts an answer beside the one that is wanted.
+    pub fn count(&mut self, line: u64, change: &'static str, found: Answer, wanted: Answer) {
+        self.logs = self.logs.saturating_add(1);
+        if found == wanted {
+            return;
+        }
+        self.misses = self.misses.saturating_add(1);
+        if self.first.is_none() {
+            self.first = Some(Miss { line, change });
+        }
+    }
+
+    /// Counts a log that could not be replayed.
+    pub fn miss(&mut self) {
+        self.misses = self.misses.saturating_add(1);
+    }
+}
