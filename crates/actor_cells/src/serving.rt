@@ -88,7 +88,7 @@ impl Cell {
         Ok(true)
     }
 
-    // TakesMany what the actor posted to itself, at most `OWN` messages and at most so many.
+    // Takes what the actor posted to itself, at most `OWN` messages and at most so many.
     fn take_own<L: Ledger>(
         &mut self,
         alloc: Global,
@@ -115,7 +115,7 @@ impl Cell {
         Ok(limit)
     }
 
-    // TakesMany the first message of the link at a place, and then what the actor posted to itself, at most so many.
+    // Takes the first message of the link at a place, and then what the actor posted to itself, at most so many.
     fn take_at<L: Ledger>(
         &mut self,
         alloc: Global,
@@ -164,7 +164,7 @@ impl Cell {
         Ok(taken)
     }
 
-    // TakesMany what the actor posted to itself, and then messages in rounds.
+    // Takes what the actor posted to itself, and then messages in rounds.
     fn take_all<L: Ledger>(
         &mut self,
         alloc: Global,
