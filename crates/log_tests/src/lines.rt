@@ -86,3 +86,29 @@ pub fn exchanged_lines(
     }
     Ok(())
 }
+
+/// The lines that the table puts in place of others.
+pub fn replaced_lines(
+    alloc: Global,
+    plan: &Plan,
+    log: &Log,
+    tally: &mut Tally,
+) -> Result<(), NoMemory>
+    requires typed { IsTyped plan.now }
+{
+    for (number, other, wanted) in log.replaced {
+        let mut text = Bytes::new(alloc);
+        for (place, line) in log.lines.iter().enumerate() {
+            let own = if place + 1 == *number {
+                *other
+            } else {
+                line.text
+            };
+            text.push_all(own.as_bytes())?;
+            text.push_all(b"\n")?;
+        }
+        let found = answer_to(alloc, plan, text.bytes())?;
+        tally.count(*number as u64, "replaced", found, *wanted);
+    }
+    Ok(())
+}

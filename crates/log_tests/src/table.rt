@@ -33,6 +33,9 @@ pub struct Line {
     pub exchanged: Answer,
 }
 
+/// In place of the line of this number this text, and what comes of it.
+pub type Replaced = (usize, &'static str, Answer);
+
 /// A log of the script, which is accepted with so many arrivals.
 #[derive(Clone, Copy)]
 pub struct Log {
@@ -41,6 +44,7 @@ pub struct Log {
     pub arrivals: u64,
     pub lines: &'static [Line],
     pub marks: &'static [Mark],
+    pub replaced: &'static [Replaced],
 }
 
 const DIGITS: &[u8] = b"0123456789";
@@ -134,6 +138,82 @@ const PAIRS_1_MARKS: &[Mark] = &[
     (b't', PLAIN, Wanted::DiffersHere),
     (b'e', PLAIN, Wanted::DiffersHere),
     (b'e', b"\\", Wanted::DiffersHere),
+];
+
+// Numbers at the bounds of their ranges and past them, and other lines than one byte makes.
+const PAIRS_1_REPLACED: &[Replaced] = &[
+    (
+        1,
+        "joinlog 1 arrivals 0 partials 65536 feeds 1",
+        Answer::Bad(1),
+    ),
+    (
+        1,
+        "joinlog 1 arrivals 1000000 partials 65536 feeds 1",
+        Answer::Accepted(2),
+    ),
+    (
+        1,
+        "joinlog 1 arrivals 1000001 partials 65536 feeds 1",
+        Answer::Bad(1),
+    ),
+    (
+        1,
+        "joinlog 1 arrivals 50000 partials 1000001 feeds 1",
+        Answer::Bad(1),
+    ),
+    (
+        1,
+        "joinlog 1 arrivals 50000 partials 65536 feeds 16",
+        Answer::Accepted(2),
+    ),
+    (
+        1,
+        "joinlog 1 arrivals 50000 partials 65536 feeds 17",
+        Answer::Bad(1),
+    ),
+    // There is room for the first arrival alone.
+    (
+        1,
+        "joinlog 1 arrivals 1 partials 65536 feeds 1",
+        Answer::Differs(4),
+    ),
+    (3, "01 from feed 1 a(1)", Answer::Bad(3)),
+    (3, "4294967295 from feed 1 a(1)", Answer::Differs(3)),
+    (3, "4294967296 from feed 1 a(1)", Answer::Bad(3)),
+    (3, "1 from feed 2 a(1)", Answer::Bad(3)),
+    (3, "1 from feed 1 a(-0)", Answer::Bad(3)),
+    (
+        3,
+        "1 from feed 1 a(9223372036854775807)",
+        Answer::Differs(6),
+    ),
+    (3, "1 from feed 1 a(9223372036854775808)", Answer::Bad(3)),
+    // The actor sends nothing to itself.
+    (3, "1 from actor m a(1)", Answer::Differs(3)),
+    (5, "fire rule 1 take 2,1", Answer::Differs(5)),
+    (5, "fire rule 1 take 1,2,1,2,1,2,1,2", Answer::Differs(5)),
+    (5, "fire rule 1 take 1,2,1,2,1,2,1,2,1", Answer::Bad(5)),
+    (6, "print \"hit 13\"", Answer::Differs(6)),
+    (6, "print \"hit \\x31\"", Answer::Bad(6)),
+    // Nothing is late at an actor that runs on and has room.
+    (
+        7,
+        "late feed 1 3\nend running left - partials 1",
+        Answer::Differs(7),
+    ),
+    (7, "end spent left - partials 1", Answer::Differs(7)),
+    (
+        7,
+        "end running left - partials 18446744073709551615",
+        Answer::Differs(7),
+    ),
+    (
+        7,
+        "end running left - partials 18446744073709551616",
+        Answer::Bad(7),
+    ),
+    (7, "end running left - partials 1\nend", Answer::Bad(8)),
 ];
 
 // The same in version 2.
@@ -510,6 +590,7 @@ pub const LOGS: &[Log] = &[
         arrivals: 2,
         lines: PAIRS_1_LINES,
         marks: PAIRS_1_MARKS,
+        replaced: PAIRS_1_REPLACED,
     },
     Log {
         name: "pairs, version 2",
@@ -517,6 +598,7 @@ pub const LOGS: &[Log] = &[
         arrivals: 2,
         lines: PAIRS_2_LINES,
         marks: PAIRS_2_MARKS,
+        replaced: &[],
     },
     Log {
         name: "answers, version 1",
@@ -524,6 +606,7 @@ pub const LOGS: &[Log] = &[
         arrivals: 2,
         lines: ANSWERS_1_LINES,
         marks: ANSWERS_1_MARKS,
+        replaced: &[],
     },
     Log {
         name: "answers, version 2",
@@ -531,6 +614,7 @@ pub const LOGS: &[Log] = &[
         arrivals: 2,
         lines: ANSWERS_2_LINES,
         marks: ANSWERS_2_MARKS,
+        replaced: &[],
     },
     Log {
         name: "replies",
@@ -538,5 +622,6 @@ pub const LOGS: &[Log] = &[
         arrivals: 1,
         lines: REPLIES_LINES,
         marks: REPLIES_MARKS,
+        replaced: &[],
     },
 ];
