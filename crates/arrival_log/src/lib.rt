@@ -14,6 +14,7 @@
 mod lines;
 mod parts;
 mod print;
+mod room;
 
 pub use lines::{write_actor, write_entry, write_head, write_heading, write_last_lines};
 pub use print::print_log;

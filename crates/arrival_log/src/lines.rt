@@ -5,8 +5,9 @@ ghost use Rattle.arrival_log.specs.LogText.{actor_lines, arrival_line, effect_li
 
 use crate::parts::{
     write_count, write_ending, write_labelled, write_left, write_message, write_numbers,
-    write_source, write_stamp, write_value,
+    write_source, write_source_rest, write_value,
 };
+use crate::room::{ROOM, put_number, put_source, put_stamp, put_words};
 use fair_semantics::{ActorRun, Effect, Entry, Firing, Run};
 use join_base::{Bytes, NoMemory, Source, write_quoted};
 use script_types::{ActorPlan, Plan, write_actor_name};
@@ -35,8 +36,7 @@ fn write_effect(text: &mut Bytes, plan: &Plan, effect: &Effect) -> Result<(), No
             text.push_all(b"post ")?;
             write_actor_name(text, plan, *target)?;
             text.push_all(b" ")?;
-            write_message(text, plan, message)?;
-            text.push_all(b"\n")
+            write_message(text, plan, message)
         }
         Effect::Reply { number, value } => {
             write_labelled(text, b"reply ", u64::from(*number))?;
@@ -59,8 +59,11 @@ fn write_effects(text: &mut Bytes, plan: &Plan, effects: &[Effect]) -> Result<()
 fn write_fire(text: &mut Bytes, firing: &Firing) -> Result<(), NoMemory>
     ensures { OnOk result (text.new ≡ text.old ++ fire_line firing.now) }
 {
-    write_labelled(text, b"fire rule ", u64::from(firing.rule))?;
-    text.push_all(b" take ")?;
+    let mut room = [0; ROOM];
+    let end = put_words(&mut room, ROOM, b" take ");
+    let end = put_number(&mut room, end, u64::from(firing.rule));
+    let start = put_words(&mut room, end, b"fire rule ");
+    text.push_all(&room[start..])?;
     write_numbers(text, firing.taken.as_slice())?;
     text.push_all(b"\n")
 }
@@ -88,13 +91,13 @@ fn write_arrival(
 ) -> Result<(), NoMemory>
     ensures { OnOk result (text.new ≡ text.old ++ arrival_line plan.now version (stamped entry.now stamp)) }
 {
-    write_count(text, u64::from(entry.number))?;
-    write_stamp(text, version, stamp)?;
-    text.push_all(b" from ")?;
-    write_source(text, plan, entry.source)?;
-    text.push_all(b" ")?;
-    write_message(text, plan, &entry.message)?;
-    text.push_all(b"\n")
+    let mut room = [0; ROOM];
+    let end = put_source(&mut room, entry.source);
+    let end = put_stamp(&mut room, end, version, stamp);
+    let start = put_number(&mut room, end, u64::from(entry.number));
+    text.push_all(&room[start..])?;
+    write_source_rest(text, plan, entry.source)?;
+    write_message(text, plan, &entry.message)
 }
 
 /// Appends the lines of an arrival with this stamp in place of its own, and of what it fired.

@@ -1,18 +1,20 @@
 //! The parts of a line. Each function appends one part, and without memory some of it may stay appended.
-ghost use Rattle.std.specs.Prelude.{◌≡◌, ◌++◌, map, OnOk};
+ghost use Rattle.std.specs.Prelude.{◌≡◌, ◌++◌, ◌∷◌, [], map, OnOk};
 ghost use Rattle.std.specs.Fmt.{decimal};
-ghost use Rattle.arrival_log.specs.Commas.{comma_before, stamp_behind};
+ghost use Rattle.arrival_log.specs.Commas.{comma_before, source_rest};
 ghost use Rattle.arrival_log.specs.LogText.{comma_joined, left_text, ending_text, message_text, source_text, value_text};
 ghost use Rattle.script_types.specs.Names.{name_of_actor, name_of_kind};
 
 use fair_semantics::Ending;
-use join_base::{Bytes, Message, NoMemory, Source, Value, write_number, write_quoted};
+use itoa::Buffer;
+use join_base::{Bytes, Message, NoMemory, Source, Value, write_quoted};
 use script_types::{Plan, write_actor_name, write_kind_name};
 
 pub(crate) fn write_count(text: &mut Bytes, count: u64) -> Result<(), NoMemory>
     ensures { OnOk result (text.new ≡ text.old ++ decimal count) }
 {
-    write_number(text, i128::from(count))
+    let mut buffer = Buffer::new();
+    text.push_all(buffer.format(count).as_bytes())
 }
 
 // The words before a number, and the number.
@@ -21,17 +23,6 @@ pub(crate) fn write_labelled(text: &mut Bytes, label: &[u8], number: u64) -> Res
 {
     text.push_all(label)?;
     write_count(text, number)
-}
-
-// ` at S` behind an arrival's number, which version 1 lacks.
-pub(crate) fn write_stamp(text: &mut Bytes, version: u32, stamp: u64) -> Result<(), NoMemory>
-    ensures { OnOk result (text.new ≡ text.old ++ stamp_behind version stamp) }
-{
-    if version == 1 {
-        Ok(())
-    } else {
-        write_labelled(text, b" at ", stamp)
-    }
 }
 
 // `feed K` or `actor NAME`.
@@ -46,6 +37,19 @@ pub(crate) fn write_source(text: &mut Bytes, plan: &Plan, source: Source) -> Res
         Source::Actor(actor) => {
             text.push_all(b"actor ")?;
             write_actor_name(text, plan, actor)
+        }
+    }
+}
+
+// An actor's name and a space, behind ` from actor `, and nothing for a feed.
+pub(crate) fn write_source_rest(text: &mut Bytes, plan: &Plan, source: Source) -> Result<(), NoMemory>
+    ensures { OnOk result (text.new ≡ text.old ++ source_rest plan.now source) }
+{
+    match source {
+        Source::Feed(_) => Ok(()),
+        Source::Actor(actor) => {
+            write_actor_name(text, plan, actor)?;
+            text.push_all(b" ")
         }
     }
 }
@@ -65,7 +69,10 @@ pub(crate) fn write_value(text: &mut Bytes, value: &Value) -> Result<(), NoMemor
     ensures { OnOk result (text.new ≡ text.old ++ value_text value.now) }
 {
     match value {
-        Value::Int(number) => write_number(text, i128::from(*number)),
+        Value::Int(number) => {
+            let mut buffer = Buffer::new();
+            text.push_all(buffer.format(*number).as_bytes())
+        }
         Value::Words(words) => write_quoted(text, words.bytes()),
     }
 }
@@ -80,18 +87,18 @@ fn write_values(text: &mut Bytes, values: &[Value]) -> Result<(), NoMemory>
     Ok(())
 }
 
-// `KIND(VALUES)`.
+// `KIND(VALUES)` and LF.
 pub(crate) fn write_message(
     text: &mut Bytes,
     plan: &Plan,
     message: &Message,
 ) -> Result<(), NoMemory>
-    ensures { OnOk result (text.new ≡ text.old ++ message_text plan.now message.now) }
+    ensures { OnOk result (text.new ≡ text.old ++ (message_text plan.now message.now ++ 10 ∷ [])) }
 {
     write_kind_name(text, plan, message.kind)?;
     text.push_all(b"(")?;
     write_values(text, message.fields.as_slice())?;
-    text.push_all(b")")
+    text.push_all(b")\n")
 }
 
 pub(crate) fn write_numbers(text: &mut Bytes, numbers: &[u32]) -> Result<(), NoMemory>

@@ -1,0 +1,11 @@
+use Rattle.std.proofs.Common.{arith, rules}
+use Rattle.std.proofs.lemmas.Fmt.{length-decimal-le}
+use Rattle.arrival_log.proofs.room.put_number.Goals as goal
+
+pub write_digits-requires : goal.write_digits-requires
+write_digits-requires c = search (rules, length-decimal-le 20)
+
+pub returns-clause-start : goal.returns-clause-start
+returns-clause-start c =
+    let short = length-decimal-le 20 c.args.number (omega arith) (omega arith) (omega arith) in
+    (omega arith, omega (arith, short))
