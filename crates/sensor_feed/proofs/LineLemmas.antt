@@ -175,11 +175,11 @@ line_taken text line n fields rest is there some plain cut = by-line line there 
         let on : ends_line c ≡ false = no_end_there text c others (ap (λ k. drop k text) (sym is) ∙ sym there) in
         let plain_line : list_all is_plain_byte (c ∷ others) ≡ true = ap (list_all is_plain_byte) there ∙ all_dropped is_plain_byte n text plain in
         let starts : next_record cfg st.StartRecord [] [] (c ∷ others) ≡ next_record cfg st.InField [] [] (c ∷ others) =
-            one_step [] [] c others st.StartRecord (step cfg st.InField c) (plain_record c (first_of_all is_plain_byte c others plain_line) on)
-            ∙ sym (one_step [] [] c others st.InField (step cfg st.InField c) refl) in
+        one_step [] [] c others st.StartRecord (step cfg st.InField c) (plain_record c (first_of_all is_plain_byte c others plain_line) on)
+        ∙ sym (one_step [] [] c others st.InField (step cfg st.InField c) refl) in
         let first : next_record cfg st.StartRecord [] [] text ≡ Some (fields, cut.state, rest) =
-            next_behind_ends text ∙ ap (λ k. next_record cfg st.StartRecord [] [] (drop k text)) (sym is) ∙ ap (next_record cfg st.StartRecord [] []) (sym there)
-            ∙ starts ∙ next in
+        next_behind_ends text ∙ ap (λ k. next_record cfg st.StartRecord [] [] (drop k text)) (sym is) ∙ ap (next_record cfg st.StartRecord [] []) (sym there)
+        ∙ starts ∙ next in
         first_taken cfg st.StartRecord text (fields, cut.state, rest) refl first
         ∙ ap (λ (others : List Record). fields ∷ others) (alike cut.state st.StartRecord rest rest cut.between refl (next_between_two cut.state rest cut.between))
 

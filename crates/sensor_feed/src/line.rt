@@ -5,10 +5,15 @@ ghost use Rattle.sensor_feed.specs.Line.{CutsLine, IsPlain, TakesLine, ends_line
 
 use join_base::{NoMemory, byte_at};
 
+// It goes through all bytes, so that many are compared at once.
 fn has_no_quote(bytes: &[u8]) -> bool
     ensures { result ≡ list_all is_plain_byte bytes.now }
 {
-    bytes.iter().all(|byte| *byte != b'"')
+    let mut plain = true;
+    for byte in bytes {
+        plain = plain & (*byte != b'"');
+    }
+    plain
 }
 
 /// Whether the records of these bytes are their lines, cut at the commas: no byte is a double quote, and the first is
@@ -32,9 +37,7 @@ fn ends_line(byte: u8) -> bool
 fn line_ends(text: &[u8]) -> usize
     ensures { result ≡ prefix_len ends_line text.now }
 {
-    text.iter()
-        .take_while(|byte| ends_line(**byte))
-        .count()
+    text.iter().take_while(|byte| ends_line(**byte)).count()
 }
 
 // Appends the fields of the first line, and gives what is behind it.

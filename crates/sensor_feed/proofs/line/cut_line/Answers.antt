@@ -21,18 +21,18 @@ loop-place-preserved c =
     let told = c.loop-place.invariant.told in
     let within = c.loop-place-test.true in
     elim c.if-byte-eq44.branch [
-      then-byte-eq44+in_ok-push w ↦
-      rw (w.fields-is, w.start-is) (record {
-        start = omega arith;
-        told = ap (λ (fields : Record). next_record default_config st.InField fields (take (place + 1 - (place + 1)) (drop (place + 1) text)) (drop (place + 1) text))
-            (nows_more w.push.new.self.items old _ (take (place - c.loop-place.start) (drop c.loop-place.start text)) w.in_ok-push.ensures.items refl)
-            ∙ next_field text (nows old) c.loop-place.start place before within told w.if-byte-eq44.true c.requires.plain;
-      })
-    | else-byte-eq44+else-ends_line w ↦
-      rw (w.fields-is, w.start-is) (record {
-        start = omega (arith, before);
-        told = goes_on text (nows old) c.loop-place.start place before within told (not_equal _ 44 w.if-byte-eq44.false) (sym w.if-ends_line.ensures);
-      })
+      | then-byte-eq44+in_ok-push w ↦
+          rw (w.fields-is, w.start-is) (record {
+            start = omega arith;
+            told = ap (λ (fields : Record). next_record default_config st.InField fields (take (place + 1 - (place + 1)) (drop (place + 1) text)) (drop (place + 1) text))
+                (nows_more w.push.new.self.items old _ (take (place - c.loop-place.start) (drop c.loop-place.start text)) w.in_ok-push.ensures.items refl)
+                ∙ next_field text (nows old) c.loop-place.start place before within told w.if-byte-eq44.true c.requires.plain;
+          })
+      | else-byte-eq44+else-ends_line w ↦
+          rw (w.fields-is, w.start-is) (record {
+            start = omega (arith, before);
+            told = goes_on text (nows old) c.loop-place.start place before within told (not_equal _ 44 w.if-byte-eq44.false) (sym w.if-ends_line.ensures);
+          })
     ]
 
 pub returns-then-ends_line : goal.returns-then-ends_line

@@ -16,10 +16,10 @@ returns-in-Err c =
     let others = c.in-Some.others.now in
     let taken = subst (λ (o : Option (Bor (List ℕ))). TakesLine rest (nows c.take_line.new.fields.items) o) c.in-Some.is c.in_ok-others.ensures in
     let is : records default_config rest ≡ nows c.as_slice.result.now ∷ records default_config others =
-        taken.0 ∙ ap (λ (fields : List (Bor (List ℕ))). nows fields ∷ records default_config others) (sym c.as_slice.ensures.value) in
+    taken.0 ∙ ap (λ (fields : List (Bor (List ℕ))). nows fields ∷ records default_config others) (sym c.as_slice.ensures.value) in
     rw c.fault_at.ensures (
-        feed_stops plan c.loop-row.posts c.loop-row.row (records default_config rest) (nows c.as_slice.result.now) (records default_config others) c.in-Err.refusal
-        (feed_of plan c.args.bytes.now) is c.in-Err.ensures c.loop-row.invariant.told)
+    feed_stops plan c.loop-row.posts c.loop-row.row (records default_config rest) (nows c.as_slice.result.now) (records default_config others) c.in-Err.refusal
+    (feed_of plan c.args.bytes.now) is c.in-Err.ensures c.loop-row.invariant.told)
 
 pub loop-row-preserved : goal.loop-row-preserved
 loop-row-preserved c =
@@ -28,7 +28,7 @@ loop-row-preserved c =
     let others = c.in-Some.others.now in
     let taken = subst (λ (o : Option (Bor (List ℕ))). TakesLine rest (nows c.take_line.new.fields.items) o) c.in-Some.is c.in_ok-others.ensures in
     let is : records default_config rest ≡ nows c.as_slice.result.now ∷ records default_config others =
-        taken.0 ∙ ap (λ (fields : List (Bor (List ℕ))). nows fields ∷ records default_config others) (sym c.as_slice.ensures.value) in
+    taken.0 ∙ ap (λ (fields : List (Bor (List ℕ))). nows fields ∷ records default_config others) (sym c.as_slice.ensures.value) in
     record {
       plain = taken.1;
       told = rw c.in_ok-push-in-Ok.ensures.ok (
