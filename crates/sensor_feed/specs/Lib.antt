@@ -5,3 +5,6 @@ pub mod Gives
 pub mod Law
 -- what private functions keep of a reader of csv
 pub mod Reader
+-- and of lines that are cut in place
+pub mod Line
+pub mod Row

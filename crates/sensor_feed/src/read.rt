@@ -1,19 +1,85 @@
 //! The posts of a feed.
-ghost use Rattle.std.specs.Prelude.{IfOk};
+ghost use Rattle.std.specs.Prelude.{◌≡◌, [], IfOk};
 ghost use Rattle.std.specs.List.{AllByRecursion};
 ghost use Rattle.script_types.specs.Typed.{IsTyped};
 ghost use Rattle.fair_semantics.specs.Fits.{PostFits};
 ghost use Rattle.sensor_feed.specs.Feed.{feed_of};
-ghost use Rattle.sensor_feed.specs.Gives.{Gives};
+ghost use Rattle.sensor_feed.specs.Gives.{Gives, fault_at};
+ghost use Rattle.sensor_feed.specs.Line.{IsPlain};
 
 use crate::fault::{FeedFault, Refusal};
+use crate::line::{is_plain, take_line};
 use crate::names::Names;
 use crate::post::post_of;
 use crate::record::{reader_of, take_record};
+use crate::row::Row;
 use csv::ByteRecord;
-use join_base::Posts;
+use join_base::{NoMemory, Posts};
 use script_types::Plan;
 use std::alloc::Global;
+
+// No posts, with room for as many as there may be in a feed of this size, up to a number.
+fn posts_with_room(alloc: Global, size: usize) -> Result<Posts, NoMemory>
+    ensures { IfOk result (λ posts. posts ≡ []) }
+{
+    let room = (size / 4 + 1).min(4096);
+    Ok(Posts::from_vec(Vec::with_capacity(alloc, room)?))
+}
+
+// The fault of the record of this number.
+fn fault_at(row: u64, refusal: Refusal) -> FeedFault
+    ensures { result ≡ fault_at row refusal }
+{
+    match refusal {
+        Refusal::Bad(cause) => FeedFault::Bad { row, cause },
+        Refusal::NoMemory => FeedFault::NoMemory,
+    }
+}
+
+// The posts of a feed whose lines are its records.
+fn posts_of_lines(alloc: Global, names: &Names<'_>, bytes: &[u8]) -> Result<Posts, FeedFault>
+    requires typed { IsTyped names.now.plan.now }
+    requires plain { IsPlain bytes.now }
+    ensures { Gives result (feed_of names.now.plan.now bytes.now) }
+{
+    let mut posts = posts_with_room(alloc, bytes.len())?;
+    let mut fields = Vec::new(alloc);
+    let mut rest = bytes;
+    for row in 1..u64::MAX {
+        match take_line(rest, &mut fields)? {
+            Some(others) => rest = others,
+            None => return Ok(posts),
+        }
+        match post_of(alloc, names, Row::Line(fields.as_slice())) {
+            Ok(post) => posts.push(post)?,
+            Err(refusal) => return Err(fault_at(row, refusal)),
+        }
+    }
+    // No memory holds so many records.
+    Err(FeedFault::NoMemory)
+}
+
+// The posts of a feed that csv reads.
+fn posts_of_records(alloc: Global, names: &Names<'_>, bytes: &[u8]) -> Result<Posts, FeedFault>
+    requires typed { IsTyped names.now.plan.now }
+    ensures { Gives result (feed_of names.now.plan.now bytes.now) }
+{
+    let mut reader = reader_of(alloc, bytes);
+    let mut record = ByteRecord::new(alloc);
+    let mut posts = posts_with_room(alloc, bytes.len())?;
+    for row in 1..u64::MAX {
+        let found = take_record(&mut reader, &mut record)?;
+        if !found {
+            return Ok(posts);
+        }
+        match post_of(alloc, names, Row::Read(&record)) {
+            Ok(post) => posts.push(post)?,
+            Err(refusal) => return Err(fault_at(row, refusal)),
+        }
+    }
+    // No memory holds so many records.
+    Err(FeedFault::NoMemory)
+}
 
 // What `read_feed` gives.
 fn posts_of(alloc: Global, plan: &Plan, bytes: &[u8]) -> Result<Posts, FeedFault>
@@ -21,22 +87,11 @@ fn posts_of(alloc: Global, plan: &Plan, bytes: &[u8]) -> Result<Posts, FeedFault
     ensures { Gives result (feed_of plan.now bytes.now) }
 {
     let names = Names::new(alloc, plan)?;
-    let mut reader = reader_of(alloc, bytes);
-    let mut record = ByteRecord::new(alloc);
-    let mut posts = Posts::new(alloc);
-    for row in 1..u64::MAX {
-        let found = take_record(&mut reader, &mut record)?;
-        if !found {
-            return Ok(posts);
-        }
-        match post_of(alloc, &names, &record) {
-            Ok(post) => posts.push(post)?,
-            Err(Refusal::Bad(cause)) => return Err(FeedFault::Bad { row, cause }),
-            Err(Refusal::NoMemory) => return Err(FeedFault::NoMemory),
-        }
+    if is_plain(bytes) {
+        posts_of_lines(alloc, &names, bytes)
+    } else {
+        posts_of_records(alloc, &names, bytes)
     }
-    // No memory holds so many records.
-    Err(FeedFault::NoMemory)
 }
 
 /// The posts of a feed, in order: for each record the number of the actor and the message, whose fields fit its kind. A record
