@@ -2,7 +2,8 @@
 //!
 //! Each byte of a log is replaced by every other byte, the log is cut behind each byte, each line is dropped, doubled and exchanged
 //! with the next, some are replaced by others, and some whole logs stand for themselves. What each is to come to stands in the
-//! tables, from the form of the lines and from what the actors do, and not from any answer. Nothing is proved here but that it is safe and ends.
+//! tables, from the form of the lines and from what the actors do, and not from any answer. Nothing is proved here but that it is
+//! safe and ends.
 #![tactic(auto)]
 
 mod answer;
