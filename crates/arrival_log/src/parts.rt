@@ -42,7 +42,11 @@ pub(crate) fn write_source(text: &mut Bytes, plan: &Plan, source: Source) -> Res
 }
 
 // An actor's name and a space, behind ` from actor `, and nothing for a feed.
-pub(crate) fn write_source_rest(text: &mut Bytes, plan: &Plan, source: Source) -> Result<(), NoMemory>
+pub(crate) fn write_source_rest(
+    text: &mut Bytes,
+    plan: &Plan,
+    source: Source,
+) -> Result<(), NoMemory>
     ensures { OnOk result (text.new ≡ text.old ++ source_rest plan.now source) }
 {
     match source {
