@@ -19,12 +19,12 @@ fn words_of(alloc: Global, texts: &[&str]) -> Result<WordList, NoMemory> {
     Ok(words)
 }
 
-// The bytes of a file, or none where it can't be read.
-fn held_by<R: Files>(rt: &R, alloc: Global, name: &str) -> Result<Bytes, NoMemory> {
+// The bytes of a file. `None` where it can't be read.
+fn held_by<R: Files>(rt: &R, alloc: Global, name: &str) -> Result<Option<Bytes>, NoMemory> {
     match FileInputs::new(rt).fetch(alloc, name, ROOM) {
-        Ok(bytes) => Ok(bytes),
+        Ok(bytes) => Ok(Some(bytes)),
         Err(FetchFault::NoMemory) => Err(NoMemory),
-        Err(FetchFault::Failed | FetchFault::TooLong) => Ok(Bytes::new(alloc)),
+        Err(FetchFault::Failed | FetchFault::TooLong) => Ok(None),
     }
 }
 
@@ -49,8 +49,10 @@ pub fn is_printed<R: Files + Threads + Wait + Sync>(
     file: &str,
 ) -> Result<bool, NoMemory> {
     let (_, out) = answer_to(rt, alloc, texts)?;
-    let wanted = held_by(rt, alloc, file)?;
-    Ok(out.bytes() == wanted.bytes())
+    match held_by(rt, alloc, file)? {
+        Some(wanted) => Ok(out.bytes() == wanted.bytes()),
+        None => Ok(false),
+    }
 }
 
 /// Whether the words are carried out without a refusal.
