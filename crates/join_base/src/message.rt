@@ -63,6 +63,14 @@ impl Fields {
         }
     }
 
+    /// No values, and room for as many as `count`, or for 8 where it is more: so many are appended without more memory.
+    pub fn with_room(alloc: Global, count: usize) -> Result<Fields, NoMemory>
+        ensures empty { IfOk result (λ f. f ≡ []) }
+    {
+        let values = Vec::with_capacity(alloc, count.min(Fields::MAX))?;
+        Ok(Fields { values })
+    }
+
     pub fn len(&self) -> usize
         ensures count { result ≡ length self.now }
         ensures few { length self.now ≤ 8 }
@@ -98,10 +106,11 @@ impl Fields {
         }
     }
 
+    /// The same values, with room for exactly these.
     pub fn copy(&self, alloc: Global) -> Result<Fields, NoMemory>
         ensures equal { IfOk result (λ f. f ≡ self.now) }
     {
-        let mut values = Vec::new(alloc);
+        let mut values = Vec::with_capacity(alloc, self.values.len())?;
         for value in &self.values {
             let copied = value.copy(alloc)?;
             values.push(copied)?;

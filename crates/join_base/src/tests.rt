@@ -162,7 +162,10 @@ fn lists_grow(rt: HostRuntime) {
 
 #[test]
 fn messages_have_at_most_eight_values(rt: HostRuntime) {
-    let mut fields = Fields::new(rt.alloc());
+    let mut fields = match Fields::with_room(rt.alloc(), 9) {
+        Ok(fields) => fields,
+        Err(_) => return assert!(rt; false),
+    };
     for value in 0..8 {
         assert!(rt; fields.push(Value::Int(value)).is_ok());
     }
