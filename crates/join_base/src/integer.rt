@@ -30,6 +30,19 @@ fn are_digits(text: &[u8]) -> bool
     !text.is_empty() && all_digits(text)
 }
 
+// A digit more, up to one past the greatest that is wanted. 64 bits hold each step.
+fn with_digit(value: u64, digit: u8, max: u64) -> u64
+    requires small { max ≤ 2 ^ 63 }
+    requires digit { digit ≤ 9 }
+    ensures { result ≡ min (value * 10 + digit) (max + 1) }
+{
+    if value > max / 10 {
+        max + 1
+    } else {
+        (value * 10 + u64::from(digit)).min(max + 1)
+    }
+}
+
 // The number that digits stand for, or one past the greatest that is wanted.
 fn value_up_to(digits: &[u8], max: u64) -> u64
     requires digits { are_digits digits.now ≡ true }
@@ -38,12 +51,7 @@ fn value_up_to(digits: &[u8], max: u64) -> u64
 {
     let mut value: u64 = 0;
     for digit in digits {
-        let next = u128::from(value) * 10 + u128::from(*digit - b'0');
-        value = if next <= u128::from(max) {
-            next as u64
-        } else {
-            max + 1
-        };
+        value = with_digit(value, *digit - b'0', max);
     }
     value
 }
