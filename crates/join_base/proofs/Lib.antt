@@ -1,3 +1,4 @@
 pub mod NumbersLemmas
+pub mod TextLemmas
 pub mod QuotedLemmas
 pub mod Examples

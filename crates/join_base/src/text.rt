@@ -99,31 +99,13 @@ impl From<AllocError> for TextFault {
     }
 }
 
-// The bytes, where they are UTF-8 and at most as many.
-fn text_of(alloc: Global, bytes: &[u8], max: usize) -> Result<Vec<u8>, TextFault>
-    ensures ok { IfOk result (λ v. (v.items ≡ bytes.now) × IsText max bytes.now) }
-    ensures not_text { (result ≡ Err TextFault.NotText) ↔ (¬ IsUtf8 bytes.now) }
-    ensures too_long { (result ≡ Err TextFault.TooLong) ↔ (IsUtf8 bytes.now × (max < length bytes.now)) }
-{
-    match std::str::from_utf8(bytes) {
-        Err(_) => Err(TextFault::NotText),
-        Ok(_) => {
-            if bytes.len() > max {
-                return Err(TextFault::TooLong);
-            }
-            let own = bytes.to_vec(alloc)?;
-            Ok(own)
-        }
-    }
-}
-
-/// UTF-8 of at most 120 bytes: the value of a text field, or a text of a script.
+/// UTF-8 of at most `BOUND` bytes.
 #[derive(Drop)]
-pub struct Text {
+pub struct BoundedText<const BOUND: usize> {
     bytes: Vec<u8>,
 }
 
-impl Model for Text {
+impl<const BOUND: usize> Model for BoundedText<BOUND> {
     ghost use Rattle.std.specs.Prelude.{ℕ, List};
     ghost use Rattle.join_base.specs.Text.{IsText};
 
@@ -131,94 +113,58 @@ impl Model for Text {
 
     ghost view = { λ a. a.bytes.items };
 
-    ghost invariant = { λ a. IsText 120 a.bytes.items };
+    ghost invariant = { λ a. IsText BOUND a.bytes.items };
 }
 
-impl Text {
-    /// The most bytes of a text.
-    pub const MAX: usize = 120;
+impl<const BOUND: usize> BoundedText<BOUND> {
+    /// The most bytes of such a text.
+    pub const MAX: usize = BOUND;
 
-    pub fn from_bytes(alloc: Global, bytes: &[u8]) -> Result<Text, TextFault>
+    pub fn from_bytes(alloc: Global, bytes: &[u8]) -> Result<Self, TextFault>
         ensures ok { IfOk result (λ t. t ≡ bytes.now) }
         ensures not_text { (result ≡ Err TextFault.NotText) ↔ (¬ IsUtf8 bytes.now) }
-        ensures too_long { (result ≡ Err TextFault.TooLong) ↔ (IsUtf8 bytes.now × (120 < length bytes.now)) }
+        ensures too_long { (result ≡ Err TextFault.TooLong) ↔ (IsUtf8 bytes.now × (BOUND < length bytes.now)) }
     {
-        match text_of(alloc, bytes, 120) {
-            Ok(bytes) => Ok(Text { bytes }),
-            Err(fault) => Err(fault),
+        match std::str::from_utf8(bytes) {
+            Err(_) => Err(TextFault::NotText),
+            Ok(_) => {
+                if bytes.len() > BOUND {
+                    return Err(TextFault::TooLong);
+                }
+                let own = bytes.to_vec(alloc)?;
+                Ok(BoundedText { bytes: own })
+            }
         }
     }
 
     /// The text of these bytes. It takes no memory.
-    pub fn from_vec(bytes: Vec<u8>) -> Text
-        requires is_text { IsText 120 bytes.items }
+    pub fn from_vec(bytes: Vec<u8>) -> Self
+        requires is_text { IsText BOUND bytes.items }
         ensures same { result ≡ bytes.items }
     {
-        Text { bytes }
+        BoundedText { bytes }
     }
 
     pub fn bytes(&self) -> &[u8]
         ensures same { result.now ≡ self.now }
-        ensures is_text { IsText 120 self.now }
+        ensures is_text { IsText BOUND self.now }
     {
         self.bytes.as_slice()
     }
 
-    pub fn copy(&self, alloc: Global) -> Result<Text, NoMemory>
+    pub fn copy(&self, alloc: Global) -> Result<Self, NoMemory>
         ensures equal { IfOk result (λ t. t ≡ self.now) }
     {
         let bytes = self.bytes.as_slice().to_vec(alloc)?;
-        Ok(Text { bytes })
+        Ok(BoundedText { bytes })
     }
 }
 
-/// UTF-8 of at most 1,920 bytes: what a body prints.
-#[derive(Drop)]
-pub struct Line {
-    bytes: Vec<u8>,
-}
+/// The value of a text field, or a text of a script: UTF-8 of at most 120 bytes.
+pub type Text = BoundedText<120>;
 
-impl Model for Line {
-    ghost use Rattle.std.specs.Prelude.{ℕ, List};
-    ghost use Rattle.join_base.specs.Text.{IsText};
-
-    ghost Value = { List ℕ };
-
-    ghost view = { λ a. a.bytes.items };
-
-    ghost invariant = { λ a. IsText 1920 a.bytes.items };
-}
-
-impl Line {
-    /// The most bytes of a line.
-    pub const MAX: usize = 1920;
-
-    pub fn from_bytes(alloc: Global, bytes: &[u8]) -> Result<Line, TextFault>
-        ensures ok { IfOk result (λ t. t ≡ bytes.now) }
-        ensures not_text { (result ≡ Err TextFault.NotText) ↔ (¬ IsUtf8 bytes.now) }
-        ensures too_long { (result ≡ Err TextFault.TooLong) ↔ (IsUtf8 bytes.now × (1920 < length bytes.now)) }
-    {
-        match text_of(alloc, bytes, 1920) {
-            Ok(bytes) => Ok(Line { bytes }),
-            Err(fault) => Err(fault),
-        }
-    }
-
-    /// The line of these bytes. It takes no memory.
-    pub fn from_vec(bytes: Vec<u8>) -> Line
-        requires is_text { IsText 1920 bytes.items }
-        ensures same { result ≡ bytes.items }
-    {
-        Line { bytes }
-    }
-
-    pub fn bytes(&self) -> &[u8]
-        ensures same { result.now ≡ self.now }
-        ensures is_text { IsText 1920 self.now }
-    {
-        self.bytes.as_slice()
-    }
-}
+/// What a body prints: UTF-8 of at most 1,920 bytes.
+pub type Line = BoundedText<1920>;
 
 /// The name of an actor, a kind, a field or a variable: 1 to 64 ASCII letters, digits and `_`, the first no digit. It is no
 /// keyword of a script, and not `_` alone.
