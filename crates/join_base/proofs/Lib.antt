@@ -1,3 +1,4 @@
+pub mod EachLemmas
 pub mod NumbersLemmas
 pub mod TextLemmas
 pub mod QuotedLemmas
