@@ -12,10 +12,7 @@ use Rattle.std.proofs.Math.ListN.{get_or-eq_default}
 use Rattle.std.proofs.Math.Seq.{get_or-append_seam}
 use Rattle.join_base.specs.Taken.{contains_number, without}
 use Rattle.mailbox_core.specs.Live.{InPlace, is_number}
-
-each_same : (P Q : ℕ → Type 0) → ((n : ℕ) → P n → Q n) → (xs : List ℕ) → AllByRecursion P xs → AllByRecursion Q xs
-each_same P Q f [] h = tt
-each_same P Q f (x ∷ xs) h = (f x h.0, each_same P Q f xs h.1)
+use Rattle.join_base.proofs.EachLemmas.{each_from}
 
 zero_is_none : (c : ℕ) → c ≡ 0 → is_number c ≡ false
 zero_is_none c e = ap (λ (n : ℕ). is_number n) e
@@ -108,7 +105,7 @@ no_numbers (suc count) = no_numbers count
 pub numbers_recorded : (from : ℕ) (cells : List ℕ) → 1 ≤ from → InPlace from cells → AllByRecursion (λ n. (1 ≤ n) × (n + 1 ≤ from + length cells)) (filter is_number cells)
 numbers_recorded from [] some h = tt
 numbers_recorded from (c ∷ cells) some h =
-    let more : AllByRecursion (λ n. (1 ≤ n) × (n + 1 ≤ from + length (c ∷ cells))) (filter is_number cells) = each_same _ _ (λ n r. (r.0, omega (arith, r.1))) _ (numbers_recorded (from + 1) cells (omega arith) h.1) in
+    let more : AllByRecursion (λ n. (1 ≤ n) × (n + 1 ≤ from + length (c ∷ cells))) (filter is_number cells) = each_from _ _ (λ n r. (r.0, omega (arith, r.1))) _ (numbers_recorded (from + 1) cells (omega arith) h.1) in
     elim h.0 [ inl e ↦ rw (gone_first c cells e) more | inr e ↦ rw (number_first c from cells e some) ((some, omega arith), more) ]
 
 numbers_sorted : (from : ℕ) (cells : List ℕ) → 1 ≤ from → InPlace from cells → IsStrictlySortedBy nat_cmp (filter is_number cells)
@@ -116,7 +113,7 @@ unfolding IsStrictlySortedBy
 numbers_sorted from [] some h = tt
 numbers_sorted from (c ∷ cells) some h =
     let more = numbers_sorted (from + 1) cells (omega arith) h.1 in
-    let above = each_same (λ n. from + 1 ≤ n) (λ n. nat_cmp from n ≡ Less) (λ n low. sym (nat_cmp_is from n Less (omega arith))) _ (numbers_above (from + 1) (from + 1) cells (omega arith) (omega arith) h.1) in
+    let above = each_from (λ n. from + 1 ≤ n) (λ n. nat_cmp from n ≡ Less) (λ n low. sym (nat_cmp_is from n Less (omega arith))) _ (numbers_above (from + 1) (from + 1) cells (omega arith) (omega arith) h.1) in
     elim h.0 [ inl e ↦ rw (gone_first c cells e) more | inr e ↦ rw (number_first c from cells e some) (above, more) ]
 
 pub numbers_ascending : (cells : List ℕ) → InPlace 1 cells → IsStrictlyIncreasing (filter is_number cells)
