@@ -1,7 +1,6 @@
 -- What holds of the routes that lead on from a path.
-use Rattle.std.proofs.Common.{◌≡◌, ◌∙◌, ℕ, zero, suc, ◌+◌, ◌<◌, List, [], ◌∷◌, ◌++◌, map, length, get_or, drop, true, false, not, ◌&&◌, ◌||◌, cond, None, Some, refl, subst, arith}
+use Rattle.std.proofs.Common.{◌≡◌, ◌∙◌, ℕ, zero, suc, ◌+◌, ◌<◌, List, [], ◌∷◌, map, length, get_or, drop, true, false, not, ◌&&◌, ◌||◌, cond, None, Some, refl, subst, arith}
 use Rattle.std.specs.Prelude.{◌==◌}
-use Rattle.std.specs.List.{AllByRecursion}
 use Rattle.std.proofs.lemmas.Bool.Decides.{nat_tests}
 use Rattle.guard_eval.specs.Meaning.{Assignment}
 use Rattle.guard_eval.proofs.ReadyLemmas.{all_left, all_right}
@@ -10,10 +9,7 @@ use Rattle.match_tree.specs.Offers.{Offered, is_free}
 use Rattle.match_tree.specs.Below.{AreBelow, Climbs}
 use Rattle.match_tree.specs.Offering.{CanOffer, LeadsOn, LeadOn}
 use Rattle.match_tree.specs.Growth.{Lasts}
-
-pub all_both : {X : Type 0} (P : X → Type 0) (xs ys : List X) → AllByRecursion P xs → AllByRecursion P ys → AllByRecursion P (xs ++ ys)
-all_both P [] ys h k = k
-all_both P (x ∷ xs) ys h k = (h.0, all_both P xs ys h.1 k)
+pub use Rattle.join_base.proofs.EachLemmas.{each_append as all_both}
 
 -- ---- numbers before another
 

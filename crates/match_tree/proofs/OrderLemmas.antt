@@ -5,6 +5,7 @@ use Rattle.guard_eval.proofs.ReadyLemmas.{all_left, all_right}
 use Rattle.match_tree.specs.Routes.{Route, Step, Branch, step, node_routes, row_routes, rows_routes}
 use Rattle.match_tree.specs.Order.{Earlier, AreOrdered, IsSoundRow, AreSound}
 use Rattle.match_tree.proofs.LeadLemmas.{all_both}
+use Rattle.join_base.proofs.EachLemmas.{each_from}
 
 all_map : {X Y : Type 0} (P : Y → Type 0) (f : X → Y) (xs : List X) → AllByRecursion (λ x. P (f x)) xs → AllByRecursion P (map f xs)
 all_map P f [] h = h
@@ -13,10 +14,6 @@ all_map P f (x ∷ xs) h = (h.0, all_map P f xs h.1)
 all_map_back : {X Y : Type 0} (P : Y → Type 0) (f : X → Y) (xs : List X) → AllByRecursion P (map f xs) → AllByRecursion (λ x. P (f x)) xs
 all_map_back P f [] h = h
 all_map_back P f (x ∷ xs) h = (h.0, all_map_back P f xs h.1)
-
-all_to : {X : Type 0} (P Q : X → Type 0) → ((x : X) → P x → Q x) → (xs : List X) → AllByRecursion P xs → AllByRecursion Q xs
-all_to P Q f [] h = h
-all_to P Q f (x ∷ xs) h = (f x h.0, all_to P Q f xs h.1)
 
 -- ---- behind a step
 
@@ -28,12 +25,12 @@ behind_earlier s r t (inr (inr e)) = e.1
 ordered_map : (s : Step) (routes : List Route) → AreOrdered routes → AreOrdered (map (λ r. s ∷ r) routes)
 ordered_map s [] h = h
 ordered_map s (r ∷ routes) h =
-    (all_map (Earlier (s ∷ r)) (λ (x : Route). s ∷ x) routes (all_to (Earlier r) (λ x. Earlier (s ∷ r) (s ∷ x)) (λ x e. inr (inr (refl, e))) routes h.0), ordered_map s routes h.1)
+    (all_map (Earlier (s ∷ r)) (λ (x : Route). s ∷ x) routes (each_from (Earlier r) (λ x. Earlier (s ∷ r) (s ∷ x)) (λ x e. inr (inr (refl, e))) routes h.0), ordered_map s routes h.1)
 
 ordered_map_back : (s : Step) (routes : List Route) → AreOrdered (map (λ r. s ∷ r) routes) → AreOrdered routes
 ordered_map_back s [] h = h
 ordered_map_back s (r ∷ routes) h =
-    (all_to (λ x. Earlier (s ∷ r) (s ∷ x)) (Earlier r) (λ x e. behind_earlier s r x e) routes (all_map_back (Earlier (s ∷ r)) (λ (x : Route). s ∷ x) routes h.0), ordered_map_back s routes h.1)
+    (each_from (λ x. Earlier (s ∷ r) (s ∷ x)) (Earlier r) (λ x e. behind_earlier s r x e) routes (all_map_back (Earlier (s ∷ r)) (λ (x : Route). s ∷ x) routes h.0), ordered_map_back s routes h.1)
 
 -- ---- one list behind another
 
@@ -74,8 +71,8 @@ cross_numbers q m (s ∷ r) (u ∷ t) h k = inr (inl (h.0 ∙ sym k.0, (let a = 
 
 cross_node : (q : ℕ) (node : Branch) (row : List Branch) → AllByRecursion (λ later. node.number < later.number) row → AllByRecursion (λ x. AllByRecursion (Earlier x) (row_routes q row)) (node_routes q node)
 cross_node q node row later =
-    all_to (StartsAt q (λ n. n ≡ node.number)) (λ x. AllByRecursion (Earlier x) (row_routes q row))
-    (λ x h. all_to (StartsAt q (λ n. node.number < n)) (Earlier x) (λ y k. cross_numbers q node.number x y h k) (row_routes q row) (row_starts q (λ n. node.number < n) row later))
+    each_from (StartsAt q (λ n. n ≡ node.number)) (λ x. AllByRecursion (Earlier x) (row_routes q row))
+    (λ x h. each_from (StartsAt q (λ n. node.number < n)) (Earlier x) (λ y k. cross_numbers q node.number x y h k) (row_routes q row) (row_starts q (λ n. node.number < n) row later))
     (node_routes q node) (node_starts q (λ n. n ≡ node.number) node refl)
 
 pub later_numbers : (m : ℕ) (row : List Branch) → AllByRecursion (λ n. m < n) (map (λ node. node.number) row) → AllByRecursion (λ node. m < node.number) row
@@ -133,8 +130,8 @@ rows_start : (p : ℕ) (rows : List (List Branch)) → AllByRecursion (StartsFro
 rows_start p [] = tt
 rows_start p (row ∷ rows) =
     all_both (StartsFrom p) (row_routes p row) (rows_routes (p + 1) rows)
-    (all_to (StartsAt p (λ n. Unit {0})) (StartsFrom p) (λ r h. starts_from p r h) (row_routes p row) (row_starts p (λ n. Unit {0}) row (all_unit row)))
-    (all_to (StartsFrom (p + 1)) (StartsFrom p) (λ r h. starts_later p (p + 1) r (omega arith) h) (rows_routes (p + 1) rows) (rows_start (p + 1) rows))
+    (each_from (StartsAt p (λ n. Unit {0})) (StartsFrom p) (λ r h. starts_from p r h) (row_routes p row) (row_starts p (λ n. Unit {0}) row (all_unit row)))
+    (each_from (StartsFrom (p + 1)) (StartsFrom p) (λ r h. starts_later p (p + 1) r (omega arith) h) (rows_routes (p + 1) rows) (rows_start (p + 1) rows))
 
 cross_patterns : (p : ℕ) (r t : Route) → StartsAt p (λ n. Unit {0}) r → StartsFrom (p + 1) t → Earlier r t
 cross_patterns p [] t h k = absurd h
@@ -145,8 +142,8 @@ pub rows_ordered : (p : ℕ) (rows : List (List Branch)) → AreSound rows → A
 rows_ordered p [] h = tt
 rows_ordered p (row ∷ rows) h =
     ordered_both (row_routes p row) (rows_routes (p + 1) rows) (row_ordered p row h.0) (rows_ordered (p + 1) rows h.1)
-    (all_to (StartsAt p (λ n. Unit {0})) (λ x. AllByRecursion (Earlier x) (rows_routes (p + 1) rows))
-    (λ x k. all_to (StartsFrom (p + 1)) (Earlier x) (λ y m. cross_patterns p x y k m) (rows_routes (p + 1) rows) (rows_start (p + 1) rows))
+    (each_from (StartsAt p (λ n. Unit {0})) (λ x. AllByRecursion (Earlier x) (rows_routes (p + 1) rows))
+    (λ x k. each_from (StartsFrom (p + 1)) (Earlier x) (λ y m. cross_patterns p x y k m) (rows_routes (p + 1) rows) (rows_start (p + 1) rows))
     (row_routes p row) (row_starts p (λ n. Unit {0}) row (all_unit row)))
 
 not_empty : (p : ℕ) (r : Route) → StartsFrom p r → Earlier [] r
@@ -155,7 +152,7 @@ not_empty p (s ∷ r) h = tt
 
 -- sound rows have ordered routes behind the empty one
 pub rows_ordered_behind : (p : ℕ) (rows : List (List Branch)) → AreSound rows → AreOrdered ([] ∷ rows_routes p rows)
-rows_ordered_behind p rows h = (all_to (StartsFrom p) (Earlier []) (λ r k. not_empty p r k) (rows_routes p rows) (rows_start p rows), rows_ordered p rows h)
+rows_ordered_behind p rows h = (each_from (StartsFrom p) (Earlier []) (λ r k. not_empty p r k) (rows_routes p rows) (rows_start p rows), rows_ordered p rows h)
 
 pub rows_sound : (p : ℕ) (rows : List (List Branch)) → AreOrdered (rows_routes p rows) → AreSound rows
 rows_sound p [] h = tt

@@ -19,6 +19,7 @@ use Rattle.match_tree.specs.Pruned.{AreShort, pruned, without_number, without_nu
 use Rattle.match_tree.proofs.TakeLemmas.{filter_both}
 use Rattle.guard_eval.proofs.ReadyLemmas.{all_left, all_right}
 use Rattle.match_tree.proofs.OrderLemmas.{later_numbers}
+pub use Rattle.join_base.proofs.EachLemmas.{each_filter as all_filtered}
 
 -- ---- taking one number out
 
@@ -188,14 +189,6 @@ leaves_count m q (node ∷ row) l ordered short =
     let both = length-append (node_routes q node) (row_routes q row) in
     let here = length-map node.routes (λ (r : Route). step q node.number ∷ r) in
     omega arith
-
-pub all_filtered : (P : Branch → Type 0) (p : Branch → Bool) (row : List Branch) → AllByRecursion P row → AllByRecursion P (filter p row)
-all_filtered P p [] h = tt
-all_filtered P p (node ∷ row) h = by (p node) (all_filtered P p row h.1)
-  where
-    by : (b : Bool) → AllByRecursion P (filter p row) → AllByRecursion P (cond b (node ∷ filter p row) (filter p row))
-    by true later = (h.0, later)
-    by false later = later
 
 short_step : (m p q n : ℕ) (routes : List Route) → AreShort m (map (λ r. step p n ∷ r) routes) → AreShort m (map (λ r. step q n ∷ r) routes)
 short_step m p q n [] h = tt

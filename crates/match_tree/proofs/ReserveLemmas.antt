@@ -25,6 +25,7 @@ use Rattle.match_tree.specs.Kept.{IsKept, SeesAdded, paths_of, reserve_of, tree_
 use Rattle.match_tree.specs.declared.pending.Pending.{Pending}
 use Rattle.match_tree.proofs.FirstLemmas.{all_in, all_members}
 use Rattle.match_tree.proofs.KeptLemmas.{parts_count, same_map, settled_none, and_true, and_assoc, and_comm}
+use Rattle.join_base.proofs.EachLemmas.{each_append}
 
 lead_from : (o : Offered) (slots : Assignment) (routes : List Route) → AreOpen slots routes → AllByRecursion (CanOffer o) (map (filled slots) routes) → LeadOn o slots routes
 lead_from o slots [] h k = tt
@@ -100,17 +101,13 @@ takes_it : (n p : ℕ) (route : Route) → lacks (n ∷ []) (route ++ step p n �
 takes_it n p [] = let same : (n == n) ≡ true = grind (arith, nat_tests) in λ i. not (same i || false) && true
 takes_it n p (s ∷ route) = (λ i. not (is_one_of (n ∷ []) s.number) && takes_it n p route i) ∙ and_comm (not (is_one_of (n ∷ []) s.number)) false
 
-all_joined : {X : Type 0} (P : X → Type 0) (xs ys : List X) → AllByRecursion P xs → AllByRecursion P ys → AllByRecursion P (xs ++ ys)
-all_joined P [] ys h k = k
-all_joined P (x ∷ xs) ys h k = (h.0, all_joined P xs ys h.1 k)
-
 all_ends : (n : ℕ) (route : Route) (ps : List ℕ) → AllByRecursion (λ r. lacks (n ∷ []) r ≡ false) (map (λ p. route ++ step p n ∷ []) ps)
 all_ends n route [] = tt
 all_ends n route (p ∷ ps) = (takes_it n p route, all_ends n route ps)
 
 all_new : (o : Offered) (slots : Assignment) (routes : List Route) → AllByRecursion (λ r. lacks (o.number ∷ []) r ≡ false) (new_routes o slots routes)
 all_new o slots [] = tt
-all_new o slots (r ∷ routes) = all_joined (λ q. lacks (o.number ∷ []) q ≡ false) (map (λ p. r ++ step p o.number ∷ []) (growing o (filled slots r))) (new_routes o slots routes) (all_ends o.number r (growing o (filled slots r))) (all_new o slots routes)
+all_new o slots (r ∷ routes) = each_append (λ q. lacks (o.number ∷ []) q ≡ false) (map (λ p. r ++ step p o.number ∷ []) (growing o (filled slots r))) (new_routes o slots routes) (all_ends o.number r (growing o (filled slots r))) (all_new o slots routes)
 
 -- the added routes are those that the number adds behind the empty path and behind the seen routes
 same_added : (o : Offered) (slots : Assignment) (before now : List Route) → Lasts o.number before now → Grows o slots (growing o slots) before now
@@ -180,7 +177,7 @@ seen_ends oldest n route (p ∷ ps) e h = (one route h, seen_ends oldest n route
 seen_new : (o : Offered) (slots : Assignment) (routes : List Route) → nat_le o.oldest o.number ≡ true → AllByRecursion (λ r. is_seen o.oldest r ≡ true) routes → AllByRecursion (λ r. is_seen o.oldest r ≡ true) (new_routes o slots routes)
 seen_new o slots [] e h = tt
 seen_new o slots (r ∷ routes) e h =
-    all_joined (λ q. is_seen o.oldest q ≡ true) (map (λ p. r ++ step p o.number ∷ []) (growing o (filled slots r))) (new_routes o slots routes)
+    each_append (λ q. is_seen o.oldest q ≡ true) (map (λ p. r ++ step p o.number ∷ []) (growing o (filled slots r))) (new_routes o slots routes)
     (seen_ends o.oldest o.number r (growing o (filled slots r)) e h.0) (seen_new o slots routes e h.1)
 
 seen_filter : (oldest : ℕ) (routes : List Route) → AllByRecursion (λ r. is_seen oldest r ≡ true) (filter (is_seen oldest) routes)

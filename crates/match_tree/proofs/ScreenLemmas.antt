@@ -27,6 +27,7 @@ use Rattle.match_tree.specs.declared.screen.Key.{Key}
 use Rattle.match_tree.proofs.SlotsLemmas.{extends_one, free_is_none, free_further, below_apart}
 use Rattle.match_tree.proofs.TakeLemmas.{and_of, takers_further}
 use Rattle.match_tree.proofs.VisitLemmas.{Passed, passed_unseen, passed_quiet, all_filter, all_take}
+use Rattle.join_base.proofs.EachLemmas.{each_last}
 
 -- ---- members by their place
 
@@ -199,10 +200,6 @@ module _ (o : Offered) (slots : Assignment) (q m p : ℕ) (free : is_free slots 
 
 -- ---- a screen with a test more
 
-all_more : {X : Type 0} (P : X → Type 0) (xs : List X) (x : X) → AllByRecursion P xs → P x → AllByRecursion P (xs ++ x ∷ [])
-all_more P [] x h p = (p, tt)
-all_more P (y ∷ xs) x h p = (h.0, all_more P xs x h.1 p)
-
 key_is : (P : Bound → Type 0) (key : Option Key) (bound : Bound) → P bound → IfSome key (λ k. as_bound k ≡ bound) → IfSome key (λ k. P (as_bound k))
 key_is P None bound p h = tt
 key_is P (Some k) bound p h = subst P (sym h) p
@@ -220,7 +217,7 @@ bound_more o whole pattern before now bound h is other same tests bounds key =
     ] in
     let all : All now.bounds = elim bounds [
       | inl e ↦ subst All (sym e) h.bounds
-      | inr e ↦ subst All (sym e) (all_more (P before.other) before.bounds bound h.bounds is)
+      | inr e ↦ subst All (sym e) (each_last (P before.other) before.bounds bound h.bounds is)
     ] in
     record {
       key = subst (λ (n : ℕ). IfSome now.key (λ k. P n (as_bound k))) (sym other) keyed;

@@ -19,6 +19,7 @@ use Rattle.match_tree.proofs.TakeLemmas.{and_of, no_takers_further, no_takers_be
 use Rattle.match_tree.proofs.GrowLemmas.{flat_map-append, grows_both, grows_none, grows_unseen, grows_node, lasts_both, seen_node, unseen_node}
 use Rattle.match_tree.proofs.LeadLemmas.{all_both, lead_lasts, lead_below, not_it}
 use Rattle.match_tree.proofs.FirstLemmas.{least_both}
+pub use Rattle.join_base.proofs.EachLemmas.{each_filter as all_filter}
 
 pub row_append : (q : ℕ) (xs ys : List Branch) → row_routes q (xs ++ ys) ≡ row_routes q xs ++ row_routes q ys
 row_append q xs ys = flat_map-append (node_routes q) xs ys
@@ -120,14 +121,6 @@ module _ (o : Offered) (slots : Assignment) (q : ℕ) where
   }
 
 -- ---- where no pattern may take the number
-
-pub all_filter : {X : Type 0} (P : X → Type 0) (p : X → Bool) (xs : List X) → AllByRecursion P xs → AllByRecursion P (filter p xs)
-all_filter P p [] h = h
-all_filter {X} P p (x ∷ xs) h = by (p x) (all_filter P p xs h.1)
-  where
-    by : (b : Bool) → AllByRecursion P (filter p xs) → AllByRecursion P (cond b (x ∷ filter p xs) (filter p xs))
-    by true later = (h.0, later)
-    by false later = later
 
 -- each of the patterns that may take the number may
 pub all_take : (o : Offered) (slots : Assignment) (ps : List ℕ) → AllByRecursion (λ p. may_take o slots p ≡ true) (filter (may_take o slots) ps)

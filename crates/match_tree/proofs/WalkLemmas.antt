@@ -18,11 +18,7 @@ use Rattle.match_tree.proofs.OrderLemmas.{later_numbers}
 use Rattle.match_tree.proofs.TriesLemmas.{tries_append, tries_node, tried_further}
 use Rattle.match_tree.proofs.FirstLemmas.{least_both, first_is_least}
 use Rattle.match_tree.proofs.VisitLemmas.{Stays, Passed, row_append, stays_both, stays_same, passed_both}
-
-pub all_drop : {X : Type 0} (P : X → Type 0) (xs : List X) (i : ℕ) → AllByRecursion P xs → AllByRecursion P (drop i xs)
-all_drop P xs zero h = h
-all_drop P [] (suc i) h = h
-all_drop P (x ∷ xs) (suc i) h = all_drop P xs i h.1
+pub use Rattle.join_base.proofs.EachLemmas.{each_drop as all_drop}
 
 pub all_at : {X : Type 0} (P : X → Type 0) (xs : List X) (i : ℕ) (d : X) → i < length xs → AllByRecursion P xs → P (get_or xs i d)
 all_at P [] i d within h = absurd (omega arith)
