@@ -11,6 +11,7 @@ use Rattle.match_tree.specs.Tries.{tries}
 use Rattle.std.specs.Prelude.{MatchOption}
 use Rattle.join_base.specs.declared.message.Message.{Message}
 use Rattle.tree_law.specs.Trees.{best_of, reserve_best, settled_tree, HasOnce, IsReservedAt, AreSettled, path_count, tries_at}
+use Rattle.join_base.proofs.EachLemmas.{each_last}
 
 -- the items so far were changed, and the others are as before
 pub record IsChanged {X : Type 0} (f : X → X) (before now : List X) (i : ℕ) : Type 0 where
@@ -91,10 +92,6 @@ pub record IsReserving (letters : List Message) (number : ℕ) (before now : Lis
 pub reserving_none : (letters : List Message) (number : ℕ) (trees : List Tree) → IsReserving letters number trees trees 0
 reserving_none letters number trees = record { same = refl; done = tt; left = refl; count = refl }
 
-pub all_last : {X : Type 0} (P : X → Type 0) (xs : List X) (x : X) → AllByRecursion P xs → P x → AllByRecursion P (xs ++ x ∷ [])
-all_last P [] x h k = (k, tt)
-all_last P (y ∷ xs) x h k = (h.0, all_last P xs x h.1 k)
-
 settled_set : (trees : List Tree) (i : ℕ) (d x : Tree) → i < length trees → settled_tree x ≡ settled_tree (get_or trees i d) → map settled_tree (slice_set trees i x) ≡ map settled_tree trees
 settled_set [] i d x within e = absurd (omega arith)
 settled_set (t ∷ trees) zero d x within e = ap (λ (u : Tree). u ∷ map settled_tree trees) e
@@ -106,7 +103,7 @@ reserving_more letters number before now i d x within h same reserved =
     let inside : i < length now = omega (arith, h.count) in
     record {
       same = settled_set now i d x inside same ∙ h.same;
-      done = subst (λ (ts : List Tree). AllByRecursion (IsReservedAt letters number) ts) (sym (take_more_set now i x inside)) (all_last (IsReservedAt letters number) (take i now) x h.done reserved);
+      done = subst (λ (ts : List Tree). AllByRecursion (IsReservedAt letters number) ts) (sym (take_more_set now i x inside)) (each_last (IsReservedAt letters number) (take i now) x h.done reserved);
       left = drop-set-lt (i + 1) now i x (omega arith) ∙ left_more now before i h.left;
       count = length-set now i x ∙ h.count;
     }
@@ -156,7 +153,7 @@ paths_more trees i d count more next within is made h =
     omega arith
 
 pub once_more : (trees : List Tree) (i : ℕ) (d : Tree) → i < length trees → AllByRecursion HasOnce (take i trees) → HasOnce (get_or trees i d) → AllByRecursion HasOnce (take (i + 1) trees)
-once_more trees i d within h one = subst (λ (ts : List Tree). AllByRecursion HasOnce ts) (sym (take_more trees i d within)) (all_last HasOnce (take i trees) (get_or trees i d) h one)
+once_more trees i d within h one = subst (λ (ts : List Tree). AllByRecursion HasOnce ts) (sym (take_more trees i d within)) (each_last HasOnce (take i trees) (get_or trees i d) h one)
 
 pub paths_all : (trees : List Tree) (i count : ℕ) → length trees ≤ i → count ≤ 2 ^ 64 - 1 → min (count + path_count (drop i trees)) (2 ^ 64 - 1) ≡ min (path_count trees) (2 ^ 64 - 1) → count ≡ min (path_count trees) (2 ^ 64 - 1)
 paths_all trees i count past small h =
