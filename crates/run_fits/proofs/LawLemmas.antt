@@ -1,5 +1,5 @@
 -- From a sound state to the run that it shows, and from the runs of the actors to the whole run.
-use Rattle.std.proofs.Common.{◌≡◌, ◌∙◌, ℕ, suc, ◌^◌, ◌<◌, ◌≤◌, List, [], ◌∷◌, length, map, Bool, true, false, Option, None, Some, refl, ap, sym, subst, arith, slice_get}
+use Rattle.std.proofs.Common.{◌≡◌, ◌∙◌, ℕ, ◌^◌, ◌<◌, ◌≤◌, List, [], ◌∷◌, length, map, Bool, true, false, Option, None, Some, refl, ap, sym, subst, arith, slice_get}
 use Rattle.std.specs.Prelude.{◌==◌, ◌||◌, if◌then◌else◌}
 use Rattle.std.specs.List.{AllByRecursion, list_any}
 use Rattle.std.proofs.lemmas.Bool.Decides.{nat_tests}
@@ -25,6 +25,7 @@ use Rattle.run_fits.specs.FitsLaw.{FairRunFits, FairRunsFit, LimitsFit, RulesFit
 use Rattle.run_fits.proofs.LateFitsLemmas.{late_counts_fit, late_in_order}
 use Rattle.run_fits.proofs.RestLemmas.{CanRest, cleared_count}
 use Rattle.run_fits.proofs.SoundLemmas.{EntrySound, IsSound, all_sound, opening_sound}
+use Rattle.join_base.proofs.EachLemmas.{each_from_get}
 
 -- ---- the rules of an actor of a well typed plan
 
@@ -128,10 +129,6 @@ fair_run_fits plan actor limits version feeds sent typed texts versioned limited
     let both = fair_sound plan actor limits version feeds sent typed texts versioned limited given in
     run_fits plan version feeds (setting_of plan actor limits).rules limits both.0 (fair plan actor limits feeds sent) both.1
 
-each_place : {X : Type 0} (P : X → Type 0) (xs : List X) → ((i : ℕ) (x : X) → slice_get xs i ≡ Some x → P x) → AllByRecursion P xs
-each_place P [] h = tt
-each_place P (x ∷ xs) h = (h 0 x refl, each_place P xs (λ i y e. h (suc i) y e))
-
 pub fair_runs_fit : FairRunsFit
 fair_runs_fit plan run typed versioned limited feeds same each = record {
   version = versioned.known;
@@ -140,7 +137,7 @@ fair_runs_fit plan run typed versioned limited feeds same each = record {
   partials = limited.partials;
   feeds = feeds;
   actors = same;
-  each = each_place (ActorRunFits plan run.version run.feeds) run.actors (λ actor own e.
+  each = each_from_get (ActorRunFits plan run.version run.feeds) run.actors (λ actor own e.
       let h = each actor own e in
       subst (ActorRunFits plan run.version run.feeds) (sym h.same) (fair_run_fits plan actor run.limits run.version run.feeds h.sent typed h.rules versioned limited h.fitting));
 }
