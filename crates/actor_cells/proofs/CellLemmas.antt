@@ -29,6 +29,7 @@ use Rattle.actor_cells.specs.Served.{IsKept}
 use Rattle.actor_cells.specs.Steps.{AreSmall, Brings, Moves}
 use Rattle.actor_cells.proofs.StateLemmas.{HaveStamps, NoOthers, Stands, grows, stamped, stands_more}
 use Rattle.actor_cells.proofs.LinkLemmas.{among, each-at, is-itself, none-from, received-more, received-same, same-number, sent-at, sent-other, sent-set, source_of, sources-are, target_of, targets-are}
+use Rattle.join_base.proofs.EachLemmas.{each_right}
 
 pub prefix-refl : {X : Type 0} (a : List X) → IsPrefix a a
 prefix-refl a = ([], append-nil a)
@@ -205,10 +206,6 @@ module _ (c after : Cell) (k : ℕ) (w : Outward) (l : LinkIn) (lawful : IsLawfu
 
 -- ---- stamps of posts
 
-each-right : {X : Type 0} (P : X → Type 0) (xs ys : List X) → AllByRecursion P (xs ++ ys) → AllByRecursion P ys
-each-right P [] ys each = each
-each-right P (x ∷ xs) ys each = each-right P xs ys each.1
-
 effects-small : (target stamp : ℕ) → stamp ≤ 4294967295 → (effects : List Effect) → AreSmall (filter_map (effect_for target stamp) effects)
 effects-small target stamp l [] = tt
 effects-small target stamp l (effect.Print line ∷ effects) = effects-small target stamp l effects
@@ -228,7 +225,7 @@ entries-small target (e ∷ entries) each =
 pub waiting-small : (c : Cell) → IsLawful c → (target : ℕ) → target < actors_in c → AreSmall (posts_for c.actor.outbox target)
 waiting-small c lawful target within =
     let small = entries-small target (entries_in c) (stamped c.actor.setting (feeds_in c) (actors_in c) (received_from c.inward.items) (state_in c) (of-lawful c lawful)) in
-    each-right (λ (p : Stamped). p.stamp ≤ 4294967295) (sent_to c.outward.items target) (posts_for c.actor.outbox target) (subst AreSmall (sym (lawful.posted target within)) small)
+    each_right (λ (p : Stamped). p.stamp ≤ 4294967295) (sent_to c.outward.items target) (posts_for c.actor.outbox target) (subst AreSmall (sym (lawful.posted target within)) small)
 
 pub target-exists : (c : Cell) → IsLawful c → (k : ℕ) (w : Outward) → k < length c.outward.items → get_or c.outward.items k w ≡ w → w.target < actors_in c
 target-exists c lawful k w within here =

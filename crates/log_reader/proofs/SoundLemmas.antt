@@ -27,14 +27,7 @@ use Rattle.log_reader.specs.declared.draft.Open.{Open}
 use Rattle.log_reader.specs.declared.draft.Open.TheVariants.{Heading, Entries, Arrived, Fired, Lates}
 use Rattle.log_reader.specs.Draft.{follows, held, is_open, open_entry, step, with_effect}
 use Rattle.log_reader.proofs.ShownLemmas.{Clean, arrived_draft, draft_at, ended_run, late_draft}
-
-each_front : {X : Type 0} (P : X → Type 0) (xs ys : List X) → AllByRecursion P (xs ++ ys) → AllByRecursion P xs
-each_front P [] ys a = tt
-each_front P (x ∷ xs) ys a = (a.0, each_front P xs ys a.1)
-
-each_back : {X : Type 0} (P : X → Type 0) (xs ys : List X) → AllByRecursion P (xs ++ ys) → AllByRecursion P ys
-each_back P [] ys a = a
-each_back P (x ∷ xs) ys a = each_back P xs ys a.1
+use Rattle.join_base.proofs.EachLemmas.{each_left, each_right}
 
 -- ---- late lines in order
 
@@ -198,14 +191,14 @@ module _ (plan : Plan) (head : Head) (actors : List ActorRun) (es : List Entry) 
 
   fire_sound : (x : Arrival) (rule : ℕ) (taken : List ℕ) → Sound plan (at (Arrived x)) → FiringFits plan head.version (fired rule taken) → Sound plan (at (Fired x (fired rule taken)))
   fire_sound x rule taken sound fits =
-      let last = each_back (EntryFits plan head.version head.feeds) es (entry_with x None ∷ []) sound.entries in
+      let last = each_right (EntryFits plan head.version head.feeds) es (entry_with x None ∷ []) sound.entries in
       record {
         head = sound.head;
         actors = sound.actors;
         few = sound.few;
         begun = sound.begun;
         clean = sound.clean;
-        entries = each_append (EntryFits plan head.version head.feeds) es (entry_with x (Some (fired rule taken)) ∷ []) (each_front (EntryFits plan head.version head.feeds) es (entry_with x None ∷ []) sound.entries)
+        entries = each_append (EntryFits plan head.version head.feeds) es (entry_with x (Some (fired rule taken)) ∷ []) (each_left (EntryFits plan head.version head.feeds) es (entry_with x None ∷ []) sound.entries)
             (record { number = last.0.number; source = last.0.source; message = last.0.message; stamp = last.0.stamp; firing = fits }, tt);
         late = sound.late;
         order = tt;
@@ -213,7 +206,7 @@ module _ (plan : Plan) (head : Head) (actors : List ActorRun) (es : List Entry) 
 
   act_sound : (x : Arrival) (f : Firing) (effect : Effect) → Sound plan (at (Fired x f)) → EffectFits plan head.version effect → Sound plan (at (Fired x (with_effect f effect)))
   act_sound x f effect sound fits =
-      let last = each_back (EntryFits plan head.version head.feeds) es (entry_with x (Some f) ∷ []) sound.entries in
+      let last = each_right (EntryFits plan head.version head.feeds) es (entry_with x (Some f) ∷ []) sound.entries in
       let firing : FiringFits plan head.version f = last.0.firing in
       record {
         head = sound.head;
@@ -221,7 +214,7 @@ module _ (plan : Plan) (head : Head) (actors : List ActorRun) (es : List Entry) 
         few = sound.few;
         begun = sound.begun;
         clean = sound.clean;
-        entries = each_append (EntryFits plan head.version head.feeds) es (entry_with x (Some (with_effect f effect)) ∷ []) (each_front (EntryFits plan head.version head.feeds) es (entry_with x (Some f) ∷ []) sound.entries) (
+        entries = each_append (EntryFits plan head.version head.feeds) es (entry_with x (Some (with_effect f effect)) ∷ []) (each_left (EntryFits plan head.version head.feeds) es (entry_with x (Some f) ∷ []) sound.entries) (
           record {
             number = last.0.number;
             source = last.0.source;

@@ -27,6 +27,7 @@ use Rattle.script_faults.specs.First.{fault_if, too_many}
 use Rattle.script_faults.specs.Faults.{Comparing, actor_faults, atom_comparisons, body_faults, comparison_faults, comparisons, count_faults, faults_of, guard_comparisons, guard_faults, item_faults, item_place, leaf_faults, message_faults, operand_faults, operand_place, own_place, pattern_faults, patterns_faults, reply_faults, rule_faults, statement_faults, statement_place, stop_faults, term_faults, twice_declared, window_faults}
 use Rattle.script_check.proofs.NumberLemmas.{left_none, right_none, NumberFits, numbers_fit, window_fits}
 use Rattle.script_plan.specs.Small.{IsSmallTerm, IsSmallOperand, IsSmallAtom, AreSmallAtoms, IsSmallItem, IsSmallStatement, IsSmallPattern, IsSmallWindow, IsSmallRule, IsSmallActor, IsSmall}
+pub use Rattle.join_base.proofs.EachLemmas.{each_left, each_right, each_from as each_one}
 
 -- ---- where a list of faults is empty, so is what each item gives
 
@@ -39,21 +40,9 @@ few most place [] is = omega arith
 few zero place (x ∷ xs) is = absurd cc
 few (suc most) place (x ∷ xs) is = omega (arith, few most place xs is)
 
-pub each_left : {X : Type 0} (P : X → Type 0) (xs ys : List X) → AllByRecursion P (xs ++ ys) → AllByRecursion P xs
-each_left P [] ys each = tt
-each_left P (x ∷ xs) ys each = (each.0, each_left P xs ys each.1)
-
-pub each_right : {X : Type 0} (P : X → Type 0) (xs ys : List X) → AllByRecursion P (xs ++ ys) → AllByRecursion P ys
-each_right P [] ys each = each
-each_right P (x ∷ xs) ys each = each_right P xs ys each.1
-
 pub each_both : {X : Type 0} (P Q R : X → Type 0) → ((x : X) → P x → Q x → R x) → (xs : List X) → AllByRecursion P xs → AllByRecursion Q xs → AllByRecursion R xs
 each_both P Q R both [] ps qs = tt
 each_both P Q R both (x ∷ xs) ps qs = (both x ps.0 qs.0, each_both P Q R both xs ps.1 qs.1)
-
-pub each_one : {X : Type 0} (P R : X → Type 0) → ((x : X) → P x → R x) → (xs : List X) → AllByRecursion P xs → AllByRecursion R xs
-each_one P R one [] ps = tt
-each_one P R one (x ∷ xs) ps = (one x ps.0, each_one P R one xs ps.1)
 
 -- ---- terms and guards
 

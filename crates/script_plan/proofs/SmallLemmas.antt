@@ -1,21 +1,18 @@
 -- What is small of a whole is small of its parts.
-use Rattle.std.proofs.Common.{◌≡◌, ℕ, zero, suc, ◌+◌, ◌<◌, ◌≤◌, List, [], ◌∷◌, ◌++◌, length, get_or, map, Option, None, Some, sym, subst, arith}
+use Rattle.std.proofs.Common.{◌≡◌, ℕ, zero, suc, ◌+◌, ◌<◌, ◌≤◌, List, [], ◌∷◌, length, get_or, map, Option, None, Some, sym, subst, arith}
 use Rattle.std.specs.List.{AllByRecursion}
 use Rattle.join_base.specs.declared.message.Sort.{Sort}
 use Rattle.script_grammar.specs.declared.tree.MessageDecl.{MessageDecl}
 use Rattle.script_grammar.specs.declared.tree.PatternDecl.{PatternDecl}
 use Rattle.script_names.specs.Scope.{sort_at, sorts_of, variable_at, variables_from, variables_in}
 use Rattle.script_plan.specs.Small.{IsSmallPattern, IsWithin}
+pub use Rattle.join_base.proofs.EachLemmas.{each_append}
 
 -- a fact of what each item gives holds of the item that a loop has reached
 pub each_reached_by : {X Y : Type 0} (P : Y → Type 0) (f : X → Y) (xs : List X) (i : ℕ) (x : X) → i < length xs → x ≡ get_or xs i x → AllByRecursion P (map f xs) → P (f x)
 each_reached_by P f [] i x within is each = absurd (omega arith)
 each_reached_by {X} P f (y ∷ xs) zero x within is each = let Q : X → Type 0 = λ z. P (f z) in subst Q (sym is) each.0
 each_reached_by P f (y ∷ xs) (suc i) x within is each = each_reached_by P f xs i x (omega arith) is each.1
-
-pub each_append : {X : Type 0} (P : X → Type 0) (xs ys : List X) → AllByRecursion P xs → AllByRecursion P ys → AllByRecursion P (xs ++ ys)
-each_append P [] ys a b = b
-each_append P (x ∷ xs) ys a b = (a.0, each_append P xs ys a.1 b)
 
 -- ---- the variables of a small definition
 
