@@ -1,15 +1,15 @@
--- A message that is looked at, brought to the actor, and taken.
+-- A message that is taken, handed over to the actor, and given back where it was refused.
 use Rattle.std.proofs.Common.{◌≡◌, ◌∙◌, ℕ, zero, suc, ◌<◌, List, [], ◌∷◌, ◌++◌, length, map, get_or, set, Option, Some, None, refl, ap, sym, subst, arith}
-use Rattle.std.specs.Prelude.{Result, Ok, Err, IfOk, OnErr, MatchOption, slice_get}
-use mathlib.Core.List.{IsPrefix}
+use Rattle.std.specs.Prelude.{Result, Ok, Err, IfOk, OnErr, MatchOption, true, slice_get}
+use mathlib.Core.List.{IsSuffix}
 use Rattle.join_base.specs.declared.items.NoMemory.{NoMemory}
 use Rattle.join_base.specs.declared.message.Stamped.{Stamped}
 use Rattle.join_base.specs.Late.{HasCount}
 use Rattle.fair_semantics.specs.declared.run.Outcome.{Outcome}
 use Rattle.actor_turn.specs.Held.{Held, is_taken}
 use Rattle.post_ring.specs.declared.link_out.LinkOut.{LinkOut}
-use Rattle.post_ring.specs.Links.{empty_looks, identity_out, received, waiting}
-use Rattle.post_ring.specs.Looks.{IsEmptyLook, IsLook, IsNext, Peeks, Takes}
+use Rattle.post_ring.specs.Links.{received, waiting}
+use Rattle.post_ring.specs.Looks.{IsTake, Returns, Takes}
 use Rattle.cell_links.specs.declared.ends.Inward.{Inward}
 use Rattle.actor_cells.specs.declared.cell.Cell.{Cell}
 use Rattle.actor_cells.specs.declared.cell.LinkTally.{LinkTally}
@@ -19,36 +19,28 @@ use Rattle.actor_cells.specs.Steps.{Brings, FindsNone, Refuses, changed_at, one_
 use Rattle.actor_cells.proofs.CellLemmas.{brought, known-here, looked}
 use Rattle.actor_cells.proofs.LinkLemmas.{has_count}
 use Rattle.actor_cells.proofs.TallyLemmas.{tally-set}
-use Rattle.std.proofs.lemmas.List.{length-append}
+use Rattle.std.proofs.lemmas.List.{append_cancel_right, length-append}
 
--- ---- looks
+-- ---- takes
 
--- a message was taken over the link
-pub record Took (old now : LinkOut) (message : Stamped) : Type 0 where
-  pub identity : identity_out now ≡ identity_out old
-  pub took : received now ≡ received old ++ message ∷ []
-  pub looks : empty_looks now ≡ empty_looks old
+pub taken : (a d : LinkOut) (m : Stamped) (found : Option Stamped) → found ≡ Some m → Takes a d found → IsTake a d m
+taken a d m found is takes = subst (Takes a d) is takes
 
-pub seen : (a b : LinkOut) (m : Stamped) (found : Option Stamped) → found ≡ Some m → Peeks a b found → IsLook a b × IsNext b m
-seen a b m found is peeks = subst (Peeks a b) is peeks
+-- the message that was taken is the last of those received, and comes back with the same fields
+pub last-of : (a d : LinkOut) (m n : Stamped) → IsTake a d m → n ≡ m → IsSuffix (n ∷ []) (received d)
+last-of a d m n took same = (received a, (λ i. received a ++ same i ∷ []) ∙ sym took.taken)
 
-pub seen-none : (a b : LinkOut) (found : Option Stamped) → found ≡ None → Peeks a b found → IsEmptyLook a b
-seen-none a b found is peeks = subst (Peeks a b) is peeks
-
--- a message that was seen is the one that is taken next
-pub taken-again : (a b d : LinkOut) (m : Stamped) (taken : Option Stamped) → IsLook a b × IsNext b m → Takes b d taken → Took a d m
-taken-again a b d m None look empty = let e : m ∷ look.1.first.0 ≡ [] = look.1.first.1 ∙ empty.none in absurd cc
-taken-again a b d m (Some x) look took =
-    let same = first (waiting b) (waiting d) x look.1.first took.first in
-    record {
-      identity = took.identity ∙ look.0.identity;
-      took = took.taken ∙ (λ i. look.0.taken i ++ sym same i ∷ []);
-      looks = took.looks ∙ look.0.looks;
-    }
-  where
-    first : (xs ys : List Stamped) (x : Stamped) → IsPrefix (m ∷ []) xs → IsPrefix xs (x ∷ ys) → m ≡ x
-    first [] ys x p q = let e : m ∷ p.0 ≡ [] = p.1 in cc
-    first (z ∷ xs) ys x p q = let e : m ∷ p.0 ≡ z ∷ xs = p.1 in let f : z ∷ (xs ++ q.0) ≡ x ∷ ys = q.1 in cc
+-- a message that was taken, refused and given back
+pub refuses : (before after : Held) (a d e : LinkOut) (m n : Stamped) → IsTake a d m → n ≡ m → Returns d e n → after ≡ before → is_taken before.setting before.state m.message m.stamp ≡ true → Refuses before after a e
+refuses before after a d e m n took same back held is = record {
+  identity = back.identity ∙ took.identity;
+  took = append_cancel_right (received e) (received a) (n ∷ []) (back.taken ∙ took.taken ∙ (λ i. received a ++ sym same i ∷ []));
+  looks = back.looks ∙ took.looks;
+  same = held;
+  message = m;
+  first = (waiting d, (λ i. sym same i ∷ waiting d) ∙ sym back.first);
+  taken = is;
+}
 
 -- ---- one link of a cell
 

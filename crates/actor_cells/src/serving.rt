@@ -6,9 +6,9 @@ ghost use Rattle.actor_cells.specs.Served.{IsKept, IsRefusing, LooksRose, Turns}
 ghost use Rattle.actor_cells.specs.Steps.{Brings, FindsNone, Refuses, TakesMany, changed_at, one_look, one_received};
 
 use crate::cell::Cell;
-use actor_turn::Actor;
+use actor_turn::{Actor, Refused};
 use fair_semantics::Outcome;
-use join_base::{NoMemory, Source, Steps};
+use join_base::{NoMemory, Source, Stamped, Steps};
 use post_ring::LinkOut;
 use std::alloc::Global;
 use std::sync::ledger::Ledger;
@@ -22,8 +22,8 @@ pub enum Turned {
     Dry,
 }
 
-// Brings the message that waits first on a link to the actor, and takes it then. The answer is what became of it, or `None` where
-// the link showed nothing. Without memory the message stays.
+// Takes the message that waits first on a link, and hands it over to the actor. The answer is what became of it, or `None` where
+// the link showed nothing. Without memory the message is given back to the link, where it waits first again.
 fn bring_one<L: Ledger>(
     alloc: Global,
     actor: &mut Actor,
@@ -35,12 +35,18 @@ fn bring_one<L: Ledger>(
     ensures brought { IfOk result (λ found. MatchOption found (FindsNone actor.old actor.new link.old link.new) (λ outcome. Brings source actor.old actor.new link.old link.new)) }
     ensures refused { OnErr result (Refuses actor.old actor.new link.old link.new) }
 {
-    let Some(stamped) = link.peek() else {
+    let Some(stamped) = link.take() else {
         return Ok(None);
     };
-    let outcome = actor.arrive(alloc, source, &stamped.message, stamped.stamp, steps)?;
-    let _ = link.take();
-    Ok(Some(outcome))
+    let Stamped { message, stamp } = stamped;
+    match actor.receive(alloc, source, message, stamp, steps) {
+        Ok(outcome) => Ok(Some(outcome)),
+        Err(refused) => {
+            let Refused { message } = refused;
+            link.give_back(Stamped { message, stamp });
+            Err(NoMemory)
+        }
+    }
 }
 
 impl Cell {
