@@ -1,9 +1,14 @@
 -- A first line and an arrival's line from the pieces that they are written in.
-use Rattle.std.proofs.Common.{◌≡◌, ◌∙◌, List, ℕ, [], ◌∷◌, ◌++◌, Bool, true, false, append_assoc, ap, sym}
+use Rattle.std.proofs.Common.{◌≡◌, ◌∙◌, List, ℕ, [], ◌∷◌, ◌++◌, ℕ, Bool, true, false, append-nil, append_assoc, ap, sym}
 use Rattle.std.specs.Prelude.{codes, ◌==◌, if◌then◌else◌}
 use Rattle.std.specs.Fmt.{decimal}
-use Rattle.arrival_log.specs.Commas.{stamp_behind}
-use Rattle.arrival_log.specs.LogText.{line, stamp_parts}
+use Rattle.join_base.specs.declared.message.Source.{Source}
+use Rattle.join_base.specs.declared.message.Source.TheVariants.{Feed, Actor}
+use Rattle.script_types.specs.declared.plan.Plan.{Plan}
+use Rattle.script_types.specs.Names.{name_of_actor}
+use Rattle.fair_semantics.specs.declared.run.Entry.{Entry}
+use Rattle.arrival_log.specs.Commas.{arrival_front, source_between, stamp_behind}
+use Rattle.arrival_log.specs.LogText.{arrival_line, line, message_text, source_text}
 
 pub head_written : (before version arrivals partials feeds zeroth first second third now : List ℕ) → zeroth ≡ before ++ (codes "joinlog " ++ version) → first ≡ zeroth ++ (codes " arrivals " ++ arrivals) → second ≡ first ++ (codes " partials " ++ partials) → third ≡ second ++ (codes " feeds " ++ feeds) → now ≡ third ++ 10 ∷ []
     → now ≡ before ++ line (codes "joinlog" ∷ version ∷ codes "arrivals" ∷ arrivals ∷ codes "partials" ∷ partials ∷ codes "feeds" ∷ feeds ∷ [])
@@ -19,16 +24,37 @@ stamped_line : (stamped : Bool) (number stamp source message : List ℕ) → lin
 stamped_line true number stamp source message = simp append_assoc
 stamped_line false number stamp source message = simp append_assoc
 
-pub arrival_written : (before number source message : List ℕ) (version stamp : ℕ) (zeroth first second third fourth fifth now : List ℕ) → zeroth ≡ before ++ number → first ≡ zeroth ++ stamp_behind version stamp → second ≡ first ++ codes " from " → third ≡ second ++ source → fourth ≡ third ++ codes " " → fifth ≡ fourth ++ message → now ≡ fifth ++ 10 ∷ []
-    → now ≡ before ++ line (number ∷ stamp_parts version stamp ++ codes "from" ∷ source ∷ message ∷ [])
-arrival_written before number source message version stamp zeroth first second third fourth fifth now zeroth_is first_is second_is third_is fourth_is fifth_is now_is =
-    let to_first = first_is ∙ ap (λ (text : List ℕ). text ++ stamp_behind version stamp) zeroth_is in
-    let to_second = second_is ∙ ap (λ (text : List ℕ). text ++ codes " from ") to_first in
-    let to_third = third_is ∙ ap (λ (text : List ℕ). text ++ source) to_second in
-    let to_fourth = fourth_is ∙ ap (λ (text : List ℕ). text ++ codes " ") to_third in
-    let to_fifth = fifth_is ∙ ap (λ (text : List ℕ). text ++ message) to_fourth in
-    let all = now_is ∙ ap (λ (text : List ℕ). text ++ 10 ∷ []) to_fifth in
-    all ∙ regroup before number (stamp_behind version stamp) (codes " from ") source (codes " ") message (10 ∷ []) ∙ ap (λ (text : List ℕ). before ++ text) (sym (stamped_line (version == 1) number (decimal stamp) source message))
-  where
-    regroup : (a b c d e f g h : List ℕ) → ((((((a ++ b) ++ c) ++ d) ++ e) ++ f) ++ g) ++ h ≡ a ++ (b ++ (c ++ (d ++ (e ++ (f ++ (g ++ h))))))
-    regroup a b c d e f g h = simp append_assoc
+-- the source of an arrival with the words around it
+between : (plan : Plan) (source : Source) (rest : List ℕ) → codes " from " ++ (source_text plan source ++ (codes " " ++ rest)) ≡ source_between plan source ++ rest
+between plan (Feed k) rest = ap (λ (text : List ℕ). codes " from feed " ++ text) (sym (append_assoc (decimal k) (codes " ") rest))
+between plan (Actor actor) rest = ap (λ (text : List ℕ). codes " from actor " ++ text) (sym (append_assoc (name_of_actor plan actor) (codes " ") rest))
+
+pub arrival_whole : (plan : Plan) (version : ℕ) (entry : Entry) → arrival_line plan version entry ≡ arrival_front plan version entry ++ (message_text plan entry.message ++ 10 ∷ [])
+arrival_whole plan version entry =
+    let number : List ℕ = decimal entry.number in
+    let stamp : List ℕ = stamp_behind version entry.stamp in
+    let source : List ℕ = source_between plan entry.source in
+    let message : List ℕ = message_text plan entry.message ++ 10 ∷ [] in
+    stamped_line (version == 1) number (decimal entry.stamp) (source_text plan entry.source) (message_text plan entry.message)
+    ∙ ap (λ (text : List ℕ). number ++ (stamp ++ text)) (between plan entry.source message)
+    ∙ sym (append_assoc number (stamp ++ source) message ∙ ap (λ (text : List ℕ). number ++ text) (append_assoc stamp source message))
+
+-- an arrival's line in two pieces
+pub arrival_parts : (plan : Plan) (version : ℕ) (entry : Entry) (text pushed now rest : List ℕ) → rest ≡ [] → pushed ≡ text ++ (arrival_front plan version entry ++ rest) → now ≡ pushed ++ (message_text plan entry.message ++ 10 ∷ []) → now ≡ text ++ arrival_line plan version entry
+arrival_parts plan version entry text pushed now rest nothing pushed_is now_is =
+    let front : List ℕ = arrival_front plan version entry in
+    let message : List ℕ = message_text plan entry.message ++ 10 ∷ [] in
+    now_is
+    ∙ ap (λ (piece : List ℕ). piece ++ message) (pushed_is ∙ ap (λ (piece : List ℕ). text ++ (front ++ piece)) nothing ∙ ap (λ (piece : List ℕ). text ++ piece) (append-nil front))
+    ∙ append_assoc text front message
+    ∙ ap (λ (piece : List ℕ). text ++ piece) (sym (arrival_whole plan version entry))
+
+-- lines out of the pieces that are put into a room
+pub message_whole : (name values : List ℕ) → name ++ 40 ∷ (values ++ 41 ∷ 10 ∷ []) ≡ (name ++ (40 ∷ (values ++ 41 ∷ []))) ++ 10 ∷ []
+message_whole name values = simp append_assoc
+
+pub fire_whole : (rule taken : List ℕ) → codes "fire rule " ++ (rule ++ (codes " take " ++ (taken ++ 10 ∷ []))) ≡ line (codes "fire rule" ∷ rule ∷ codes "take" ∷ taken ∷ [])
+fire_whole rule taken = simp append_assoc
+
+pub reply_whole : (number value : List ℕ) → codes "reply " ++ (number ++ (32 ∷ (value ++ 10 ∷ []))) ≡ line (codes "reply" ∷ number ∷ value ∷ [])
+reply_whole number value = simp append_assoc

@@ -15,6 +15,7 @@ mod lines;
 mod parts;
 mod print;
 mod room;
+mod whole;
 
 pub use lines::{write_actor, write_entry, write_head, write_heading, write_last_lines};
 pub use print::print_log;

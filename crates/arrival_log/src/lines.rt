@@ -1,13 +1,13 @@
 //! The lines of a log. Each function appends what its name says, and without memory some of it may stay appended.
-ghost use Rattle.std.specs.Prelude.{◌≡◌, ◌++◌, OnOk};
+ghost use Rattle.std.specs.Prelude.{◌≡◌, ◌≤◌, ◌++◌, drop, OnOk};
 ghost use Rattle.std.specs.List.{flat_map};
 ghost use Rattle.arrival_log.specs.LogText.{actor_lines, arrival_line, effect_line, end_line, entry_lines, fire_line, firing_lines, head_line, heading_line, last_lines, late_line, stamped};
 
 use crate::parts::{
-    write_count, write_ending, write_labelled, write_left, write_message, write_numbers,
-    write_source, write_source_rest, write_value,
+    write_count, write_ending, write_labelled, write_left, write_message, write_source, write_value,
 };
-use crate::room::{ROOM, put_number, put_source, put_stamp, put_words};
+use crate::room::ROOM;
+use crate::whole::{put_arrival, put_effect, put_fire, put_front};
 use fair_semantics::{ActorRun, Effect, Entry, Firing, Run};
 use join_base::{Bytes, NoMemory, Source, write_quoted};
 use script_types::{ActorPlan, Plan, write_actor_name};
@@ -23,7 +23,17 @@ pub fn write_head(text: &mut Bytes, run: &Run) -> Result<(), NoMemory>
     text.push_all(b"\n")
 }
 
-fn write_effect(text: &mut Bytes, plan: &Plan, effect: &Effect) -> Result<(), NoMemory>
+// Appends what stands in the room from a place on.
+#[inline]
+fn push_line(text: &mut Bytes, room: &[u8; ROOM], start: usize) -> Result<(), NoMemory>
+    requires within { start ≤ 512 }
+    ensures { OnOk result (text.new ≡ text.old ++ drop start room.now) }
+{
+    text.push_all(&room[start..])
+}
+
+// The line of an effect, piece by piece.
+fn write_effect_parts(text: &mut Bytes, plan: &Plan, effect: &Effect) -> Result<(), NoMemory>
     ensures { OnOk result (text.new ≡ text.old ++ effect_line plan.now effect.now) }
 {
     match effect {
@@ -47,43 +57,63 @@ fn write_effect(text: &mut Bytes, plan: &Plan, effect: &Effect) -> Result<(), No
     }
 }
 
-fn write_effects(text: &mut Bytes, plan: &Plan, effects: &[Effect]) -> Result<(), NoMemory>
+fn write_effect(
+    text: &mut Bytes,
+    room: &mut [u8; ROOM],
+    plan: &Plan,
+    effect: &Effect,
+) -> Result<(), NoMemory>
+    ensures { OnOk result (text.new ≡ text.old ++ effect_line plan.now effect.now) }
+{
+    match put_effect(room, plan, effect) {
+        Some(start) => push_line(text, room, start),
+        None => write_effect_parts(text, plan, effect),
+    }
+}
+
+fn write_effects(
+    text: &mut Bytes,
+    room: &mut [u8; ROOM],
+    plan: &Plan,
+    effects: &[Effect],
+) -> Result<(), NoMemory>
     ensures { OnOk result (text.new ≡ text.old ++ flat_map (effect_line plan.now) effects.now) }
 {
     for effect in effects {
-        write_effect(text, plan, effect)?;
+        write_effect(text, room, plan, effect)?;
     }
     Ok(())
 }
 
-fn write_fire(text: &mut Bytes, firing: &Firing) -> Result<(), NoMemory>
+fn write_fire(text: &mut Bytes, room: &mut [u8; ROOM], firing: &Firing) -> Result<(), NoMemory>
     ensures { OnOk result (text.new ≡ text.old ++ fire_line firing.now) }
 {
-    let mut room = [0; ROOM];
-    let end = put_words(&mut room, ROOM, b" take ");
-    let end = put_number(&mut room, end, u64::from(firing.rule));
-    let start = put_words(&mut room, end, b"fire rule ");
-    text.push_all(&room[start..])?;
-    write_numbers(text, firing.taken.as_slice())?;
-    text.push_all(b"\n")
+    let start = put_fire(room, firing);
+    push_line(text, room, start)
 }
 
 // The line of a firing and those of its effects, or nothing where there is no firing.
-fn write_firing(text: &mut Bytes, plan: &Plan, firing: &Option<Firing>) -> Result<(), NoMemory>
+fn write_firing(
+    text: &mut Bytes,
+    room: &mut [u8; ROOM],
+    plan: &Plan,
+    firing: &Option<Firing>,
+) -> Result<(), NoMemory>
     ensures { OnOk result (text.new ≡ text.old ++ firing_lines plan.now firing.now) }
 {
     match firing {
         Some(firing) => {
-            write_fire(text, firing)?;
-            write_effects(text, plan, firing.effects.as_slice())
+            write_fire(text, room, firing)?;
+            write_effects(text, room, plan, firing.effects.as_slice())
         }
         None => Ok(()),
     }
 }
 
-// The line of an arrival, with this stamp in place of its own.
-fn write_arrival(
+// The line of an arrival, with this stamp in place of its own, piece by piece.
+fn write_arrival_parts(
     text: &mut Bytes,
+    room: &mut [u8; ROOM],
     plan: &Plan,
     version: u32,
     entry: &Entry,
@@ -91,13 +121,41 @@ fn write_arrival(
 ) -> Result<(), NoMemory>
     ensures { OnOk result (text.new ≡ text.old ++ arrival_line plan.now version (stamped entry.now stamp)) }
 {
-    let mut room = [0; ROOM];
-    let end = put_source(&mut room, entry.source);
-    let end = put_stamp(&mut room, end, version, stamp);
-    let start = put_number(&mut room, end, u64::from(entry.number));
-    text.push_all(&room[start..])?;
-    write_source_rest(text, plan, entry.source)?;
+    let start = put_front(room, ROOM, plan, version, entry, stamp);
+    push_line(text, room, start)?;
     write_message(text, plan, &entry.message)
+}
+
+// The line of an arrival, with this stamp in place of its own.
+fn write_arrival(
+    text: &mut Bytes,
+    room: &mut [u8; ROOM],
+    plan: &Plan,
+    version: u32,
+    entry: &Entry,
+    stamp: u64,
+) -> Result<(), NoMemory>
+    ensures { OnOk result (text.new ≡ text.old ++ arrival_line plan.now version (stamped entry.now stamp)) }
+{
+    match put_arrival(room, plan, version, entry, stamp) {
+        Some(start) => push_line(text, room, start),
+        None => write_arrival_parts(text, room, plan, version, entry, stamp),
+    }
+}
+
+// The lines of an arrival with this stamp in place of its own, and of what it fired, put together in the room.
+fn write_entry_in(
+    text: &mut Bytes,
+    room: &mut [u8; ROOM],
+    plan: &Plan,
+    version: u32,
+    entry: &Entry,
+    stamp: u64,
+) -> Result<(), NoMemory>
+    ensures { OnOk result (text.new ≡ text.old ++ entry_lines plan.now version (stamped entry.now stamp)) }
+{
+    write_arrival(text, room, plan, version, entry, stamp)?;
+    write_firing(text, room, plan, &entry.firing)
 }
 
 /// Appends the lines of an arrival with this stamp in place of its own, and of what it fired.
@@ -110,8 +168,8 @@ pub fn write_entry(
 ) -> Result<(), NoMemory>
     ensures { OnOk result (text.new ≡ text.old ++ entry_lines plan.now version (stamped entry.now stamp)) }
 {
-    write_arrival(text, plan, version, entry, stamp)?;
-    write_firing(text, plan, &entry.firing)
+    let mut room = [0; ROOM];
+    write_entry_in(text, &mut room, plan, version, entry, stamp)
 }
 
 fn write_entries(
@@ -122,8 +180,9 @@ fn write_entries(
 ) -> Result<(), NoMemory>
     ensures { OnOk result (text.new ≡ text.old ++ flat_map (entry_lines plan.now version) entries.now) }
 {
+    let mut room = [0; ROOM];
     for entry in entries {
-        write_entry(text, plan, version, entry, entry.stamp)?;
+        write_entry_in(text, &mut room, plan, version, entry, entry.stamp)?;
     }
     Ok(())
 }

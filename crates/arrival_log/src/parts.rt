@@ -1,7 +1,7 @@
 //! The parts of a line. Each function appends one part, and without memory some of it may stay appended.
 ghost use Rattle.std.specs.Prelude.{◌≡◌, ◌++◌, ◌∷◌, [], map, OnOk};
 ghost use Rattle.std.specs.Fmt.{decimal};
-ghost use Rattle.arrival_log.specs.Commas.{comma_before, source_rest};
+ghost use Rattle.arrival_log.specs.Commas.{comma_before};
 ghost use Rattle.arrival_log.specs.LogText.{comma_joined, left_text, ending_text, message_text, source_text, value_text};
 ghost use Rattle.script_types.specs.Names.{name_of_actor, name_of_kind};
 
@@ -37,23 +37,6 @@ pub(crate) fn write_source(text: &mut Bytes, plan: &Plan, source: Source) -> Res
         Source::Actor(actor) => {
             text.push_all(b"actor ")?;
             write_actor_name(text, plan, actor)
-        }
-    }
-}
-
-// An actor's name and a space, behind ` from actor `, and nothing for a feed.
-pub(crate) fn write_source_rest(
-    text: &mut Bytes,
-    plan: &Plan,
-    source: Source,
-) -> Result<(), NoMemory>
-    ensures { OnOk result (text.new ≡ text.old ++ source_rest plan.now source) }
-{
-    match source {
-        Source::Feed(_) => Ok(()),
-        Source::Actor(actor) => {
-            write_actor_name(text, plan, actor)?;
-            text.push_all(b" ")
         }
     }
 }
@@ -105,7 +88,7 @@ pub(crate) fn write_message(
     text.push_all(b")\n")
 }
 
-pub(crate) fn write_numbers(text: &mut Bytes, numbers: &[u32]) -> Result<(), NoMemory>
+fn write_numbers(text: &mut Bytes, numbers: &[u32]) -> Result<(), NoMemory>
     ensures { OnOk result (text.new ≡ text.old ++ comma_joined (map (λ n. decimal n) numbers.now)) }
 {
     for (place, number) in numbers.iter().enumerate() {

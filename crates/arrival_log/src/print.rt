@@ -1,5 +1,5 @@
 //! A run as the text of its log.
-ghost use Rattle.std.specs.Prelude.{◌≡◌, ◌++◌, length, OnOk, OnErr};
+ghost use Rattle.std.specs.Prelude.{◌≡◌, ◌++◌, [], length, OnOk, OnErr};
 ghost use Rattle.fair_semantics.specs.Fits.{RunFits};
 ghost use Rattle.arrival_log.specs.LogText.{log_text, sections};
 
@@ -25,6 +25,40 @@ fn write_sections(
     Ok(())
 }
 
+// The bytes that are asked for at once for each arrival. A log of longer lines grows.
+const ARRIVAL_ROOM: usize = 96;
+
+// About as many bytes as a log of these runs has.
+fn room_for(runs: &[ActorRun]) -> usize {
+    let mut room: usize = 256;
+    for run in runs {
+        room = room.saturating_add(run.entries.as_slice().len().saturating_mul(ARRIVAL_ROOM));
+    }
+    room
+}
+
+// No bytes, with room for the log of these runs where there is so much memory.
+fn text_with_room(alloc: Global, runs: &[ActorRun]) -> Bytes
+    ensures empty { result ≡ [] }
+{
+    match Vec::with_capacity(alloc, room_for(runs)) {
+        Ok(room) => Bytes::from_vec(room),
+        Err(_) => Bytes::new(alloc),
+    }
+}
+
+// Appends a text. Bytes that were none take its memory.
+fn append(out: &mut Bytes, text: Bytes) -> Result<(), NoMemory>
+    ensures ok { OnOk result (out.new ≡ out.old ++ text) }
+    ensures err { OnErr result (out.new ≡ out.old) }
+{
+    if out.bytes().is_empty() {
+        *out = text;
+        return Ok(());
+    }
+    out.push_all(text.bytes())
+}
+
 /// Appends the log of a run as text: a first line with its limits and its number of feeds, and then for each actor
 /// the messages that it recorded, each with what it fired, the counts of late messages, and how the actor ended.
 /// In a run of version 2 each message has its stamp too, and a firing may have replies.
@@ -37,8 +71,8 @@ pub fn print_log(alloc: Global, plan: &Plan, run: &Run, out: &mut Bytes) -> Resu
     ensures ok { OnOk result (out.new ≡ out.old ++ log_text plan.now run.now) }
     ensures err { OnErr result (out.new ≡ out.old) }
 {
-    let mut text = Bytes::new(alloc);
+    let mut text = text_with_room(alloc, run.actors.as_slice());
     write_head(&mut text, run)?;
     write_sections(&mut text, plan, run.version, run.actors.as_slice())?;
-    out.push_all(text.bytes())
+    append(out, text)
 }
