@@ -49,10 +49,6 @@ module _ (o : Offered) (slots : Assignment) where
   pub grows_none : Grows o slots [] [] []
   grows_none = record { from = λ r m. absurd m; keeps = λ r m. m; adds = λ r m. m; begins = λ r m. m }
 
-  -- a step to the number
-  pub grows_step : (p : ℕ) → Grows o slots (p ∷ []) [] ((step p o.number ∷ []) ∷ [])
-  grows_step p = record { from = λ r m. inr (inr m); keeps = λ r m. absurd m; adds = λ r m. absurd m; begins = λ r m. m }
-
   -- where nothing is seen and the number begins nowhere, nothing is added
   pub grows_unseen : (xs : List Route) → seen o xs ≡ [] → Grows o slots [] xs xs
   grows_unseen xs none = record {
@@ -61,20 +57,6 @@ module _ (o : Offered) (slots : Assignment) where
     adds = λ r m. let None : List Route → Type 0 = λ rs. IsIn r (new_routes o slots rs) in absurd (subst None none m);
     begins = λ r m. absurd m;
   }
-
-  -- the same begins elsewhere
-  pub grows_here : (hs ks : List ℕ) (xs xs' : List Route) → ((p : ℕ) → IsIn p hs → IsIn p ks) → ((p : ℕ) → IsIn p ks → IsIn p hs) → Grows o slots hs xs xs' → Grows o slots ks xs xs'
-  grows_here hs ks xs xs' to back g =
-      let at : ℕ → Route = λ p. step p o.number ∷ [] in
-      let move : (as' bs : List ℕ) → ((p : ℕ) → IsIn p as' → IsIn p bs) → (r : Route) → IsIn r (steps_to o.number as') → IsIn r (steps_to o.number bs) =
-      λ as' bs f r m. let e = IsIn-map_from at r as' m in subst (λ (x : Route). IsIn x (steps_to o.number bs)) e.2 (IsIn-map at e.0 bs (f e.0 e.1))
-      in
-      record {
-        from = λ r m. elim (g.from r m) [ inl a ↦ inl a | inr b ↦ elim b [ inl c ↦ inr (inl c) | inr d ↦ inr (inr (move hs ks to r d)) ] ];
-        keeps = g.keeps;
-        adds = g.adds;
-        begins = λ r m. g.begins r (move ks hs back r m);
-      }
 
 -- ---- behind a step
 

@@ -3,6 +3,7 @@ pub mod TakeLemmas
 pub mod TakenLemmas
 pub mod MatchLemmas
 pub mod GrowLemmas
+pub mod BeginLemmas
 pub mod LeadLemmas
 pub mod TriesLemmas
 pub mod FirstLemmas

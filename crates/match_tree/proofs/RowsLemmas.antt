@@ -1,9 +1,9 @@
 -- A walk over rows, of which those so far were visited and the others are as they were.
 use Rattle.std.specs.declared.collections.VecDeque.{VecDeque}
-use Rattle.std.proofs.Common.{◌≡◌, ◌⊎◌, inl, inr, ◌∙◌, ℕ, zero, suc, ◌+◌, ◌<◌, ◌≤◌, List, [], ◌∷◌, ◌++◌, map, length, take, drop, get_or, set, max, replicate, Bool, true, false, ◌||◌, Option, None, Some, refl, sym, ap, subst, arith, length-append, append_assoc}
+use Rattle.std.proofs.Common.{◌≡◌, inl, inr, ◌∙◌, ℕ, zero, suc, ◌+◌, ◌<◌, ◌≤◌, List, [], ◌∷◌, ◌++◌, map, length, take, drop, get_or, set, max, replicate, Bool, true, false, not, cond, ◌&&◌, ◌||◌, Option, None, Some, refl, sym, ap, subst, arith, length-append, append_assoc}
 use Rattle.std.specs.Prelude.{◌==◌, if◌then◌else◌}
 use Rattle.std.specs.Ordering.{is_le}
-use denote.Param.Weighed.{most, most-append}
+use denote.Param.Weighed.{most}
 use Rattle.pattern_core.specs.Key.{key_cmp}
 use Rattle.std.specs.List.{filter, AllByRecursion}
 use Rattle.std.proofs.lemmas.Bool.Decides.{nat_tests}
@@ -24,8 +24,10 @@ use Rattle.match_tree.specs.Offers.{Offered, places, may_take, leaves_one_free, 
 use Rattle.match_tree.specs.Offering.{LeadsOn, LeadOn}
 use Rattle.match_tree.specs.Order.{Rise, IsOrderedNode, IsSoundRow, AreSound}
 use Rattle.match_tree.specs.Growth.{Lasts, Grows}
+use Rattle.match_tree.specs.Begins.{IsLess, AreLess, Begins}
 use Rattle.match_tree.specs.Tries.{tries_behind}
-use Rattle.match_tree.proofs.GrowLemmas.{lasts_both, grows_both, grows_step, grows_here}
+use Rattle.match_tree.proofs.GrowLemmas.{lasts_both, grows_both}
+use Rattle.match_tree.proofs.BeginLemmas.{begins_both, begins_nowhere, begins_step, begins_here}
 use Rattle.match_tree.proofs.LeadLemmas.{all_both, lead_lasts, lead_rows_drop, lead_below}
 use Rattle.match_tree.proofs.TriesLemmas.{tries_append}
 use Rattle.match_tree.proofs.FirstLemmas.{matches_both}
@@ -139,20 +141,39 @@ module _ (rows items : List (List Branch)) (i : ℕ) (row now d : List Branch) (
       ∙ ap least (append_assoc here front more)
       ∙ ap (λ (cs : List Candidate). least (here ++ cs)) (sym (matches_both o slots (rows_routes 0 (take i rows)) (row_routes i row)) ∙ ap (λ (rs : List Route). new_matches o slots (seen o rs)) (sym before_routes))
 
-  pub grows_on : (o : Offered) (slots : Assignment) (begun : List ℕ) → Grows o slots (filter (is_one_of begun) (places 0 (take i rows))) (rows_routes 0 (take i rows)) (rows_routes 0 (take i items))
-      → Grows o slots (filter (is_one_of begun) (i ∷ [])) (row_routes i row) (row_routes i now)
-      → Grows o slots (filter (is_one_of begun) (places 0 (take (i + 1) rows))) (rows_routes 0 (take (i + 1) rows)) (rows_routes 0 (take (i + 1) (set items i now)))
-  grows_on o slots begun h k =
+  pub grows_on : (o : Offered) (slots : Assignment) → Grows o slots [] (rows_routes 0 (take i rows)) (rows_routes 0 (take i items)) → Grows o slots [] (row_routes i row) (row_routes i now)
+      → Grows o slots [] (rows_routes 0 (take (i + 1) rows)) (rows_routes 0 (take (i + 1) (set items i now)))
+  grows_on o slots h k =
+      let both = grows_both o slots [] [] (rows_routes 0 (take i rows)) (row_routes i row) (rows_routes 0 (take i items)) (row_routes i now) h k in
+      subst (λ (rs : List Route). Grows o slots [] rs (rows_routes 0 (take (i + 1) (set items i now)))) (sym before_routes)
+      (subst (λ (rs : List Route). Grows o slots [] (rows_routes 0 (take i rows) ++ row_routes i row) rs) (sym now_routes) both)
+
+  pub begins_on : (n : ℕ) (begun : List ℕ) → Begins n (filter (is_one_of begun) (places 0 (take i rows))) (rows_routes 0 (take i rows)) (rows_routes 0 (take i items)) → Begins n (filter (is_one_of begun) (i ∷ [])) (row_routes i row) (row_routes i now)
+      → Begins n (filter (is_one_of begun) (places 0 (take (i + 1) rows))) (rows_routes 0 (take (i + 1) rows)) (rows_routes 0 (take (i + 1) (set items i now)))
+  begins_on n begun h k =
       let at : 0 + length (take i rows) ≡ i = let e = front_count rows within in omega arith in
       let here : filter (is_one_of begun) (places 0 (take (i + 1) rows)) ≡ filter (is_one_of begun) (places 0 (take i rows)) ++ filter (is_one_of begun) (i ∷ []) =
       ap (λ (xs : List (List Branch)). filter (is_one_of begun) (places 0 xs)) before_on
       ∙ ap (filter (is_one_of begun)) (places_append 0 (take i rows) (row ∷ []) ∙ ap (λ (m : ℕ). places 0 (take i rows) ++ m ∷ []) at)
       ∙ filter-append (is_one_of begun) (places 0 (take i rows)) (i ∷ [])
       in
-      let both = grows_both o slots (filter (is_one_of begun) (places 0 (take i rows))) (filter (is_one_of begun) (i ∷ [])) (rows_routes 0 (take i rows)) (row_routes i row) (rows_routes 0 (take i items)) (row_routes i now) h k in
-      subst (λ (ps : List ℕ). Grows o slots ps (rows_routes 0 (take (i + 1) rows)) (rows_routes 0 (take (i + 1) (set items i now)))) (sym here)
-      (subst (λ (rs : List Route). Grows o slots (filter (is_one_of begun) (places 0 (take i rows)) ++ filter (is_one_of begun) (i ∷ [])) rs (rows_routes 0 (take (i + 1) (set items i now)))) (sym before_routes)
-      (subst (λ (rs : List Route). Grows o slots (filter (is_one_of begun) (places 0 (take i rows)) ++ filter (is_one_of begun) (i ∷ [])) (rows_routes 0 (take i rows) ++ row_routes i row) rs) (sym now_routes) both))
+      let both = begins_both n (filter (is_one_of begun) (places 0 (take i rows))) (filter (is_one_of begun) (i ∷ [])) (rows_routes 0 (take i rows)) (row_routes i row) (rows_routes 0 (take i items)) (row_routes i now) h k in
+      subst (λ (ps : List ℕ). Begins n ps (rows_routes 0 (take (i + 1) rows)) (rows_routes 0 (take (i + 1) (set items i now)))) (sym here)
+      (subst (λ (rs : List Route). Begins n (filter (is_one_of begun) (places 0 (take i rows)) ++ filter (is_one_of begun) (i ∷ [])) rs (rows_routes 0 (take (i + 1) (set items i now)))) (sym before_routes)
+      (subst (λ (rs : List Route). Begins n (filter (is_one_of begun) (places 0 (take i rows)) ++ filter (is_one_of begun) (i ∷ [])) (rows_routes 0 (take i rows) ++ row_routes i row) rs) (sym now_routes) both))
+
+  -- what has not the number is as before
+  pub same_on : (n : ℕ) → filter (lacks (n ∷ [])) (rows_routes 0 (take i items)) ≡ filter (lacks (n ∷ [])) (rows_routes 0 (take i rows)) → filter (lacks (n ∷ [])) (row_routes i now) ≡ filter (lacks (n ∷ [])) (row_routes i row)
+      → filter (lacks (n ∷ [])) (rows_routes 0 (take (i + 1) (set items i now))) ≡ filter (lacks (n ∷ [])) (rows_routes 0 (take (i + 1) rows))
+  same_on n h k =
+      ap (filter (lacks (n ∷ []))) now_routes
+      ∙ filter-append (lacks (n ∷ [])) (rows_routes 0 (take i items)) (row_routes i now)
+      ∙ (λ j. h j ++ k j)
+      ∙ sym (filter-append (lacks (n ∷ [])) (rows_routes 0 (take i rows)) (row_routes i row))
+      ∙ ap (filter (lacks (n ∷ []))) (sym before_routes)
+
+  pub less_on : (n : ℕ) → AreLess n (take i items) → IsLess n now → AreLess n (take (i + 1) (set items i now))
+  less_on n h k = subst (AreLess n) (sym (take_more_set items i now within')) (all_both (IsLess n) (take i items) (now ∷ []) h (k, tt))
 
   pub counts_rows_on : (length (rows_routes 0 (take (i + 1) rows)) ≡ length (rows_routes 0 (take i rows)) + length (row_routes i row)) × (length (rows_routes 0 (take (i + 1) (set items i now))) ≡ length (rows_routes 0 (take i items)) + length (row_routes i now))
   counts_rows_on = (
@@ -188,22 +209,34 @@ rise_push : (ns : List ℕ) (n : ℕ) → Rise ns → AllByRecursion (λ m. m < 
 rise_push [] n h k = (tt, tt)
 rise_push (m ∷ ns) n h k = (all_both (λ x. m < x) ns (n ∷ []) h.0 (k.0, tt), rise_push ns n h.1 k.1)
 
-pub numbers_below : (o : Offered) (slots : Assignment) (q : ℕ) (row : List Branch) → LeadOn o slots (row_routes q row) → AllByRecursion (λ m. m < o.number) (map (λ node. node.number) row)
+pub numbers_below : (o : Offered) (slots : Assignment) (q : ℕ) (row : List Branch) → LeadOn o slots (row_routes q row) → IsLess o.number row
 numbers_below o slots q [] h = tt
 numbers_below o slots q (node ∷ row) h =
     ((lead_below o slots q node (all_left (LeadsOn o slots) (node_routes q node) (row_routes q row) h)).less, numbers_below o slots q row (all_right (LeadsOn o slots) (node_routes q node) (row_routes q row) h))
 
-pub push_sound : (n : ℕ) (row : List Branch) → IsSoundRow row → AllByRecursion (λ m. m < n) (map (λ node. node.number) row) → IsSoundRow (row ++ leaf n ∷ [])
+pub push_sound : (n : ℕ) (row : List Branch) → IsSoundRow row → IsLess n row → IsSoundRow (row ++ leaf n ∷ [])
 push_sound n row h k = record {
   rise = subst Rise (sym (map-append (λ (node : Branch). node.number) row (leaf n ∷ []))) (rise_push (map (λ node. node.number) row) n h.rise k);
   ordered = all_both IsOrderedNode row (leaf n ∷ []) h.ordered ((tt, tt), tt);
 }
 
-pub push_grows : (o : Offered) (slots : Assignment) (q : ℕ) (before now : List Branch) → Grows o slots [] (row_routes q before) (row_routes q now) → Grows o slots (q ∷ []) (row_routes q before) (row_routes q (now ++ leaf o.number ∷ []))
-push_grows o slots q before now g =
-    let both = grows_both o slots [] (q ∷ []) (row_routes q before) [] (row_routes q now) ((step q o.number ∷ []) ∷ []) g (grows_step o slots q) in
-    subst (λ (rs : List Route). Grows o slots (q ∷ []) rs (row_routes q (now ++ leaf o.number ∷ []))) (append-nil (row_routes q before))
-    (subst (λ (rs : List Route). Grows o slots (q ∷ []) (row_routes q before ++ []) rs) (sym (row_append q now (leaf o.number ∷ []))) both)
+pub push_begins : (n q : ℕ) (row : List Branch) → Begins n (q ∷ []) (row_routes q row) (row_routes q (row ++ leaf n ∷ []))
+push_begins n q row =
+    let both = begins_both n [] (q ∷ []) (row_routes q row) [] (row_routes q row) ((step q n ∷ []) ∷ []) (begins_nowhere n (row_routes q row)) (begins_step n q) in
+    subst (λ (rs : List Route). Begins n (q ∷ []) rs (row_routes q (row ++ leaf n ∷ []))) (append-nil (row_routes q row))
+    (subst (λ (rs : List Route). Begins n (q ∷ []) (row_routes q row ++ []) rs) (sym (row_append q row (leaf n ∷ []))) both)
+
+pub push_same : (n q : ℕ) (row : List Branch) → filter (lacks (n ∷ [])) (row_routes q (row ++ leaf n ∷ [])) ≡ filter (lacks (n ∷ [])) (row_routes q row)
+push_same n q row =
+    let its : (n == n) ≡ true = grind (arith, nat_tests) in
+    let none : filter (lacks (n ∷ [])) (row_routes q (leaf n ∷ [])) ≡ [] = λ i. cond (not (its i || false) && true) ((step q n ∷ []) ∷ []) [] in
+    ap (filter (lacks (n ∷ []))) (row_append q row (leaf n ∷ []))
+    ∙ filter-append (lacks (n ∷ [])) (row_routes q row) (row_routes q (leaf n ∷ []))
+    ∙ ap (λ (rs : List Route). filter (lacks (n ∷ [])) (row_routes q row) ++ rs) none
+    ∙ append-nil (filter (lacks (n ∷ [])) (row_routes q row))
+
+pub push_count : (n q : ℕ) (row : List Branch) → length (row_routes q (row ++ leaf n ∷ [])) ≡ length (row_routes q row) + 1
+push_count n q row = ap (λ (rs : List Route). length rs) (row_append q row (leaf n ∷ [])) ∙ length-append (row_routes q row) (row_routes q (leaf n ∷ []))
 
 -- ---- where the number begins
 
@@ -235,10 +268,10 @@ from_places p k (x ∷ xs) (inr m) = let l = from_places p (k + 1) xs m in omega
 
 -- each of the patterns at which the number begins has a row
 pub begins_in_rows : (o : Offered) (slots : Assignment) (rows : List (List Branch)) (before now : List Route) → length o.definition.patterns ≤ length rows
-    → Grows o slots (filter (is_one_of (growing o slots)) (places 0 rows)) before now → Grows o slots (growing o slots) before now
+    → Begins o.number (filter (is_one_of (growing o slots)) (places 0 rows)) before now → Begins o.number (growing o slots) before now
 begins_in_rows o slots rows before now enough g =
     let begun : List ℕ = growing o slots in
-    grows_here o slots (filter (is_one_of begun) (places 0 rows)) begun before now
+    begins_here o.number (filter (is_one_of begun) (places 0 rows)) begun before now
     (λ p m. one_of_in begun p (IsIn-filter_from (is_one_of begun) p (places 0 rows) m).1)
     (λ p m.
     let in_takers = (IsIn-filter_from (leaves_one_free o slots) p (takers o slots) m).0 in
@@ -246,52 +279,13 @@ begins_in_rows o slots rows before now enough g =
     IsIn-filter (is_one_of begun) p (places 0 rows) (in_one_of begun p m) (in_places p 0 rows (omega arith) (omega arith)))
     g
 
--- without a pattern at which it begins it begins nowhere
-pub begins_nowhere : (o : Offered) (slots : Assignment) (rows : List (List Branch)) (before now : List Route) → growing o slots ≡ []
-    → Grows o slots (filter (is_one_of (growing o slots)) (places 0 rows)) before now → Grows o slots (growing o slots) before now
-begins_nowhere o slots rows before now none g =
-    let begun : List ℕ = growing o slots in
-    grows_here o slots (filter (is_one_of begun) (places 0 rows)) begun before now
-    (λ p m. one_of_in begun p (IsIn-filter_from (is_one_of begun) p (places 0 rows) m).1)
-    (λ p m. absurd (subst (λ (ps : List ℕ). IsIn p ps) none m))
-    g
+less_empty : (n k : ℕ) → AreLess n (replicate k [])
+less_empty n zero = tt
+less_empty n (suc k) = (tt, less_empty n k)
 
--- rows that may have become more: they have the same routes, and there is one for each pattern at which a number begins
-pub record Roomy (o : Offered) (slots : Assignment) (before now : List (List Branch)) : Type 0 where
-  pub routes : rows_routes 0 now ≡ rows_routes 0 before
-  pub sound : AreSound now
-  pub enough : (length o.definition.patterns ≤ length now) ⊎ (growing o slots ≡ [])
-  pub no_deeper : (size : Branch → ℕ) → most (most size) now ≤ most (most size) before
-
-most_empty : (size : Branch → ℕ) (k : ℕ) → most (most size) (replicate k []) ≡ 0
-most_empty size zero = refl
-most_empty size (suc k) = let e = most_empty size k in omega arith
-
-pub roomy_grown : (o : Offered) (slots : Assignment) (before now : List (List Branch)) (k : ℕ) → now ≡ before ++ replicate k [] → AreSound before → length o.definition.patterns ≤ length now → Roomy o slots before now
-roomy_grown o slots before now k e sound enough = record {
-  routes = rows_more before now k e;
-  sound = sound_more before now k e sound;
-  enough = inl enough;
-  no_deeper = λ size. let is = ap (most (most size)) e ∙ most-append (most size) before (replicate k []) in let none = most_empty size k in omega arith;
-}
-
-pub roomy_same : (o : Offered) (slots : Assignment) (before now : List (List Branch)) → now ≡ before → AreSound before → growing o slots ≡ [] → Roomy o slots before now
-roomy_same o slots before now e sound none = record {
-  routes = ap (rows_routes 0) e;
-  sound = subst AreSound (sym e) sound;
-  enough = inr none;
-  no_deeper = λ size. let is = ap (most (most size)) e in omega arith;
-}
+pub less_more : (n : ℕ) (rows grown : List (List Branch)) (k : ℕ) → grown ≡ rows ++ replicate k [] → AreLess n rows → AreLess n grown
+less_more n rows grown k e h = subst (AreLess n) (sym e) (all_both (IsLess n) rows (replicate k []) h (less_empty n k))
 
 pub most_map : {X Y : Type 0} (f : Y → ℕ) (g : X → Y) (xs : List X) → most f (map g xs) ≡ most (λ x. f (g x)) xs
 most_map f g [] = refl
 most_map f g (x ∷ xs) = ap (max (f (g x))) (most_map f g xs)
-
-pub grows_roomy : (o : Offered) (slots : Assignment) (before rows : List (List Branch)) (now : List Route) → Roomy o slots before rows
-    → Grows o slots (filter (is_one_of (growing o slots)) (places 0 rows)) (rows_routes 0 rows) now → Grows o slots (growing o slots) (rows_routes 0 before) now
-grows_roomy o slots before rows now roomy g =
-    subst (λ (rs : List Route). Grows o slots (growing o slots) rs now) roomy.routes
-    (elim roomy.enough [
-      | inl enough ↦ begins_in_rows o slots rows (rows_routes 0 rows) now enough g
-      | inr none ↦ begins_nowhere o slots rows (rows_routes 0 rows) now none g
-    ])

@@ -10,6 +10,7 @@ pub mod Smaller
 pub mod Below
 pub mod Order
 pub mod Growth
+pub mod Begins
 pub mod Pruned
 pub mod Kept
 pub mod Bound

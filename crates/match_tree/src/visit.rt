@@ -1,14 +1,15 @@
 //! The visit of a new number: it is tried behind each path that may take it, and new nodes are added where it goes on.
-ghost use Rattle.std.specs.Prelude.{◌≡◌, ◌+◌, ◌<◌, ◌≤◌, ◌++◌, [], ◌∷◌, ℕ, length, map, replicate, not, ◌==◌, None, OnOk, IfOk, OnErr};
+ghost use Rattle.std.specs.Prelude.{◌≡◌, ◌+◌, ◌<◌, ◌≤◌, ◌++◌, [], ◌∷◌, ℕ, length, map, replicate, true, not, ◌==◌, None, OnOk, IfOk, OnErr};
 ghost use Rattle.std.specs.List.{filter, AllByRecursion};
 ghost use Rattle.pattern_core.specs.Choice.{least};
-ghost use Rattle.match_tree.specs.Routes.{rows_routes, row_routes, is_one_of};
+ghost use Rattle.match_tree.specs.Routes.{rows_routes, row_routes, is_one_of, lacks};
 ghost use Rattle.match_tree.specs.Rows.{rows_of};
-ghost use Rattle.match_tree.specs.Offers.{takers, may_take, growing, leaves_one_free, seen, new_matches};
+ghost use Rattle.match_tree.specs.Offers.{takers, may_take, growing, places, seen, new_matches};
 ghost use Rattle.match_tree.specs.Below.{AreOpen};
 ghost use Rattle.match_tree.specs.Offering.{offered, CanOffer, MayTry, LeadOn};
 ghost use Rattle.match_tree.specs.Order.{IsOrderedNode, IsSoundRow, AreSound};
 ghost use Rattle.match_tree.specs.Growth.{Lasts, Grows};
+ghost use Rattle.match_tree.specs.Begins.{AreLess, Begins, IsLess};
 ghost use Rattle.match_tree.specs.Tries.{tries_behind};
 
 use crate::node::Node;
@@ -57,6 +58,96 @@ fn push_leaf(
     Ok(())
 }
 
+// Adds a node for the number to the row of a pattern at which it begins, unless there is no memory.
+fn begin_row(
+    alloc: Global,
+    offer: &Offer<'_>,
+    slots: &Slots,
+    pattern: u32,
+    begun: &Numbers,
+    row: &mut VecDeque<Node>,
+    count: &mut u64,
+) -> bool
+    requires can { CanOffer (offered offer.now) slots.now }
+    requires begun { begun.now ≡ growing (offered offer.now) slots.now }
+    requires sound { IsSoundRow row.old.items }
+    requires less { IsLess offer.now.number row.old.items }
+    requires free_left { AreOpen slots.now (row_routes pattern row.old.items) }
+    ensures sound { IsSoundRow row.new.items }
+    ensures free_left { AreOpen slots.now (row_routes pattern row.new.items) }
+    ensures lasting { filter (lacks (offer.now.number ∷ [])) (row_routes pattern row.new.items) ≡ filter (lacks (offer.now.number ∷ [])) (row_routes pattern row.old.items) }
+    ensures begins { result ≡ true → Begins offer.now.number (filter (is_one_of begun.now) (pattern ∷ [])) (row_routes pattern row.old.items) (row_routes pattern row.new.items) }
+    ensures counted { count.new + length (row_routes pattern row.old.items) ≡ count.old + length (row_routes pattern row.new.items) }
+{
+    if !contains(begun, pattern) {
+        return true;
+    }
+    match push_leaf(alloc, row, offer.number, count) {
+        Ok(()) => true,
+        Err(_) => false,
+    }
+}
+
+// Adds a node for the number to each row of a pattern at which it begins, unless there is no memory.
+fn begin_rows(
+    alloc: Global,
+    offer: &Offer<'_>,
+    slots: &Slots,
+    begun: &Numbers,
+    rows: &mut [VecDeque<Node>],
+    count: &mut u64,
+) -> bool
+    requires can { CanOffer (offered offer.now) slots.now }
+    requires begun { begun.now ≡ growing (offered offer.now) slots.now }
+    requires few { length rows.old ≤ 8 }
+    requires sound { AreSound (rows_of rows.old) }
+    requires less { AreLess offer.now.number (rows_of rows.old) }
+    requires free_left { AreOpen slots.now (rows_routes 0 (rows_of rows.old)) }
+    ensures sound { AreSound (rows_of rows.new) }
+    ensures free_left { AreOpen slots.now (rows_routes 0 (rows_of rows.new)) }
+    ensures lasting { filter (lacks (offer.now.number ∷ [])) (rows_routes 0 (rows_of rows.new)) ≡ filter (lacks (offer.now.number ∷ [])) (rows_routes 0 (rows_of rows.old)) }
+    ensures begins { result ≡ true → Begins offer.now.number (filter (is_one_of begun.now) (places 0 (rows_of rows.old))) (rows_routes 0 (rows_of rows.old)) (rows_routes 0 (rows_of rows.new)) }
+    ensures counted { count.new + length (rows_routes 0 (rows_of rows.old)) ≡ count.old + length (rows_routes 0 (rows_of rows.new)) }
+{
+    let mut fits = true;
+    for (place, row) in rows.iter_mut().enumerate() {
+        fits &= begin_row(alloc, offer, slots, place as u32, begun, row, count);
+    }
+    fits
+}
+
+// Adds nodes for the number to a path where it begins. The answer is whether there was memory for all.
+fn begin(
+    alloc: Global,
+    offer: &Offer<'_>,
+    slots: &Slots,
+    able: &Numbers,
+    rows: &mut Vec<VecDeque<Node>>,
+    count: &mut u64,
+) -> bool
+    requires can { CanOffer (offered offer.now) slots.now }
+    requires able { able.now ≡ takers (offered offer.now) slots.now }
+    requires few { length rows.old.items ≤ 8 }
+    requires sound { AreSound (rows_of rows.old.items) }
+    requires less { AreLess offer.now.number (rows_of rows.old.items) }
+    requires free_left { AreOpen slots.now (rows_routes 0 (rows_of rows.old.items)) }
+    ensures few { length rows.new.items ≤ 8 }
+    ensures sound { AreSound (rows_of rows.new.items) }
+    ensures free_left { AreOpen slots.now (rows_routes 0 (rows_of rows.new.items)) }
+    ensures lasting { filter (lacks (offer.now.number ∷ [])) (rows_routes 0 (rows_of rows.new.items)) ≡ filter (lacks (offer.now.number ∷ [])) (rows_routes 0 (rows_of rows.old.items)) }
+    ensures begins { result ≡ true → Begins offer.now.number (growing (offered offer.now) slots.now) (rows_routes 0 (rows_of rows.old.items)) (rows_routes 0 (rows_of rows.new.items)) }
+    ensures counted { count.new + length (rows_routes 0 (rows_of rows.old.items)) ≡ count.old + length (rows_routes 0 (rows_of rows.new.items)) }
+{
+    let begun = growing(offer, slots, able);
+    if begun.len() == 0 {
+        return true;
+    }
+    match grow_rows(alloc, rows, offer.definition.patterns.len()) {
+        Ok(()) => begin_rows(alloc, offer, slots, &begun, rows, count),
+        Err(_) => false,
+    }
+}
+
 /// Offers the number to a path and to all that go on from it. The answer is the least match that it completes there, in
 /// which case not all new nodes were added.
 #[cycle(visit)]
@@ -90,62 +181,52 @@ pub fn visit_rows<L: Ledger>(
     if able.len() == 0 {
         return Ok(None);
     }
-    let begun = growing(offer, slots, &able);
-    if begun.len() > 0 {
-        grow_rows(alloc, rows, offer.definition.patterns.len())?;
+    let best = visit_each(alloc, offer, slots, &able, rows, count, steps)?;
+    if best.is_some() {
+        return Ok(best);
     }
-    let mut best = best_match(offer, slots, &able);
-    for (pattern, row) in rows.iter_mut().enumerate() {
-        let found = visit_row(
-            alloc,
-            offer,
-            slots,
-            pattern as u32,
-            &able,
-            &begun,
-            row,
-            count,
-            steps,
-        )?;
-        best = better(best, found);
+    if !begin(alloc, offer, slots, &able, rows, count) {
+        return Err(NoMemory);
     }
-    Ok(best)
+    Ok(None)
 }
 
-// Offers the number to the paths that take a number at the pattern, and adds a node for it where it begins there.
+// Offers the number to a path, and to all that go on from it by the rows. No node is added for it at the path itself, so that
+// none has to be taken out again where a row behind has the match.
 #[cycle(visit)]
-fn visit_row<L: Ledger>(
+fn visit_each<L: Ledger>(
     alloc: Global,
     offer: &Offer<'_>,
     slots: &Slots,
-    pattern: u32,
     able: &Numbers,
-    begun: &Numbers,
-    row: &mut VecDeque<Node>,
+    rows: &mut [VecDeque<Node>],
     count: &mut u64,
     steps: &mut Steps<L>,
 ) -> Result<Option<Candidate>, NoMemory>
     requires can { CanOffer (offered offer.now) slots.now }
     requires able { able.now ≡ takers (offered offer.now) slots.now }
-    requires begun { begun.now ≡ growing (offered offer.now) slots.now }
-    requires sound { IsSoundRow row.old.items }
-    requires lead { LeadOn (offered offer.now) slots.now (row_routes pattern row.old.items) }
-    requires free_left { AreOpen slots.now (row_routes pattern row.old.items) }
+    requires few { length rows.old ≤ 8 }
+    requires sound { AreSound (rows_of rows.old) }
+    requires lead { LeadOn (offered offer.now) slots.now (rows_routes 0 (rows_of rows.old)) }
+    requires free_left { AreOpen slots.now (rows_routes 0 (rows_of rows.old)) }
 
-    ensures sound { IsSoundRow row.new.items }
-    ensures free_left { AreOpen slots.now (row_routes pattern row.new.items) }
-    ensures lasting { Lasts offer.now.number (row_routes pattern row.old.items) (row_routes pattern row.new.items) }
-    ensures best { IfOk result (λ b. b ≡ least (new_matches (offered offer.now) slots.now (seen (offered offer.now) (row_routes pattern row.old.items)))) }
-    ensures grows { IfOk result (λ b. b ≡ None → Grows (offered offer.now) slots.now (filter (is_one_of begun.now) (pattern ∷ [])) (row_routes pattern row.old.items) (row_routes pattern row.new.items)) }
-    ensures counted { count.new + length (row_routes pattern row.old.items) ≡ count.old + length (row_routes pattern row.new.items) }
-    ensures stepped { steps.new ≤ steps.old + tries_behind (offered offer.now) slots.now (row_routes pattern row.old.items) }
+    ensures sound { AreSound (rows_of rows.new) }
+    ensures less { OnOk result (AreLess offer.now.number (rows_of rows.new)) }
+    ensures free_left { AreOpen slots.now (rows_routes 0 (rows_of rows.new)) }
+    ensures lasting { Lasts offer.now.number (rows_routes 0 (rows_of rows.old)) (rows_routes 0 (rows_of rows.new)) }
+    ensures best { IfOk result (λ b. b ≡ least (new_matches (offered offer.now) slots.now ([] ∷ seen (offered offer.now) (rows_routes 0 (rows_of rows.old))))) }
+    ensures grows { IfOk result (λ b. b ≡ None → Grows (offered offer.now) slots.now [] (rows_routes 0 (rows_of rows.old)) (rows_routes 0 (rows_of rows.new))) }
+    ensures counted { count.new + length (rows_routes 0 (rows_of rows.old)) ≡ count.old + length (rows_routes 0 (rows_of rows.new)) }
+    ensures stepped { steps.new ≤ steps.old + tries_behind (offered offer.now) slots.now (rows_routes 0 (rows_of rows.old)) }
 {
-    let others = without(able, pattern);
-    let found = visit_nodes(alloc, offer, slots, pattern, &others, row, count, steps)?;
-    if found.is_none() && contains(begun, pattern) {
-        push_leaf(alloc, row, offer.number, count)?;
+    let mut best = best_match(offer, slots, able);
+    for (place, row) in rows.iter_mut().enumerate() {
+        let pattern = place as u32;
+        let others = without(able, pattern);
+        let found = visit_nodes(alloc, offer, slots, pattern, &others, row, count, steps)?;
+        best = better(best, found);
     }
-    Ok(found)
+    Ok(best)
 }
 
 // Offers the number to the paths of these nodes, in the order of their numbers, until a match is found. Those that
