@@ -1,5 +1,5 @@
 -- What a mailbox records is what the fair step records.
-use Rattle.std.proofs.Common.{◌≡◌, ◌∙◌, ℕ, suc, ◌+◌, ◌-◌, List, [], ◌∷◌, ◌++◌, length, take, length-append, Option, refl, sym, ap, arith}
+use Rattle.std.proofs.Common.{◌≡◌, ◌∙◌, ℕ, suc, ◌+◌, ◌-◌, List, [], ◌∷◌, ◌++◌, length, map, take, length-append, Option, refl, sym, ap, arith}
 use Rattle.std.specs.Prelude.{max, reverse}
 use Rattle.std.proofs.Math.Seq.{append_snoc, take-append_seam}
 use Rattle.std.proofs.lemmas.List.{append_cancel_left, map-append, reverse-append}
@@ -19,6 +19,13 @@ pub entries_count : (from : ℕ) (arrivals : List Received) (firings : List (Opt
 entries_count from [] firings e = refl
 entries_count from (a ∷ arrivals) [] e = absurd (omega arith)
 entries_count from (a ∷ arrivals) (f ∷ firings) e = ap suc (entries_count (from + 1) arrivals firings (omega arith))
+
+-- what they fired is what is kept of each
+pub entries_firings : (from : ℕ) (arrivals : List Received) (firings : List (Option Firing)) → length firings ≡ length arrivals → firings ≡ map (λ (e : Entry). e.firing) (entries_of from arrivals firings)
+entries_firings from [] [] e = refl
+entries_firings from [] (f ∷ firings) e = absurd (omega arith)
+entries_firings from (a ∷ arrivals) [] e = absurd (omega arith)
+entries_firings from (a ∷ arrivals) (f ∷ firings) e = ap (λ (fs : List (Option Firing)). f ∷ fs) (entries_firings (from + 1) arrivals firings (omega arith))
 
 -- the messages are those of the mailbox
 pub entries_letters : (from : ℕ) (arrivals : List Received) (firings : List (Option Firing)) → length firings ≡ length arrivals → letters_of (entries_of from arrivals firings) ≡ mail.letters_of arrivals

@@ -1,5 +1,5 @@
 //! One actor.
-ghost use Rattle.std.specs.Prelude.{◌≡◌, ◌+◌, ◌<◌, ◌≤◌, ℕ, length, false, true, IfErr, IfOk, IfSome, OnErr, OnOk, slice_index_or};
+ghost use Rattle.std.specs.Prelude.{◌≡◌, ◌+◌, ◌<◌, ◌≤◌, ℕ, length, map, false, true, IfErr, IfOk, IfSome, OnErr, OnOk, slice_index_or};
 ghost use Rattle.std.specs.List.{AllByRecursion};
 ghost use Rattle.std.specs.List.Sorted.{IsStrictlyIncreasing};
 ghost use Rattle.join_base.specs.Late.{HasCount};
@@ -288,6 +288,13 @@ impl Actor {
         ensures count { result ≡ length self.now.state.entries }
     {
         self.mail.letters().len() as u32
+    }
+
+    /// What each recorded arrival fired, if it did.
+    pub fn firings(&self) -> &[Option<Firing>]
+        ensures fired { result.now ≡ map (λ entry. entry.firing) self.now.state.entries }
+    {
+        self.firings.as_slice()
     }
 
     /// Takes the first of the posts that wait for an actor of the plan, which may be brought back. `None` exactly where none
