@@ -69,6 +69,12 @@ rest_is setting m m' f f' e e' t t' em ef ee et h =
     let P : Mail × List (Option Firing) × Ending × List Tree → Type 0 = λ x. IsAtRest setting x.0 x.1 x.2 x.3 in
     subst P (λ i. (sym em i, sym ef i, sym ee i, sym et i)) h
 
+-- an actor that rests again, with the entry that was recorded, and the fair step that led there
+pub record IsDone (setting : Setting) (arrival : Arrival) (firing : Option Firing) (after : Mail) (fired : List (Option Firing)) (ended : Ending) (left : List Tree) (out : Outcome) : Type 0 where
+  pub at_rest : IsAtRest setting after fired ended left
+  pub step : fair_step setting arrival.state arrival.source arrival.message arrival.stamp ≡ (state_of after fired ended, out)
+  pub entries : new_entries arrival.state (state_of after fired ended) ≡ entry_with arrival firing ∷ []
+
 module _ (actors : ℕ) (setting : Setting) (m : Mail) (firings : List (Option Firing)) (end : Ending) (trees : List Tree) (told : IsTold actors setting) (rest : IsAtRest setting m firings end trees) (source : Source) (message : Message) (stamp : ℕ) where
   abbrev state : State
   state = state_of m firings end
@@ -166,17 +172,11 @@ module _ (actors : ℕ) (setting : Setting) (m : Mail) (firings : List (Option F
       step_by_best : is_running end ≡ true → fair_step setting state source message stamp ≡ by_choice setting arrival (best_of offered)
       step_by_best running = step_is setting state source message stamp trees rest.steady running taken offered of_rules hold reserved
 
-      -- an actor that rests again, with the entry that was recorded, and the fair step that led there
-      pub record IsDone (firing : Option Firing) (after : Mail) (fired : List (Option Firing)) (ended : Ending) (left : List Tree) (out : Outcome) : Type 0 where
-        pub at_rest : IsAtRest setting after fired ended left
-        pub step : fair_step setting state source message stamp ≡ (state_of after fired ended, out)
-        pub entries : new_entries state (state_of after fired ended) ≡ entry_with arrival firing ∷ []
-
       live_same : m.live ++ (length m.arrivals + 1) ∷ [] ≡ live_with arrival
       live_same = ap (λ (k : ℕ). m.live ++ (k + 1) ∷ []) (sym entry_count)
 
       done : (firing : Option Firing) (live : List ℕ) (ended : Ending) (left : List Tree) (out : Outcome) → IsSteady setting (recorded arrival firing live ended) left → AllByRecursion HasOnce left → path_count left ≤ 1000000
-          → fair_step setting state source message stamp ≡ (recorded arrival firing live ended, out) → IsDone firing (with_live (with_arrival m source message stamp) live) (firings ++ firing ∷ []) ended left out
+          → fair_step setting state source message stamp ≡ (recorded arrival firing live ended, out) → IsDone setting arrival firing (with_live (with_arrival m source message stamp) live) (firings ++ firing ∷ []) ended left out
       done firing live ended left out steady left_once left_few step =
           let shown = recorded_is m firings end source message stamp rest.fired firing live ended in
           let next : Received = next_arrival m.arrivals source message stamp in
@@ -197,9 +197,9 @@ module _ (actors : ℕ) (setting : Setting) (m : Mail) (firings : List (Option F
           }
 
       done_is : (firing : Option Firing) (after after' : Mail) (fired fired' : List (Option Firing)) (ended ended' : Ending) (left left' : List Tree) (out out' : Outcome) → after' ≡ after → fired' ≡ fired → ended' ≡ ended → left' ≡ left → out' ≡ out
-          → IsDone firing after fired ended left out → IsDone firing after' fired' ended' left' out'
+          → IsDone setting arrival firing after fired ended left out → IsDone setting arrival firing after' fired' ended' left' out'
       done_is firing after after' fired fired' ended ended' left left' out out' ea ef ee el eo h =
-          let P : Mail × List (Option Firing) × Ending × List Tree × Outcome → Type 0 = λ t. IsDone firing t.0 t.1 t.2 t.3 t.4 in
+          let P : Mail × List (Option Firing) × Ending × List Tree × Outcome → Type 0 = λ t. IsDone setting arrival firing t.0 t.1 t.2 t.3 t.4 in
           subst P (λ i. (sym ea i, sym ef i, sym ee i, sym el i, sym eo i)) h
 
       cleared_few : (others : List Tree) → AreTreesOf 1 definitions others → path_count (map cleared_tree others) ≤ 1000000
@@ -215,7 +215,7 @@ module _ (actors : ℕ) (setting : Setting) (m : Mail) (firings : List (Option F
         mail_after = with_arrival m source message stamp
 
         jammed : (kept left : List Tree) (after : Mail) (ended : Ending) (out : Outcome) → nat_lt setting.limits.partials (partial_count (letters_with arrival) (live_with arrival) definitions) ≡ true → IsSteady setting (recorded arrival None (live_with arrival) ending.Running) kept
-            → fair_step setting state source message stamp ≡ by_choice setting arrival None → IsKeptIn true kept left mail_after after end ended out → IsDone None after (firings ++ None ∷ []) ended left out
+            → fair_step setting state source message stamp ≡ by_choice setting arrival None → IsKeptIn true kept left mail_after after end ended out → IsDone setting arrival None after (firings ++ None ∷ []) ended left out
         jammed kept left after ended out test steady chosen how =
             let step : fair_step setting state source message stamp ≡ (recorded arrival None [] ending.Jammed, outcome.Jammed) = chosen ∙ rw test refl in
             let cleared = ended_steady setting state source message stamp trees None ending.Jammed kept (letters_of (recorded arrival None (live_with arrival) ending.Running).entries) (live_with arrival) steady.of_rules steady.hold in
@@ -224,7 +224,7 @@ module _ (actors : ℕ) (setting : Setting) (m : Mail) (firings : List (Option F
 
         stays : (kept left : List Tree) (after : Mail) (ended : Ending) (out : Outcome) → nat_lt setting.limits.partials (partial_count (letters_with arrival) (live_with arrival) definitions) ≡ false → path_count kept ≡ partial_count (letters_with arrival) (live_with arrival) definitions
             → AllByRecursion HasOnce kept → IsSteady setting (recorded arrival None (live_with arrival) ending.Running) kept → fair_step setting state source message stamp ≡ by_choice setting arrival None → IsKeptIn false kept left mail_after after end ended out
-            → IsDone None after (firings ++ None ∷ []) ended left out
+            → IsDone setting arrival None after (firings ++ None ∷ []) ended left out
         stays kept left after ended out test count kept_once steady chosen how =
             let step : fair_step setting state source message stamp ≡ (recorded arrival None (live_with arrival) ending.Running, outcome.Kept) = chosen ∙ rw test refl in
             let most = told.limits.partials.1 in
@@ -234,7 +234,7 @@ module _ (actors : ℕ) (setting : Setting) (m : Mail) (firings : List (Option F
             done_is None (with_live mail_after (live_with arrival)) after (firings ++ None ∷ []) (firings ++ None ∷ []) ending.Running ended kept left outcome.Kept out (how.mail ∙ same) refl (how.end ∙ running) how.trees how.outcome one
 
         pub keeps_done : (number most : ℕ) (left : List Tree) (before after : Mail) (ended : Ending) (out : Outcome) → number ≡ length m.arrivals + 1 → most ≡ setting.limits.partials → before ≡ mail_after
-            → Keeps number most offered left before after end ended out → IsDone None after (firings ++ None ∷ []) ended left out
+            → Keeps number most offered left before after end ended out → IsDone setting arrival None after (firings ++ None ∷ []) ended left out
         keeps_done number most left before after ended out is limit recorded_as keeps =
             let P : ℕ → Type 0 = λ n. AreKeptAt n offered keeps.kept in
             let kept : AreKept letters message offered keeps.kept = kept_more letters message offered keeps.kept (subst P (is ∙ sym number_same) keeps.are) in
@@ -248,7 +248,7 @@ module _ (actors : ℕ) (setting : Setting) (m : Mail) (firings : List (Option F
           where
             by : (over : Bool) (kept : List Tree) → nat_lt setting.limits.partials (partial_count (letters_with arrival) (live_with arrival) definitions) ≡ over → path_count kept ≡ partial_count (letters_with arrival) (live_with arrival) definitions
                 → AllByRecursion HasOnce kept → IsSteady setting (recorded arrival None (live_with arrival) ending.Running) kept → fair_step setting state source message stamp ≡ by_choice setting arrival None → IsKeptIn over kept left mail_after after end ended out
-                → IsDone None after (firings ++ None ∷ []) ended left out
+                → IsDone setting arrival None after (firings ++ None ∷ []) ended left out
             by true kept test count kept_once steady chosen how = jammed kept left after ended out test steady chosen how
             by false kept test count kept_once steady chosen how = stays kept left after ended out test count kept_once steady chosen how
 
@@ -270,14 +270,14 @@ module _ (actors : ℕ) (setting : Setting) (m : Mail) (firings : List (Option F
             subst (λ (ms : List Message). MayFire ms actors setting.rules chosen) letters_after may
 
         goes_on : (firing : Option Firing) → fair_step setting state source message stamp ≡ (recorded arrival firing (without (live_with arrival) chosen.taken) ending.Running, outcome.Fired)
-            → IsDone firing (with_live mail_with (without mail_with.live chosen.taken)) (firings ++ firing ∷ []) ending.Running (map (fired_at (number_more letters) chosen.taken) offered) outcome.Fired
+            → IsDone setting arrival firing (with_live mail_with (without mail_with.live chosen.taken)) (firings ++ firing ∷ []) ending.Running (map (fired_at (number_more letters) chosen.taken) offered) outcome.Fired
         goes_on firing step =
             let steady = fired_steady setting state source message stamp trees rest.steady offered chosen firing of_rules hold reserved best in
             let one = done firing (without (live_with arrival) chosen.taken) ending.Running (map (fired_at (number_more letters) chosen.taken) offered) outcome.Fired steady (fired_once (number_more letters) chosen.taken offered once) (fired_few (number_more letters) chosen.taken offered few) step in
-            subst (λ (ns : List ℕ). IsDone firing (with_live mail_with (without ns chosen.taken)) (firings ++ firing ∷ []) ending.Running (map (fired_at (number_more letters) chosen.taken) offered) outcome.Fired) (sym live_same) one
+            subst (λ (ns : List ℕ). IsDone setting arrival firing (with_live mail_with (without ns chosen.taken)) (firings ++ firing ∷ []) ending.Running (map (fired_at (number_more letters) chosen.taken) offered) outcome.Fired) (sym live_same) one
 
         ends : (firing : Option Firing) → fair_step setting state source message stamp ≡ (recorded arrival firing [] ending.Stopped, outcome.Fired)
-            → IsDone firing (with_live mail_with []) (firings ++ firing ∷ []) ending.Stopped (map cleared_tree offered) outcome.Fired
+            → IsDone setting arrival firing (with_live mail_with []) (firings ++ firing ∷ []) ending.Stopped (map cleared_tree offered) outcome.Fired
         ends firing step =
             done firing [] ending.Stopped (map cleared_tree offered) outcome.Fired (ended_steady setting state source message stamp trees firing ending.Stopped offered letters state.live of_rules hold) (cleared_once offered) (cleared_few offered of_rules) step
 
@@ -287,7 +287,7 @@ module _ (actors : ℕ) (setting : Setting) (m : Mail) (firings : List (Option F
             → left ≡ (if stops (body_at setting.rules chosen.rule) then map cleared_tree offered else map (fired_at number chosen.taken) offered)
             → ended ≡ (if stops (body_at setting.rules chosen.rule) then ending.Stopped else end)
             → fired ≡ firings ++ firing ∷ []
-            → IsDone firing after fired ended left outcome.Fired
+            → IsDone setting arrival firing after fired ended left outcome.Fired
         fires_done number firing before after fired ended left is recorded_as firing_is mail_is left_is ended_is fired_is =
             let firing_same : firing_of setting.rules (letters_with arrival) (Some chosen) ≡ firing = ap (λ (ms : List Message). firing_of setting.rules ms (Some chosen)) (letters_after ∙ ap (λ (b : Mail). mail.letters_of b.arrivals) (sym recorded_as)) ∙ sym firing_is in
             let step = step_by_best (ap is_running running) ∙ ap (by_choice setting arrival) best in
@@ -300,7 +300,7 @@ module _ (actors : ℕ) (setting : Setting) (m : Mail) (firings : List (Option F
           where
             by : (b : Bool) → fair_step setting state source message stamp ≡ (if b then recorded arrival firing [] ending.Stopped else recorded arrival firing (without (live_with arrival) chosen.taken) ending.Running, outcome.Fired)
                 → after ≡ with_live mail_with (if b then [] else without mail_with.live chosen.taken) → left ≡ (if b then map cleared_tree offered else map (fired_at (number_more letters) chosen.taken) offered) → ended ≡ (if b then ending.Stopped else ending.Running)
-                → IsDone firing after fired ended left outcome.Fired
+                → IsDone setting arrival firing after fired ended left outcome.Fired
             by true shown mail_same left_same ended_same =
                 done_is firing _ after (firings ++ firing ∷ []) fired _ ended _ left outcome.Fired outcome.Fired mail_same fired_is ended_same left_same refl (ends firing shown)
             by false shown mail_same left_same ended_same =

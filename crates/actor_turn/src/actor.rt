@@ -223,7 +223,7 @@ impl Actor {
         ensures steps { steps.new ≤ steps.old + tries_for self.old.setting.rules self.old.state message }
     {
         let arrivals = self.mail.letters().len();
-        let Ok(()) = reserve_entry(&mut self.firings, &mut self.entries, arrivals) else {
+        let Ok(()) = reserve_entry(alloc, &mut self.firings, &mut self.entries, arrivals) else {
             return Err(Refused { message });
         };
         let number = record(

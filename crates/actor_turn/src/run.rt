@@ -6,9 +6,11 @@ ghost use Rattle.actor_turn.specs.Parts.{entries_of};
 use fair_semantics::{Entry, Firing};
 use join_base::{Items, Message, NoMemory};
 use mailbox_core::Mark;
+use std::alloc::Global;
 
 /// Makes room for what one more arrival fires, and for the entries of all of them. It may leave room where there is no memory.
 pub fn reserve_entry(
+    alloc: Global,
     firings: &mut Vec<Option<Firing>>,
     entries: &mut Vec<Entry>,
     arrivals: usize,
@@ -23,7 +25,10 @@ pub fn reserve_entry(
     ensures kept { vec_capacity entries.old ≤ vec_capacity entries.new }
 {
     firings.reserve(1)?;
-    entries.reserve(arrivals + 1)?;
+    // An empty vector has nothing to move, so a new one takes its place.
+    if entries.capacity() <= arrivals {
+        *entries = Vec::with_capacity(alloc, 2 * arrivals + 4)?;
+    }
     Ok(())
 }
 
