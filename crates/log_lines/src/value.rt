@@ -145,7 +145,9 @@ fn values_at<'a>(
     requires few { length fields.now ≤ 8 }
     ensures { GivesValue result (values_at (map (λ (field : List ℕ × Sort). field.1) fields.now) text.now) }
 {
-    let mut values = Fields::with_room(alloc, fields.len())?;
+    let Ok(mut values) = Fields::with_room(alloc, fields.len()) else {
+        return Err(LineFault::NoMemory);
+    };
     let mut rest = text;
     for (place, (_, sort)) in fields.iter().enumerate() {
         let close = closing(fields.split_at(place + 1).1);
