@@ -1,11 +1,10 @@
 //! The replay of a run that is handed over: its messages go to the actors, and of what was read and what was made, one is kept.
-ghost use Rattle.std.specs.Prelude.{◌≡◌, ◌+◌, ◌∷◌, [], ◌++◌, ◌<◌, ◌≤◌, length, max, slice_get, true, IfOk, IfSome, OnOk};
-ghost use Rattle.std.specs.List.{AllByRecursion};
+ghost use Rattle.std.specs.Prelude.{◌≡◌, ◌+◌, ◌∷◌, [], ◌++◌, ◌<◌, ◌≤◌, length, max, true, IfOk, IfSome, OnOk};
 ghost use Rattle.join_base.specs.Late.{HasCount};
 ghost use Rattle.join_base.specs.declared.message.Source.{Source};
 ghost use Rattle.script_types.specs.Typed.{IsTyped};
 ghost use Rattle.fair_semantics.specs.Fits.{RunFits};
-ghost use Rattle.fair_semantics.specs.Step.{fair_step, latest_stamp, opening};
+ghost use Rattle.fair_semantics.specs.Step.{fair_step, latest_stamp};
 ghost use Rattle.actor_turn.specs.Held.{AreLimits};
 ghost use Rattle.run_fits.specs.FitsLaw.{RulesFit};
 ghost use Rattle.log_replay.specs.Expected.{with_stamp};
