@@ -33,10 +33,10 @@ pub both_parts : (a b : Bool) → (a && b) ≡ true → (a ≡ true) × (b ≡ t
 both_parts true b e = (refl, e)
 both_parts false b e = absurd cc
 
-equal : (a b : ℕ) → (a == b) ≡ true → a ≡ b
+pub equal : (a b : ℕ) → (a == b) ≡ true → a ≡ b
 equal a b e = grind (arith, nat_tests)
 
-itself : (a : ℕ) → (a == a) ≡ true
+pub itself : (a : ℕ) → (a == a) ≡ true
 itself a = grind (arith, nat_tests)
 
 -- the source of a test
@@ -53,7 +53,7 @@ same_value_is (Int a) (Words text) e = absurd cc
 same_value_is (Words text) (Int b) e = absurd cc
 same_value_is (Words text) (Words second) e = ap (λ t. Words t) ((bytes_eq-Decides text second).0 e)
 
-value_itself : (v : Value) → same_value v v ≡ true
+pub value_itself : (v : Value) → same_value v v ≡ true
 value_itself (Int a) = (Decides-int_eq a a).1 refl
 value_itself (Words text) = (bytes_eq-Decides text text).1 refl
 
@@ -78,7 +78,7 @@ same_message_is m k e =
     let fields = same_values_are m.fields k.fields h.1 in
     λ i. record { kind = kinds i; fields = fields i }
 
-message_itself : (m : Message) → same_message m m ≡ true
+pub message_itself : (m : Message) → same_message m m ≡ true
 message_itself m = λ i. itself m.kind i && values_themselves m.fields i
 
 -- the post at a place, and its message

@@ -30,3 +30,4 @@ pub mod SameLemmas
 pub mod SharedLemmas
 pub mod SwapLemmas
 pub mod WrittenLemmas
+pub mod HandedLemmas

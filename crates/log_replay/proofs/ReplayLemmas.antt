@@ -46,7 +46,7 @@ pub record Goes (plan : Plan) (run : Run) (index : ℕ) (actor : Held) (all : Li
   pub setting : actor.setting ≡ setting_of plan index run.limits
   pub counted : AllByRecursion (λ entry. HasCount actor.state.late entry.source) all
 
-source_counted : (plan : Plan) (feeds : ℕ) (source : Source) → SourceFits plan feeds source → HasCount (opening feeds (length plan.actors)).late source
+pub source_counted : (plan : Plan) (feeds : ℕ) (source : Source) → SourceFits plan feeds source → HasCount (opening feeds (length plan.actors)).late source
 source_counted plan feeds (Feed k) h = (h.0, omega (arith, h.1, length-replicate feeds))
 source_counted plan feeds (Actor a) h = omega (arith, h, length-replicate (length plan.actors))
 

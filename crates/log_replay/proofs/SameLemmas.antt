@@ -91,7 +91,7 @@ firing_is a b e =
     let effects = effects_are a.effects b.effects h.1 in
     λ i. record { rule = rules i; taken = numbers i; effects = effects i }
 
-fired_is : (a b : Option Firing) → same_fired a b ≡ true → a ≡ b
+pub fired_is : (a b : Option Firing) → same_fired a b ≡ true → a ≡ b
 fired_is None None e = refl
 fired_is None (Some b) e = absurd cc
 fired_is (Some a) None e = absurd cc

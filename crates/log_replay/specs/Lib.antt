@@ -6,7 +6,9 @@ pub mod Feeds
 pub mod Law
 -- what private functions compute
 pub mod Apart
+pub mod Handed
 pub mod Kept
+pub mod Replays
 pub mod Same
 pub mod Settling
 pub mod Shared

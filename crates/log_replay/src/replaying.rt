@@ -31,7 +31,7 @@ fn forget_posts(actor: &mut Actor, target: u32)
 }
 
 // Lets go of all posts that wait, where there may be some. Nobody takes them here.
-fn forget_fired(actor: &mut Actor, outcome: Outcome, count: usize)
+pub(crate) fn forget_fired(actor: &mut Actor, outcome: Outcome, count: usize)
     requires many { length actor.old.outbox ≡ count }
     requires few { count ≤ 32 }
     ensures state { actor.new.state ≡ actor.old.state }
@@ -89,8 +89,8 @@ fn kept_run<L: Ledger>(
     Ok(kept(alloc, own, read))
 }
 
-// These runs of all actors.
-fn kept_runs<L: Ledger>(
+/// These runs of all actors. Beside the run that was read there is one actor at a time, and what differs.
+pub(crate) fn kept_runs<L: Ledger>(
     alloc: Global,
     plan: &Plan,
     run: &Run,
@@ -111,26 +111,24 @@ fn kept_runs<L: Ledger>(
     Ok(runs)
 }
 
-/// The expected run of a run that was read: what its actors do by the fair step with the sources and messages of their entries, in
-/// order, under its limits. Its late counts are, of an actor that has ended or is full, the read ones for the feeds and for the
-/// actors their posts beyond those that arrived; its stamps are those of the version.
-///
-/// Entries that are the read ones but for their stamps are let go of as soon as their actor has made its steps. So beside the
-/// run that was read there is one actor at a time, and what differs. It fits the plan. A step is counted as in `Actor::arrive`.
-pub(crate) fn replay<L: Ledger>(
+/// The expected run of a run that was read, where this is kept of what its actors make of its arrivals: what they do by the fair step
+/// with the sources and messages of their entries, in order, under its limits. Its late counts are, of an actor that has ended or
+/// is full, the read ones for the feeds and for the actors their posts beyond those that arrived; its stamps are those of the version.
+/// It fits the plan.
+pub(crate) fn expected_runs(
     alloc: Global,
     plan: &Plan,
     run: &Run,
-    steps: &mut Steps<L>,
+    made: Items<Shared>,
 ) -> Result<Items<Shared>, NoMemory>
     requires typed { IsTyped plan.now }
     requires fits { RunFits plan.now run.now }
+    requires made { made ≡ kept_runs plan.now run.now 0 (length plan.now.actors) }
+    requires texts { AllRulesFit plan.now run.now.limits }
     ensures expected { IfOk result (λ runs. shown_run run.now runs ≡ expected_run plan.now run.now) }
     ensures fits { IfOk result (λ runs. RunFits plan.now (shown_run run.now runs)) }
     ensures many { IfOk result (λ runs. length runs ≡ length plan.now.actors) }
-    ensures texts { OnOk result (AllRulesFit plan.now run.now.limits) }
 {
-    let made = kept_runs(alloc, plan, run, steps)?;
     let settlements = settlements_of(alloc, made.as_slice(), run)?;
     finished_runs(alloc, plan, made, settlements)
 }

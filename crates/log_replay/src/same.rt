@@ -73,7 +73,7 @@ fn same_firing(own: &Firing, other: &Firing) -> bool
         && same_effects(own.effects.as_slice(), other.effects.as_slice())
 }
 
-fn same_fired(own: &Option<Firing>, other: &Option<Firing>) -> bool
+pub(crate) fn same_fired(own: &Option<Firing>, other: &Option<Firing>) -> bool
     ensures { result ≡ same_fired own.now other.now }
 {
     match own {

@@ -280,7 +280,7 @@ fn may_be_late(limits: Limits, own: &Shared, read: &ActorRun) -> bool
 
 // The entries with these stamps, as far as there are any.
 #[tactic(auto, using(crate::proofs::SettlingLemmas::stamped_all, crate::proofs::SettlingLemmas::stamped_more))]
-fn with_stamps(entries: Items<Entry>, stamps: &[u64]) -> Items<Entry>
+pub(crate) fn with_stamps(entries: Items<Entry>, stamps: &[u64]) -> Items<Entry>
     ensures { result ≡ with_stamps stamps.now entries }
 {
     let mut rows = entries.into_vec();

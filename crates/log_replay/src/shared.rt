@@ -7,7 +7,7 @@ ghost use Rattle.log_replay.specs.Shared.{kept, plain, plain_at, shown_all};
 use crate::kept::entries_at;
 use crate::posts::posts_made;
 use crate::same::same_entries;
-use fair_semantics::{ActorRun, Entry};
+use fair_semantics::{ActorRun, Entry, Run};
 use join_base::{Items, NoMemory, Stamped};
 use std::alloc::Global;
 
@@ -19,6 +19,13 @@ pub(crate) struct Shared {
     // The stamps of such entries, as far as they differ from the read ones.
     pub(crate) stamps: Items<u64>,
     pub(crate) own: ActorRun,
+}
+
+// A run that was read, and what is kept of the runs that its actors make of its arrivals.
+#[derive(Drop)]
+pub(crate) struct Replayed {
+    pub(crate) run: Run,
+    pub(crate) made: Items<Shared>,
 }
 
 // Lets go of the entries where they are the read ones but for their stamps.
