@@ -28,6 +28,7 @@ use script_reader::ScriptCause;
 use script_types::Plan;
 use sensor_feed::FeedCause;
 use std::alloc::Global;
+use std::mem;
 use std::sync::Wait;
 use std::thread::Threads;
 
@@ -228,7 +229,10 @@ fn run_output<R: Threads + Wait + Sync, G: Gate>(
     let run = run_feeds(rt, alloc, plan, options, feeds, gate)?;
     let mut bytes = Bytes::new(alloc);
     print_log(alloc, plan, &run, &mut bytes)?;
-    Ok((run_status(&run), bytes))
+    let status = run_status(&run);
+    // The system takes its memory back as the program ends, at once. Message by message it costs up to a seventh of a run.
+    mem::forget(run);
+    Ok((status, bytes))
 }
 
 // The options of `run` where it is given none.
@@ -256,7 +260,10 @@ fn load_output<R: Threads + Wait + Sync, G: Gate>(
     let run = run_feeds(rt, alloc, &plan, LOAD_OPTIONS, feeds, gate)?;
     let mut bytes = Bytes::new(alloc);
     summary(alloc, rows, &plan, &run, &mut bytes)?;
-    Ok((run_status(&run), bytes))
+    let status = run_status(&run);
+    // As in `run_output`.
+    mem::forget(run);
+    Ok((status, bytes))
 }
 
 // The text of a plan.

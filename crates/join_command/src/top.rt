@@ -107,7 +107,7 @@ fn prepare<R: Threads + Wait + Sync, I: Inputs, G: Gate>(
 /// `NoMemory` nothing was written, and after `WriteFault` a beginning of the output.
 ///
 /// Each worker enters the gate just before it tries for an actor. The call may wait, and where it runs a script it waits for its
-/// threads.
+/// threads. The memory of a run that was written stays taken until the program ends.
 pub fn join_main<R: Threads + Wait + Sync, I: Inputs, S: Sink, G: Gate>(
     rt: &R,
     alloc: Global,
