@@ -4,7 +4,7 @@ ghost use Rattle.std.specs.List.{filter, AllByRecursion};
 ghost use Rattle.pattern_core.specs.Matches.{is_agreeable, holds_number, is_full};
 ghost use Rattle.pattern_core.specs.Suits.{DefinitionSuits, IsRecorded, SlotsSuit};
 ghost use Rattle.pattern_core.specs.Choice.{least, taken_of, candidate_of};
-ghost use Rattle.match_tree.specs.Routes.{is_one_of};
+ghost use Rattle.join_base.specs.Taken.{contains_number};
 ghost use Rattle.match_tree.specs.Offers.{may_take, matches_of, leaves_one_free};
 ghost use Rattle.match_tree.specs.Offering.{offered, CanOffer, MayTry, MayTake};
 
@@ -111,7 +111,7 @@ pub fn growing(offer: &Offer<'_>, slots: &Slots, patterns: &Numbers) -> Numbers
 
 /// Whether the pattern is one of these.
 pub fn contains(patterns: &Numbers, wanted: u32) -> bool
-    ensures { result ≡ is_one_of patterns.now wanted }
+    ensures { result ≡ contains_number patterns.now wanted }
 {
     for pattern in patterns.as_slice() {
         if wanted == *pattern {
