@@ -1,5 +1,5 @@
 //! A new number that is offered to the paths of a definition.
-ghost use Rattle.std.specs.Prelude.{◌≡◌, ◌+◌, ◌<◌, ◌≤◌, length, map, true, not, ◌==◌, Some, None, slice_get};
+ghost use Rattle.std.specs.Prelude.{◌≡◌, ◌+◌, ◌<◌, ◌≤◌, ◌∷◌, [], length, map, true, not, ◌==◌, Some, None, slice_get};
 ghost use Rattle.std.specs.List.{filter, AllByRecursion};
 ghost use Rattle.pattern_core.specs.Matches.{is_agreeable, holds_number, is_full};
 ghost use Rattle.pattern_core.specs.Suits.{DefinitionSuits, IsRecorded, SlotsSuit};
@@ -77,18 +77,31 @@ fn candidate(offer: &Offer<'_>, slots: &Slots) -> Candidate
     }
 }
 
-// The least match that the number completes at one of the patterns, which may take it.
+// The match that the number completes at the pattern, which may take it.
+fn match_at(offer: &Offer<'_>, slots: &Slots, pattern: u32) -> Option<Candidate>
+    requires can { CanOffer (offered offer.now) slots.now }
+    requires may { MayTake (offered offer.now) slots.now pattern }
+    ensures { result ≡ least (matches_of (offered offer.now) slots.now (pattern ∷ [])) }
+{
+    let longer = slots.with(pattern, offer.number);
+    if !complete(offer.definition, &longer, offer.letters) {
+        return None;
+    }
+    Some(candidate(offer, &longer))
+}
+
+/// The least match that the number completes at one of the patterns, which may take it.
 pub fn best_match(offer: &Offer<'_>, slots: &Slots, patterns: &Numbers) -> Option<Candidate>
     requires can { CanOffer (offered offer.now) slots.now }
     requires may { AllByRecursion (MayTake (offered offer.now) slots.now) patterns.now }
     ensures { result ≡ least (matches_of (offered offer.now) slots.now patterns.now) }
 {
+    if let [pattern] = patterns.as_slice() {
+        return match_at(offer, slots, *pattern);
+    }
     let mut best = None;
     for pattern in patterns.as_slice() {
-        let longer = slots.with(*pattern, offer.number);
-        if complete(offer.definition, &longer, offer.letters) {
-            best = better(best, Some(candidate(offer, &longer)));
-        }
+        best = better(best, match_at(offer, slots, *pattern));
     }
     best
 }
