@@ -9,7 +9,7 @@ use Rattle.pattern_core.specs.declared.candidate.Candidate.{Candidate}
 use Rattle.pattern_core.specs.Choice.{choice}
 use Rattle.pattern_core.specs.Matches.{partial_count}
 use Rattle.pattern_core.proofs.MembersLemmas.{IsIn-append_cases, IsIn-filter_from}
-use Rattle.match_tree.specs.Routes.{is_one_of}
+use Rattle.join_base.specs.Taken.{contains_number as is_one_of}
 use Rattle.match_tree.specs.Tree.{Tree, AreOnce}
 use Rattle.tree_law.specs.Partials.{AreLive, number_more, live_more, left_of}
 use Rattle.tree_law.specs.Trees.{HoldAll, AreTreesOf, AreReservedFor, AreKept, AreSettled, best_of, path_count, fired_tree, cleared_tree}

@@ -7,7 +7,8 @@ use Rattle.guard_eval.specs.Meaning.{Assignment}
 use Rattle.pattern_core.specs.declared.definition.Definition.{Definition}
 use Rattle.pattern_core.specs.Members.{IsIn}
 use Rattle.pattern_core.proofs.MembersLemmas.{IsIn-append_left, IsIn-append_right, IsIn-append_cases, IsIn-map, IsIn-map_from, IsIn-filter, IsIn-filter_from}
-use Rattle.match_tree.specs.Routes.{Route, with_number, filled, lacks, is_one_of}
+use Rattle.match_tree.specs.Routes.{Route, with_number, filled, lacks}
+use Rattle.join_base.specs.Taken.{contains_number}
 use Rattle.match_tree.specs.Offers.{is_free}
 use Rattle.match_tree.specs.Below.{Climbs, IsOpen, AreOpen}
 use Rattle.match_tree.specs.Tree.{Tree, empty_of, SameMembers, is_path_without, with_paths}
@@ -78,19 +79,19 @@ and_comm false b = (λ i. sym (false_right b) i)
     false_right true = refl
     false_right false = refl
 
-without_further : (ns : List ℕ) (slots : Assignment) (p n : ℕ) → is_free slots p ≡ true → is_path_without ns (with_number slots p n) ≡ (is_path_without ns slots && not (is_one_of ns n))
+without_further : (ns : List ℕ) (slots : Assignment) (p n : ℕ) → is_free slots p ≡ true → is_path_without ns (with_number slots p n) ≡ (is_path_without ns slots && not (contains_number ns n))
 without_further ns [] p n free = absurd cc
-without_further ns (None ∷ slots) zero n free = and_comm (not (is_one_of ns n)) (is_path_without ns slots)
+without_further ns (None ∷ slots) zero n free = and_comm (not (contains_number ns n)) (is_path_without ns slots)
 without_further ns (Some k ∷ slots) zero n free = absurd cc
 without_further ns (None ∷ slots) (suc p) n free = without_further ns slots p n free
-without_further ns (Some k ∷ slots) (suc p) n free = ap (λ (b : Bool). not (is_one_of ns k) && b) (without_further ns slots p n free) ∙ sym (and_assoc (not (is_one_of ns k)) (is_path_without ns slots) (not (is_one_of ns n)))
+without_further ns (Some k ∷ slots) (suc p) n free = ap (λ (b : Bool). not (contains_number ns k) && b) (without_further ns slots p n free) ∙ sym (and_assoc (not (contains_number ns k)) (is_path_without ns slots) (not (contains_number ns n)))
 
 without_filled : (ns : List ℕ) (slots : Assignment) (route : Route) → Climbs slots route → is_path_without ns (filled slots route) ≡ (is_path_without ns slots && lacks ns route)
 without_filled ns slots [] climbs = sym (and_true (is_path_without ns slots))
 without_filled ns slots (s ∷ route) climbs =
     without_filled ns (with_number slots s.pattern s.number) route climbs.2
     ∙ ap (λ (b : Bool). b && lacks ns route) (without_further ns slots s.pattern s.number climbs.0)
-    ∙ and_assoc (is_path_without ns slots) (not (is_one_of ns s.number)) (lacks ns route)
+    ∙ and_assoc (is_path_without ns slots) (not (contains_number ns s.number)) (lacks ns route)
 
 without_empty : (ns : List ℕ) (n : ℕ) → is_path_without ns (replicate n None) ≡ true
 without_empty ns zero = refl

@@ -9,7 +9,6 @@ pub mod TriesLemmas
 pub mod FirstLemmas
 pub mod OrderLemmas
 pub mod VisitLemmas
-pub mod BoundLemmas
 pub mod ScreenLemmas
 pub mod WalkLemmas
 pub mod RowsLemmas

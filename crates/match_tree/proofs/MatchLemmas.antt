@@ -1,11 +1,10 @@
 -- The least match that a number completes, pattern by pattern.
-use Rattle.std.proofs.Common.{◌≡◌, ◌∙◌, ℕ, ◌+◌, ◌<◌, List, [], ◌∷◌, ◌++◌, take, drop, get_or, length, map, Bool, true, false, ◌&&◌, cond, Option, Some, None, slice_index, refl, ap, subst}
+use Rattle.std.proofs.Common.{◌≡◌, ◌∙◌, ℕ, ◌+◌, ◌<◌, List, [], ◌∷◌, ◌++◌, take, drop, get_or, length, map, Bool, true, false, ◌&&◌, cond, Some, None, slice_index, sym, ap, subst}
 use Rattle.std.proofs.lemmas.List.{take_more, drop_more, map-append}
 use Rattle.std.proofs.lemmas.List.Elements.{filter-append}
 use Rattle.std.specs.List.{filter, AllByRecursion}
 use Rattle.guard_eval.specs.Meaning.{Assignment, letter_at}
 use Rattle.guard_eval.proofs.ExtendLemmas.{both_true}
-use Rattle.pattern_core.specs.declared.candidate.Candidate.{Candidate}
 use Rattle.pattern_core.specs.Matches.{is_of_kind, is_agreeable}
 use Rattle.pattern_core.specs.Choice.{candidate_of, least, lesser_of}
 use Rattle.pattern_core.specs.Suits.{SlotsSuit}
@@ -41,24 +40,15 @@ module _ (o : Offered) (slots : Assignment) where
       ap (map (λ (p : ℕ). candidate_of o.rule (with_number slots p o.number))) (filter-append (completes o slots) ps qs)
       ∙ map-append (λ (p : ℕ). candidate_of o.rule (with_number slots p o.number)) (filter (completes o slots) ps) (filter (completes o slots) qs)
 
-  matches_more : (ps : List ℕ) (i : ℕ) → i < length ps → least (matches_of o slots (take (i + 1) ps)) ≡ lesser_of (least (matches_of o slots (take i ps))) (least (matches_of o slots (get_or ps i 0 ∷ [])))
+  pub matches_more : (ps : List ℕ) (i : ℕ) → i < length ps → least (matches_of o slots (take (i + 1) ps)) ≡ lesser_of (least (matches_of o slots (take i ps))) (least (matches_of o slots (get_or ps i 0 ∷ [])))
   matches_more ps i within =
       ap (λ (qs : List ℕ). least (matches_of o slots qs)) (take_more ps i 0 within)
       ∙ ap least (matches_append (take i ps) (get_or ps i 0 ∷ []))
       ∙ least-append (matches_of o slots (take i ps)) (matches_of o slots (get_or ps i 0 ∷ []))
 
-  -- one more pattern that completes a match
-  pub matches_more_yes : (ps : List ℕ) (i : ℕ) → i < length ps → completes o slots (get_or ps i 0) ≡ true
-      → least (matches_of o slots (take (i + 1) ps)) ≡ lesser_of (least (matches_of o slots (take i ps))) (Some (candidate_of o.rule (with_number slots (get_or ps i 0) o.number)))
-  matches_more_yes ps i within does =
-      let new : Candidate = candidate_of o.rule (with_number slots (get_or ps i 0) o.number) in
-      matches_more ps i within ∙ ap (λ (b : Bool). lesser_of (least (matches_of o slots (take i ps))) (least (map (λ (p : ℕ). candidate_of o.rule (with_number slots p o.number)) (cond b (get_or ps i 0 ∷ []) [])))) does
+  -- the match at one pattern
+  pub match_yes : (p : ℕ) → completes o slots p ≡ true → Some (candidate_of o.rule (with_number slots p o.number)) ≡ least (matches_of o slots (p ∷ []))
+  match_yes p does = λ i. least (map (λ (q : ℕ). candidate_of o.rule (with_number slots q o.number)) (cond (sym does i) (p ∷ []) []))
 
-  lesser_of-none : (b : Option Candidate) → lesser_of b None ≡ b
-  lesser_of-none None = refl
-  lesser_of-none (Some c) = refl
-
-  pub matches_more_no : (ps : List ℕ) (i : ℕ) → i < length ps → completes o slots (get_or ps i 0) ≡ false → least (matches_of o slots (take (i + 1) ps)) ≡ least (matches_of o slots (take i ps))
-  matches_more_no ps i within doesnt =
-      matches_more ps i within ∙ ap (λ (b : Bool). lesser_of (least (matches_of o slots (take i ps))) (least (map (λ (p : ℕ). candidate_of o.rule (with_number slots p o.number)) (cond b (get_or ps i 0 ∷ []) [])))) doesnt
-      ∙ lesser_of-none (least (matches_of o slots (take i ps)))
+  pub match_no : (p : ℕ) → completes o slots p ≡ false → None ≡ least (matches_of o slots (p ∷ []))
+  match_no p doesnt = λ i. least (map (λ (q : ℕ). candidate_of o.rule (with_number slots q o.number)) (cond (sym doesnt i) (p ∷ []) []))

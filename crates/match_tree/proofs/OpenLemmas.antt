@@ -6,7 +6,8 @@ use Rattle.guard_eval.proofs.ExtendLemmas.{both_true}
 use Rattle.guard_eval.proofs.ReadyLemmas.{all_left, all_right}
 use Rattle.pattern_core.specs.Matches.{is_full}
 use Rattle.pattern_core.proofs.MembersLemmas.{IsIn-filter_from}
-use Rattle.match_tree.specs.Routes.{Route, Step, Branch, step, with_number, node_routes, row_routes, is_one_of}
+use Rattle.match_tree.specs.Routes.{Route, Step, Branch, step, with_number, node_routes, row_routes}
+use Rattle.join_base.specs.Taken.{contains_number}
 use Rattle.match_tree.specs.Offers.{Offered, places, is_free, may_take, takers, leaves_one_free, growing}
 use Rattle.match_tree.specs.Below.{AreBelow, IsOpen, AreOpen}
 use Rattle.match_tree.specs.Offering.{CanOffer}
@@ -62,7 +63,7 @@ module _ (slots : Assignment) where
       (open_both q (take i items) (now ∷ rest) h (all_both (IsOpen slots) (node_routes q now) (row_routes q rest) k (open_drop q nodes (i + 1) whole)))
 
 -- a step to the number at a pattern where it begins
-pub open_step : (o : Offered) (slots : Assignment) (q : ℕ) → CanOffer o slots → is_one_of (growing o slots) q ≡ true → AreOpen slots ((step q o.number ∷ []) ∷ [])
+pub open_step : (o : Offered) (slots : Assignment) (q : ℕ) → CanOffer o slots → contains_number (growing o slots) q ≡ true → AreOpen slots ((step q o.number ∷ []) ∷ [])
 open_step o slots q can h =
     let grows = IsIn-filter_from (leaves_one_free o slots) q (takers o slots) (one_of_in (growing o slots) q h) in
     let takes = (IsIn-filter_from (may_take o slots) q (places 0 o.definition.patterns) grows.0).1 in
@@ -73,5 +74,5 @@ open_step o slots q can h =
     not_true true e = sym e
     not_true false e = refl
 
-pub open_push : (o : Offered) (slots : Assignment) (q : ℕ) (row : List Branch) → CanOffer o slots → is_one_of (growing o slots) q ≡ true → AreOpen slots (row_routes q row) → AreOpen slots (row_routes q (row ++ leaf o.number ∷ []))
+pub open_push : (o : Offered) (slots : Assignment) (q : ℕ) (row : List Branch) → CanOffer o slots → contains_number (growing o slots) q ≡ true → AreOpen slots (row_routes q row) → AreOpen slots (row_routes q (row ++ leaf o.number ∷ []))
 open_push o slots q row can h k = open_both slots q row (leaf o.number ∷ []) k (open_step o slots q can h)

@@ -13,7 +13,8 @@ use Rattle.std.proofs.lemmas.List.Sorted.{IsNonDecreasingBy-from_default}
 use Rattle.std.proofs.lemmas.Bool.Decides.{nat_tests}
 use Rattle.std.proofs.lemmas.List.{length-map}
 use Rattle.std.proofs.lemmas.List.Elements.{filter-append}
-use Rattle.match_tree.specs.Routes.{Route, Step, Branch, step, node_routes, row_routes, rows_routes, lacks, is_one_of}
+use Rattle.match_tree.specs.Routes.{Route, Step, Branch, step, node_routes, row_routes, rows_routes, lacks}
+use Rattle.join_base.specs.Taken.{contains_number}
 use Rattle.match_tree.specs.Order.{AreOrdered, Rise, IsOrderedNode}
 use Rattle.match_tree.specs.Pruned.{AreShort, pruned, without_number, without_numbers}
 use Rattle.match_tree.proofs.TakeLemmas.{filter_both}
@@ -92,13 +93,13 @@ place_missing row n i rise within parted =
 eq_back : (a b : ℕ) → (a == b) ≡ (b == a)
 eq_back a b = grind (arith, nat_tests)
 
-one_of_more : (ns : List ℕ) (n m : ℕ) → is_one_of (ns ++ n ∷ []) m ≡ (is_one_of ns m || (m == n))
+one_of_more : (ns : List ℕ) (n m : ℕ) → contains_number (ns ++ n ∷ []) m ≡ (contains_number ns m || (m == n))
 one_of_more [] n m = or_false (m == n)
   where
     or_false : (b : Bool) → (b || false) ≡ b
     or_false true = refl
     or_false false = refl
-one_of_more (k ∷ ns) n m = ap (λ (b : Bool). (m == k) || b) (one_of_more ns n m) ∙ or_assoc (m == k) (is_one_of ns m) (m == n)
+one_of_more (k ∷ ns) n m = ap (λ (b : Bool). (m == k) || b) (one_of_more ns n m) ∙ or_assoc (m == k) (contains_number ns m) (m == n)
   where
     or_assoc : (a b c : Bool) → (a || (b || c)) ≡ ((a || b) || c)
     or_assoc true b c = refl
@@ -110,8 +111,8 @@ neither false b = refl
 
 pub without_more : (ns : List ℕ) (n : ℕ) (row : List Branch) → without_number n (without_numbers ns row) ≡ without_numbers (ns ++ n ∷ []) row
 without_more ns n row =
-    filter_both (λ node. not (is_one_of ns node.number)) (λ node. not (n == node.number)) (λ node. not (is_one_of (ns ++ n ∷ []) node.number))
-    (λ node. (λ i. not (is_one_of ns node.number) && not (eq_back n node.number i)) ∙ neither (is_one_of ns node.number) (node.number == n) ∙ sym (ap not (one_of_more ns n node.number))) row
+    filter_both (λ node. not (contains_number ns node.number)) (λ node. not (n == node.number)) (λ node. not (contains_number (ns ++ n ∷ []) node.number))
+    (λ node. (λ i. not (contains_number ns node.number) && not (eq_back n node.number i)) ∙ neither (contains_number ns node.number) (node.number == n) ∙ sym (ap not (one_of_more ns n node.number))) row
 
 pub without_none : (row : List Branch) → row ≡ without_numbers [] row
 without_none [] = refl
@@ -135,22 +136,22 @@ rise_filter p (node ∷ row) h = by (p node) (rise_filter p row h.1)
 
 -- ---- the routes that are left
 
-lacks_step : (ns : List ℕ) (s : Step) (routes : List Route) (b : Bool) → not (is_one_of ns s.number) ≡ b → filter (lacks ns) (map (λ r. s ∷ r) routes) ≡ cond b (map (λ r. s ∷ r) (filter (lacks ns) routes)) []
+lacks_step : (ns : List ℕ) (s : Step) (routes : List Route) (b : Bool) → not (contains_number ns s.number) ≡ b → filter (lacks ns) (map (λ r. s ∷ r) routes) ≡ cond b (map (λ r. s ∷ r) (filter (lacks ns) routes)) []
 lacks_step ns s [] true e = refl
 lacks_step ns s [] false e = refl
 lacks_step ns s (r ∷ routes) true e = by (lacks ns r) refl (lacks_step ns s routes true e)
   where
     by : (t : Bool) → lacks ns r ≡ t → filter (lacks ns) (map (λ x. s ∷ x) routes) ≡ map (λ x. s ∷ x) (filter (lacks ns) routes)
-        → cond (not (is_one_of ns s.number) && lacks ns r) ((s ∷ r) ∷ filter (lacks ns) (map (λ x. s ∷ x) routes)) (filter (lacks ns) (map (λ x. s ∷ x) routes)) ≡ map (λ x. s ∷ x) (cond t (r ∷ filter (lacks ns) routes) (filter (lacks ns) routes))
+        → cond (not (contains_number ns s.number) && lacks ns r) ((s ∷ r) ∷ filter (lacks ns) (map (λ x. s ∷ x) routes)) (filter (lacks ns) (map (λ x. s ∷ x) routes)) ≡ map (λ x. s ∷ x) (cond t (r ∷ filter (lacks ns) routes) (filter (lacks ns) routes))
     by true k later = λ i. cond (e i && k i) ((s ∷ r) ∷ later i) (later i)
     by false k later = λ i. cond (e i && k i) ((s ∷ r) ∷ later i) (later i)
 lacks_step ns s (r ∷ routes) false e = (λ i. cond (e i && lacks ns r) ((s ∷ r) ∷ filter (lacks ns) (map (λ x. s ∷ x) routes)) (filter (lacks ns) (map (λ x. s ∷ x) routes))) ∙ lacks_step ns s routes false e
 
 pub pruned_row : (ns : List ℕ) (q : ℕ) (row : List Branch) → row_routes q (map (pruned ns) (without_numbers ns row)) ≡ filter (lacks ns) (row_routes q row)
 pruned_row ns q [] = refl
-pruned_row ns q (node ∷ row) = by (not (is_one_of ns node.number)) refl (pruned_row ns q row)
+pruned_row ns q (node ∷ row) = by (not (contains_number ns node.number)) refl (pruned_row ns q row)
   where
-    by : (b : Bool) → not (is_one_of ns node.number) ≡ b → row_routes q (map (pruned ns) (without_numbers ns row)) ≡ filter (lacks ns) (row_routes q row)
+    by : (b : Bool) → not (contains_number ns node.number) ≡ b → row_routes q (map (pruned ns) (without_numbers ns row)) ≡ filter (lacks ns) (row_routes q row)
         → row_routes q (map (pruned ns) (cond b (node ∷ without_numbers ns row) (without_numbers ns row))) ≡ filter (lacks ns) (node_routes q node ++ row_routes q row)
     by true e later = (λ i. sym (lacks_step ns (step q node.number) ([] ∷ node.routes) true e) i ++ later i) ∙ sym (filter-append (lacks ns) (node_routes q node) (row_routes q row))
     by false e later = later ∙ (λ i. sym (lacks_step ns (step q node.number) ([] ∷ node.routes) false e) i ++ filter (lacks ns) (row_routes q row)) ∙ sym (filter-append (lacks ns) (node_routes q node) (row_routes q row))

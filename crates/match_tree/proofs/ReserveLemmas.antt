@@ -13,7 +13,8 @@ use Rattle.pattern_core.specs.Choice.{least}
 use Rattle.pattern_core.specs.Window.{oldest_seen}
 use Rattle.pattern_core.specs.Members.{IsIn}
 use Rattle.pattern_core.proofs.MembersLemmas.{IsIn-append_left, IsIn-append_right, IsIn-append_cases, IsIn-filter, IsIn-filter_from}
-use Rattle.match_tree.specs.Routes.{Route, Branch, step, rows_routes, with_number, filled, lacks, is_one_of, is_seen}
+use Rattle.match_tree.specs.Routes.{Route, Branch, step, rows_routes, with_number, filled, lacks, is_seen}
+use Rattle.join_base.specs.Taken.{contains_number}
 use Rattle.match_tree.specs.Offers.{Offered, is_free, growing, seen, new_routes, new_matches, matches_at}
 use Rattle.match_tree.specs.Below.{Climbs, AreOpen}
 use Rattle.match_tree.specs.Offering.{CanOffer, LeadOn}
@@ -99,7 +100,7 @@ new_paths o slots (r ∷ routes) =
 
 takes_it : (n p : ℕ) (route : Route) → lacks (n ∷ []) (route ++ step p n ∷ []) ≡ false
 takes_it n p [] = let same : (n == n) ≡ true = grind (arith, nat_tests) in λ i. not (same i || false) && true
-takes_it n p (s ∷ route) = (λ i. not (is_one_of (n ∷ []) s.number) && takes_it n p route i) ∙ and_comm (not (is_one_of (n ∷ []) s.number)) false
+takes_it n p (s ∷ route) = (λ i. not (contains_number (n ∷ []) s.number) && takes_it n p route i) ∙ and_comm (not (contains_number (n ∷ []) s.number)) false
 
 all_ends : (n : ℕ) (route : Route) (ps : List ℕ) → AllByRecursion (λ r. lacks (n ∷ []) r ≡ false) (map (λ p. route ++ step p n ∷ []) ps)
 all_ends n route [] = tt

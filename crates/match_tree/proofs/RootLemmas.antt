@@ -1,5 +1,5 @@
 -- The empty path, at which each visit begins.
-use Rattle.std.proofs.Common.{◌≡◌, ◌∙◌, ℕ, zero, suc, ◌+◌, ◌-◌, ◌<◌, ◌≤◌, List, [], ◌∷◌, ◌++◌, length, replicate, take, get_or, Bool, true, false, not, ◌&&◌, ◌||◌, cond, None, Some, slice_index, refl, sym, ap, arith}
+use Rattle.std.proofs.Common.{◌≡◌, ◌∙◌, ℕ, zero, suc, ◌+◌, ◌-◌, ◌<◌, ◌≤◌, List, [], ◌∷◌, ◌++◌, length, replicate, take, get_or, Bool, true, false, not, ◌&&◌, ◌||◌, cond, None, Some, slice_index, refl, sym, ap, subst, arith}
 use Rattle.std.specs.List.{filter, list_any, AllByRecursion}
 use Rattle.std.proofs.lemmas.List.{take_more, length-take-le}
 use Rattle.std.proofs.lemmas.List.Elements.{filter-append}
@@ -7,7 +7,7 @@ use Rattle.guard_eval.specs.Meaning.{Assignment, letter_at, is_slot_filled}
 use Rattle.guard_eval.proofs.ExtendLemmas.{both_true}
 use Rattle.pattern_core.specs.Matches.{is_of_kind, is_agreeable, is_full}
 use Rattle.match_tree.specs.Routes.{Route, with_number, filled}
-use Rattle.match_tree.specs.Offers.{Offered, places, is_free, may_take, takers}
+use Rattle.match_tree.specs.Offers.{Offered, places, is_free, may_take, takers, leaves_one_free, growing}
 use Rattle.match_tree.specs.Below.{Climbs, AreOpen}
 use Rattle.match_tree.specs.Offering.{MayTry}
 use Rattle.match_tree.specs.Pruned.{AreShort}
@@ -31,7 +31,7 @@ all_try slots [] h = tt
 all_try slots (p ∷ ps) h = (free_is_none slots p h.0, all_try slots ps h.1)
 
 -- each pattern of a kind may be tried at the empty path
-pub try_empty : (f : ℕ → Bool) (kinds : List ℕ) → AllByRecursion (MayTry (replicate (length kinds) None)) (filter f (places 0 kinds))
+try_empty : (f : ℕ → Bool) (kinds : List ℕ) → AllByRecursion (MayTry (replicate (length kinds) None)) (filter f (places 0 kinds))
 try_empty f kinds = all_try (replicate (length kinds) None) (filter f (places 0 kinds)) (all_filter (λ p. is_free (replicate (length kinds) None) p ≡ true) f (places 0 kinds) (places_free (length kinds) 0 kinds (omega arith)))
 
 none_filled : (n : ℕ) → list_any is_slot_filled (replicate n None) ≡ false
@@ -53,7 +53,7 @@ module _ (o : Offered) where
   abbrev empty : Assignment
   empty = replicate (length o.definition.patterns) None
 
-  pub takers_empty : filter (may_take o empty) (filter of_kind (places 0 o.definition.patterns)) ≡ takers o empty
+  takers_empty : filter (may_take o empty) (filter of_kind (places 0 o.definition.patterns)) ≡ takers o empty
   takers_empty = filter_within (may_take o empty) of_kind (λ p h. (both_true (of_kind p) _ (both_true (is_free empty p) _ h).1).0) (places 0 o.definition.patterns)
 
   tried_one : (ps : List ℕ) → AllByRecursion (λ p. is_free empty p ≡ true) ps → AllByRecursion (λ p. is_tried o empty p ≡ of_kind p) ps
@@ -63,6 +63,35 @@ module _ (o : Offered) where
 
   pub tried_empty : filter of_kind (places 0 o.definition.patterns) ≡ tried o empty
   tried_empty = sym (filter_same (is_tried o empty) of_kind (places 0 o.definition.patterns) (tried_one (places 0 o.definition.patterns) (places_free (length o.definition.patterns) 0 o.definition.patterns (omega arith))))
+
+-- ---- the patterns of the number's kind at the empty path
+
+module _ (o : Offered) (slots : Assignment) (wanted : List ℕ) (is : slots ≡ empty o) (wanted_is : wanted ≡ filter (of_kind o) (places 0 o.definition.patterns)) where
+  pub root_free : AllByRecursion (MayTry slots) wanted
+  root_free = subst (λ (s : Assignment). AllByRecursion (MayTry s) wanted) (sym is) (subst (λ (ps : List ℕ). AllByRecursion (MayTry (empty o)) ps) (sym wanted_is) (try_empty (of_kind o) o.definition.patterns))
+
+  pub root_takers : filter (may_take o slots) wanted ≡ takers o slots
+  root_takers = (λ i. filter (may_take o (is i)) (wanted_is i)) ∙ takers_empty o ∙ ap (takers o) (sym is)
+
+-- ---- a definition with one pattern
+
+one_full : (o : Offered) (n : ℕ) → n ≡ 1 → leaves_one_free o (replicate n None) 0 ≡ false
+one_full o zero one = absurd (omega arith)
+one_full o (suc zero) one = refl
+one_full o (suc (suc n)) one = absurd (omega arith)
+
+none_grows : (leaves may : ℕ → Bool) (kinds : List ℕ) → length kinds ≡ 1 → leaves 0 ≡ false → filter leaves (filter may (places 0 kinds)) ≡ []
+none_grows leaves may [] one full = refl
+none_grows leaves may (kind ∷ []) one full = by (may 0)
+  where
+    by : (b : Bool) → filter leaves (cond b (0 ∷ []) []) ≡ []
+    by true = λ i. cond (full i) (0 ∷ []) []
+    by false = refl
+none_grows leaves may (kind ∷ other ∷ kinds) one full = absurd (omega arith)
+
+-- no path grows
+pub alone_grows : (o : Offered) → length o.definition.patterns ≡ 1 → growing o (empty o) ≡ []
+alone_grows o one = none_grows (leaves_one_free o (empty o)) (may_take o (empty o)) o.definition.patterns one (one_full o (length o.definition.patterns) one)
 
 -- ---- the first patterns of a kind, and one more
 

@@ -15,7 +15,8 @@ use Rattle.pattern_core.specs.Members.{IsIn}
 use Rattle.pattern_core.specs.Choice.{least, lesser_of}
 use Rattle.pattern_core.proofs.BestLemmas.{least-append}
 use Rattle.pattern_core.proofs.MembersLemmas.{IsIn-filter, IsIn-filter_from}
-use Rattle.match_tree.specs.Routes.{Route, Branch, step, node_routes, row_routes, rows_routes, lacks, is_one_of}
+use Rattle.match_tree.specs.Routes.{Route, Branch, step, node_routes, row_routes, rows_routes, lacks}
+use Rattle.join_base.specs.Taken.{contains_number}
 use Rattle.std.specs.declared.alloc.Global.{Global}
 use Rattle.std.proofs.Math.Bool.{or-true}
 use Rattle.match_tree.specs.declared.node.Node.{Node}
@@ -148,19 +149,19 @@ module _ (rows items : List (List Branch)) (i : ℕ) (row now d : List Branch) (
       subst (λ (rs : List Route). Grows o slots [] rs (rows_routes 0 (take (i + 1) (set items i now)))) (sym before_routes)
       (subst (λ (rs : List Route). Grows o slots [] (rows_routes 0 (take i rows) ++ row_routes i row) rs) (sym now_routes) both)
 
-  pub begins_on : (n : ℕ) (begun : List ℕ) → Begins n (filter (is_one_of begun) (places 0 (take i rows))) (rows_routes 0 (take i rows)) (rows_routes 0 (take i items)) → Begins n (filter (is_one_of begun) (i ∷ [])) (row_routes i row) (row_routes i now)
-      → Begins n (filter (is_one_of begun) (places 0 (take (i + 1) rows))) (rows_routes 0 (take (i + 1) rows)) (rows_routes 0 (take (i + 1) (set items i now)))
+  pub begins_on : (n : ℕ) (begun : List ℕ) → Begins n (filter (contains_number begun) (places 0 (take i rows))) (rows_routes 0 (take i rows)) (rows_routes 0 (take i items)) → Begins n (filter (contains_number begun) (i ∷ [])) (row_routes i row) (row_routes i now)
+      → Begins n (filter (contains_number begun) (places 0 (take (i + 1) rows))) (rows_routes 0 (take (i + 1) rows)) (rows_routes 0 (take (i + 1) (set items i now)))
   begins_on n begun h k =
       let at : 0 + length (take i rows) ≡ i = let e = front_count rows within in omega arith in
-      let here : filter (is_one_of begun) (places 0 (take (i + 1) rows)) ≡ filter (is_one_of begun) (places 0 (take i rows)) ++ filter (is_one_of begun) (i ∷ []) =
-      ap (λ (xs : List (List Branch)). filter (is_one_of begun) (places 0 xs)) before_on
-      ∙ ap (filter (is_one_of begun)) (places_append 0 (take i rows) (row ∷ []) ∙ ap (λ (m : ℕ). places 0 (take i rows) ++ m ∷ []) at)
-      ∙ filter-append (is_one_of begun) (places 0 (take i rows)) (i ∷ [])
+      let here : filter (contains_number begun) (places 0 (take (i + 1) rows)) ≡ filter (contains_number begun) (places 0 (take i rows)) ++ filter (contains_number begun) (i ∷ []) =
+      ap (λ (xs : List (List Branch)). filter (contains_number begun) (places 0 xs)) before_on
+      ∙ ap (filter (contains_number begun)) (places_append 0 (take i rows) (row ∷ []) ∙ ap (λ (m : ℕ). places 0 (take i rows) ++ m ∷ []) at)
+      ∙ filter-append (contains_number begun) (places 0 (take i rows)) (i ∷ [])
       in
-      let both = begins_both n (filter (is_one_of begun) (places 0 (take i rows))) (filter (is_one_of begun) (i ∷ [])) (rows_routes 0 (take i rows)) (row_routes i row) (rows_routes 0 (take i items)) (row_routes i now) h k in
+      let both = begins_both n (filter (contains_number begun) (places 0 (take i rows))) (filter (contains_number begun) (i ∷ [])) (rows_routes 0 (take i rows)) (row_routes i row) (rows_routes 0 (take i items)) (row_routes i now) h k in
       subst (λ (ps : List ℕ). Begins n ps (rows_routes 0 (take (i + 1) rows)) (rows_routes 0 (take (i + 1) (set items i now)))) (sym here)
-      (subst (λ (rs : List Route). Begins n (filter (is_one_of begun) (places 0 (take i rows)) ++ filter (is_one_of begun) (i ∷ [])) rs (rows_routes 0 (take (i + 1) (set items i now)))) (sym before_routes)
-      (subst (λ (rs : List Route). Begins n (filter (is_one_of begun) (places 0 (take i rows)) ++ filter (is_one_of begun) (i ∷ [])) (rows_routes 0 (take i rows) ++ row_routes i row) rs) (sym now_routes) both))
+      (subst (λ (rs : List Route). Begins n (filter (contains_number begun) (places 0 (take i rows)) ++ filter (contains_number begun) (i ∷ [])) rs (rows_routes 0 (take (i + 1) (set items i now)))) (sym before_routes)
+      (subst (λ (rs : List Route). Begins n (filter (contains_number begun) (places 0 (take i rows)) ++ filter (contains_number begun) (i ∷ [])) (rows_routes 0 (take i rows) ++ row_routes i row) rs) (sym now_routes) both))
 
   -- what has not the number is as before
   pub same_on : (n : ℕ) → filter (lacks (n ∷ [])) (rows_routes 0 (take i items)) ≡ filter (lacks (n ∷ [])) (rows_routes 0 (take i rows)) → filter (lacks (n ∷ [])) (row_routes i now) ≡ filter (lacks (n ∷ [])) (row_routes i row)
@@ -240,17 +241,17 @@ push_count n q row = ap (λ (rs : List Route). length rs) (row_append q row (lea
 
 -- ---- where the number begins
 
-pub one_of_in : (ps : List ℕ) (p : ℕ) → is_one_of ps p ≡ true → IsIn p ps
+pub one_of_in : (ps : List ℕ) (p : ℕ) → contains_number ps p ≡ true → IsIn p ps
 one_of_in [] p h = absurd cc
 one_of_in (x ∷ ps) p h = by (p == x) refl h (one_of_in ps p)
   where
-    by : (b : Bool) → (p == x) ≡ b → (b || is_one_of ps p) ≡ true → (is_one_of ps p ≡ true → IsIn p ps) → IsIn p (x ∷ ps)
+    by : (b : Bool) → (p == x) ≡ b → (b || contains_number ps p) ≡ true → (contains_number ps p ≡ true → IsIn p ps) → IsIn p (x ∷ ps)
     by true e k later = inl (grind (arith, nat_tests))
     by false e k later = inr (later k)
 
-in_one_of : (ps : List ℕ) (p : ℕ) → IsIn p ps → is_one_of ps p ≡ true
+in_one_of : (ps : List ℕ) (p : ℕ) → IsIn p ps → contains_number ps p ≡ true
 in_one_of [] p m = absurd m
-in_one_of (x ∷ ps) p (inl e) = let same : (p == x) ≡ true = grind (arith, nat_tests) in λ i. same i || is_one_of ps p
+in_one_of (x ∷ ps) p (inl e) = let same : (p == x) ≡ true = grind (arith, nat_tests) in λ i. same i || contains_number ps p
 in_one_of (x ∷ ps) p (inr m) = (λ i. (p == x) || in_one_of ps p m i) ∙ or-true (p == x)
 
 in_places : {X : Type 0} (p k : ℕ) (xs : List X) → k ≤ p → p < k + length xs → IsIn p (places k xs)
@@ -268,15 +269,15 @@ from_places p k (x ∷ xs) (inr m) = let l = from_places p (k + 1) xs m in omega
 
 -- each of the patterns at which the number begins has a row
 pub begins_in_rows : (o : Offered) (slots : Assignment) (rows : List (List Branch)) (before now : List Route) → length o.definition.patterns ≤ length rows
-    → Begins o.number (filter (is_one_of (growing o slots)) (places 0 rows)) before now → Begins o.number (growing o slots) before now
+    → Begins o.number (filter (contains_number (growing o slots)) (places 0 rows)) before now → Begins o.number (growing o slots) before now
 begins_in_rows o slots rows before now enough g =
     let begun : List ℕ = growing o slots in
-    begins_here o.number (filter (is_one_of begun) (places 0 rows)) begun before now
-    (λ p m. one_of_in begun p (IsIn-filter_from (is_one_of begun) p (places 0 rows) m).1)
+    begins_here o.number (filter (contains_number begun) (places 0 rows)) begun before now
+    (λ p m. one_of_in begun p (IsIn-filter_from (contains_number begun) p (places 0 rows) m).1)
     (λ p m.
     let in_takers = (IsIn-filter_from (leaves_one_free o slots) p (takers o slots) m).0 in
     let below = from_places p 0 o.definition.patterns (IsIn-filter_from (may_take o slots) p (places 0 o.definition.patterns) in_takers).0 in
-    IsIn-filter (is_one_of begun) p (places 0 rows) (in_one_of begun p m) (in_places p 0 rows (omega arith) (omega arith)))
+    IsIn-filter (contains_number begun) p (places 0 rows) (in_one_of begun p m) (in_places p 0 rows (omega arith) (omega arith)))
     g
 
 less_empty : (n k : ℕ) → AreLess n (replicate k [])

@@ -17,12 +17,13 @@ use Rattle.match_tree.specs.Routes.{Branch, node_routes, with_number}
 use Rattle.match_tree.specs.Offers.{Offered, places, is_free, may_take, takers}
 use Rattle.match_tree.specs.Offering.{CanOffer, LeadOn}
 use Rattle.match_tree.specs.Order.{IsOrderedNode}
-use Rattle.match_tree.specs.Bound.{IsPair, is_same, meets}
-use Rattle.match_tree.proofs.BoundLemmas.{same_said}
-use Rattle.match_tree.specs.declared.bound.Same.{Same}
+use Rattle.guard_bound.specs.Bound.{IsPair, meets}
+use Rattle.guard_bound.specs.Same.{is_same}
+use Rattle.guard_bound.proofs.SameLemmas.{same_said}
+use Rattle.guard_bound.specs.declared.same.Same.{Same}
 use Rattle.match_tree.specs.Screen.{AreTests, IsBound, IsDecidedAt, IsSaid, as_bound, passes}
 use Rattle.match_tree.specs.declared.screen.Screen.{Screen}
-use Rattle.match_tree.specs.declared.bound.Bound.{Bound}
+use Rattle.guard_bound.specs.declared.bound.Bound.{Bound}
 use Rattle.match_tree.specs.declared.screen.Key.{Key}
 use Rattle.match_tree.proofs.SlotsLemmas.{extends_one, free_is_none, free_further, below_apart}
 use Rattle.match_tree.proofs.TakeLemmas.{and_of, takers_further}
@@ -161,7 +162,7 @@ module _ (o : Offered) (slots : Assignment) (q m p : ℕ) (free : is_free slots 
   abbrev both : ℕ → Assignment
   both n = with_number (with_number slots q n) p o.number
 
-  beside : IsPair o q p m (both m)
+  beside : IsPair o.number q p m (both m)
   beside =
       let other = other_of o slots q p alone in
       let left : is_free (with_number slots q m) p ≡ true = free_further slots q m p ∙ and_of (is_free slots p) (not (p == q)) other.free other.apart in
@@ -190,12 +191,12 @@ module _ (o : Offered) (slots : Assignment) (q m p : ℕ) (free : is_free slots 
       by false e later = unmet b h.0 e
 
   -- where its text is another one, none may either
-  pub is_another : (same : Option Same) → IfSome same (IsSaid o (both o.number) q p) → is_same o same m ≡ false → takers o (with_number slots q m) ≡ []
+  pub is_another : (same : Option Same) → IfSome same (IsSaid o (both o.number) q p) → is_same o.letters o.number same m ≡ false → takers o (with_number slots q m) ≡ []
   is_another None h fails = absurd cc
   is_another (Some same) h fails =
       let c = h.conjunct in
       let decided : is_decided (both m) c ≡ true = (λ i. has_some (needs_of c) && all_alike slots q m o.number p o.number (needs_of c) i) ∙ h.decided in
-      let untrue : is_true o.letters (both m) c ≡ false = same_said o q p m (both m) c same h.says beside ∙ fails in
+      let untrue : is_true o.letters (both m) c ≡ false = same_said o.letters o.number q p m (both m) c same h.says beside ∙ fails in
       disagrees o slots q m p free alone (not_agreeable o (both m) c (is_agreeable o.letters o.definition.conjuncts (both m)) refl h.is_in decided untrue)
 
 -- ---- a screen with a test more

@@ -1,22 +1,23 @@
--- A walk over the nodes of a row that leaves out those that are not worth a visit.
-use Rattle.std.proofs.Common.{◌≡◌, ◌∙◌, ℕ, zero, suc, ◌+◌, ◌-◌, ◌<◌, ◌≤◌, List, [], ◌∷◌, ◌++◌, length, take, drop, get_or, true, Option, Some, None, refl, sym, ap, subst, arith}
-use Rattle.std.proofs.lemmas.List.{take_more}
+-- A walk over the nodes of a row that leaves out those that are not worth a visit, and what it makes of the node that it has come to.
+use Rattle.std.proofs.Common.{◌≡◌, ◌∙◌, ℕ, zero, suc, ◌+◌, ◌-◌, ◌<◌, ◌≤◌, List, [], ◌∷◌, ◌++◌, length, take, drop, get_or, set, map, true, Option, Some, None, refl, sym, ap, subst, arith}
+use Rattle.std.proofs.lemmas.List.{take_more, length-set}
 use Rattle.std.specs.Prelude.{IfSome}
 use Rattle.guard_eval.specs.Meaning.{Assignment}
-use Rattle.match_tree.specs.Routes.{Branch, with_number, row_routes}
+use Rattle.match_tree.specs.Routes.{Branch, with_number, node_routes, row_routes}
 use Rattle.match_tree.specs.Offers.{Offered, is_free, takers}
 use Rattle.match_tree.specs.Below.{AreOpen}
 use Rattle.match_tree.specs.Offering.{LeadOn}
 use Rattle.match_tree.specs.Order.{IsOrderedNode, IsSoundRow}
-use Rattle.match_tree.specs.Tries.{tries_behind}
+use Rattle.match_tree.specs.Growth.{Lasts}
+use Rattle.match_tree.specs.Tries.{tried, tries_behind}
 use Rattle.match_tree.specs.Screen.{AreLacking, Screens, key_of}
 use Rattle.match_tree.specs.declared.screen.Key.{Key}
 use Rattle.match_tree.specs.declared.screen.Screen.{Screen}
-use Rattle.match_tree.proofs.LeadLemmas.{lead_node, lead_below}
-use Rattle.match_tree.proofs.VisitLemmas.{Passed, passed_both, passed_quiet, passed_none}
+use Rattle.match_tree.proofs.LeadLemmas.{Leads, lead_node, lead_below}
+use Rattle.match_tree.proofs.VisitLemmas.{Passed, Stays, passed_both, passed_quiet, passed_none}
 use Rattle.match_tree.proofs.ScreenLemmas.{lacks_key, others}
-use Rattle.match_tree.proofs.WalkLemmas.{all_at, left_item, left_more, row_length, tries_on}
-use Rattle.match_tree.proofs.OpenLemmas.{open_both, open_node, open_one}
+use Rattle.match_tree.proofs.WalkLemmas.{all_at, counts_all, counts_on, left_item, left_more, left_set, passed_on, row_length, stays_sound, stopped, tries_most, tries_on}
+use Rattle.match_tree.proofs.OpenLemmas.{open_all, open_both, open_node, open_on, open_one}
 
 -- ---- a walk over the nodes before a place
 
@@ -90,3 +91,76 @@ walk_lacking o slots q nodes items count_before count steps_before steps screen 
     let Lacks : Option Key → Type 0 = λ k. AreLacking o.letters k items from to in
     walk_to o slots q nodes items count_before count steps_before steps d sound lead opened from to ordered (omega (arith, before.long))
     (λ j l m free. lacking_none o slots q items screen from to j d free screens (subst Lacks key_is lacking) l m) before
+
+-- ---- the node that a walk has come to
+
+-- what is known of the node at the place
+pub record Reached (o : Offered) (slots : Assignment) (q : ℕ) (nodes items : List Branch) (place : ℕ) (node : Branch) : Type 0 where
+  pub is : node ≡ get_or nodes place node
+  pub before : place < length nodes
+  pub now : place < length items
+  pub leads : Leads o slots q node
+  pub lead : LeadOn o slots (node_routes q node)
+  pub opened : AreOpen slots (node_routes q node)
+  pub ordered : IsOrderedNode node
+
+pub reach : {o : Offered} {slots : Assignment} {q : ℕ} {nodes items : List Branch} {count_before count steps_before steps place : ℕ} {node : Branch}
+    → IsSoundRow nodes → LeadOn o slots (row_routes q nodes) → AreOpen slots (row_routes q nodes) → Walked o slots q nodes items count_before count steps_before steps place → place < length items → node ≡ get_or items place node
+    → Reached o slots q nodes items place node
+reach {o} {slots} {q} {nodes} {items} {count_before} {count} {steps_before} {steps} {place} {node} sound lead opened walked within is =
+    let here : node ≡ get_or nodes place node = is ∙ left_item items nodes place node walked.left in
+    let inside : place < length nodes = omega (arith, walked.long) in
+    let leads_on = subst (λ (x : Branch). LeadOn o slots (node_routes q x)) (sym here) (lead_node o slots q nodes place node inside lead) in
+    record {
+      is = here;
+      before = inside;
+      now = within;
+      leads = lead_below o slots q node leads_on;
+      lead = leads_on;
+      opened = subst (λ (x : Branch). AreOpen slots (node_routes q x)) (sym here) (open_node slots q nodes place node inside opened);
+      ordered = subst IsOrderedNode (sym here) (all_at IsOrderedNode nodes place node inside sound.ordered);
+    }
+
+-- the node was passed, so the walk goes on behind it
+pub go_on : {o : Offered} {slots : Assignment} {q : ℕ} {nodes items : List Branch} {count_before count steps_before steps place : ℕ} {node : Branch} (now : Branch) (count_now steps_now : ℕ)
+    → Walked o slots q nodes items count_before count steps_before steps place → Reached o slots q nodes items place node → Passed o slots q (node ∷ []) (now ∷ []) → AreOpen slots (node_routes q now)
+    → count_now + length node.routes ≡ count + length now.routes → steps_now ≤ steps + (length (tried o (with_number slots q node.number)) + tries_behind o (with_number slots q node.number) node.routes)
+    → Walked o slots q nodes (set items place now) count_before count_now steps_before steps_now (place + 1)
+go_on {o} {slots} {q} {nodes} {items} {count_before} {count} {steps_before} {steps} {place} {node} now count_now steps_now walked at passed opens counted stepped =
+    let counts = counts_on o slots q nodes items place node now node at.before at.now at.is in
+    let tried_on = tries_on o slots q nodes items place node node at.before at.is in
+    record {
+      passed = passed_on o slots q nodes items place node now node at.before at.now at.is walked.passed passed;
+      opens = open_on slots q items place now at.now walked.opens opens;
+      left = left_set o slots q nodes items place now walked.left;
+      long = length-set items place now ∙ walked.long;
+      counted = omega (arith, walked.counted, counted, counts.0, counts.1);
+      stepped = omega (arith, walked.stepped, stepped, tried_on);
+    }
+
+-- what a walk leaves that stopped at a node
+pub record Stopped (o : Offered) (slots : Assignment) (q : ℕ) (nodes items : List Branch) (count_before count steps_before steps : ℕ) : Type 0 where
+  pub sound : IsSoundRow items
+  pub free_left : AreOpen slots (row_routes q items)
+  pub numbers : map (λ node. node.number) items ≡ map (λ node. node.number) nodes
+  pub lasting : Lasts o.number (row_routes q nodes) (row_routes q items)
+  pub counted : count + length (row_routes q nodes) ≡ count_before + length (row_routes q items)
+  pub stepped : steps ≤ steps_before + tries_behind o slots (row_routes q nodes)
+
+pub stop_at : {o : Offered} {slots : Assignment} {q : ℕ} {nodes items : List Branch} {count_before count steps_before steps place : ℕ} {node : Branch} (now : Branch) (count_now steps_now : ℕ)
+    → IsSoundRow nodes → LeadOn o slots (row_routes q nodes) → AreOpen slots (row_routes q nodes) → Walked o slots q nodes items count_before count steps_before steps place → Reached o slots q nodes items place node
+    → Stays o.number q (node ∷ []) (now ∷ []) → AreOpen slots (node_routes q now)
+    → count_now + length node.routes ≡ count + length now.routes → steps_now ≤ steps + (length (tried o (with_number slots q node.number)) + tries_behind o (with_number slots q node.number) node.routes)
+    → Stopped o slots q nodes (set items place now) count_before count_now steps_before steps_now
+stop_at {o} {slots} {q} {nodes} {items} {count_before} {count} {steps_before} {steps} {place} {node} now count_now steps_now sound lead opened walked at stays opens counted stepped =
+    let all = stopped o slots q nodes items place node now node at.before at.now at.is walked.left sound.ordered lead walked.passed.stays stays in
+    let counts = counts_all o slots q nodes items place node now node at.before at.now at.is walked.left in
+    let most = tries_most o slots q nodes items place node node at.before at.is in
+    record {
+      sound = stays_sound o.number q nodes (set items place now) sound all;
+      free_left = open_all slots q nodes items place now at.now walked.left opened walked.opens opens;
+      numbers = all.numbers;
+      lasting = all.lasts;
+      counted = omega (arith, walked.counted, counted, counts.0, counts.1);
+      stepped = omega (arith, walked.stepped, stepped, most);
+    }

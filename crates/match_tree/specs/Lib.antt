@@ -13,7 +13,6 @@ pub mod Growth
 pub mod Begins
 pub mod Pruned
 pub mod Kept
-pub mod Bound
 pub mod Screen
 -- What the joins and messages of tests are like.
 pub mod Samples

@@ -1,7 +1,8 @@
 -- What is left of nodes where some numbers are taken out.
 use Rattle.std.specs.Prelude.{ℕ, ◌≤◌, List, length, not, ◌==◌, nat_le}
 use Rattle.std.specs.List.{filter, AllByRecursion}
-use Rattle.match_tree.specs.Routes.{Route, Branch, lacks, is_one_of}
+use Rattle.match_tree.specs.Routes.{Route, Branch, lacks}
+use Rattle.join_base.specs.Taken.{contains_number}
 
 -- no route has more steps
 abbrev pub AreShort : ℕ → List Route → Type 0
@@ -17,7 +18,7 @@ without_number number row = filter (λ node. not (number == node.number)) row
 
 -- the nodes that take none of the numbers
 abbrev pub without_numbers : List ℕ → List Branch → List Branch
-without_numbers numbers row = filter (λ node. not (is_one_of numbers node.number)) row
+without_numbers numbers row = filter (λ node. not (contains_number numbers node.number)) row
 
 -- the nodes that do not take a number before the oldest
 abbrev pub seen_nodes : ℕ → List Branch → List Branch

@@ -1,7 +1,8 @@
 -- What the nodes below a path stand for: the routes that lead on from it.
-use Rattle.std.specs.Prelude.{ℕ, ◌+◌, List, [], ◌∷◌, ◌++◌, map, slice_set, Some, Bool, not, ◌==◌, nat_le}
-use Rattle.std.specs.List.{flat_map, list_any, list_all}
+use Rattle.std.specs.Prelude.{ℕ, ◌+◌, List, [], ◌∷◌, ◌++◌, map, slice_set, Some, Bool, not, nat_le}
+use Rattle.std.specs.List.{flat_map, list_all}
 use Rattle.guard_eval.specs.Meaning.{Assignment}
+use Rattle.join_base.specs.Taken.{contains_number}
 
 -- a pattern takes a number
 pub record Step : Type 0 where
@@ -42,12 +43,9 @@ abbrev pub filled : Assignment → Route → Assignment
 filled slots [] = slots
 filled slots (s ∷ route) = filled (with_number slots s.pattern s.number) route
 
-abbrev pub is_one_of : List ℕ → ℕ → Bool
-is_one_of numbers n = list_any (λ m. n == m) numbers
-
 -- no step takes one of the numbers
 abbrev pub lacks : List ℕ → Route → Bool
-lacks numbers route = list_all (λ s. not (is_one_of numbers s.number)) route
+lacks numbers route = list_all (λ s. not (contains_number numbers s.number)) route
 
 -- no step takes a number before the oldest
 abbrev pub is_seen : ℕ → Route → Bool

@@ -7,12 +7,13 @@ use Rattle.join_base.specs.declared.message.Relation.TheVariants.{Equal}
 use Rattle.guard_eval.specs.Condition.{Condition}
 use Rattle.guard_eval.specs.Meaning.{Assignment, is_decided}
 use Rattle.pattern_core.specs.Members.{IsIn}
-use Rattle.match_tree.specs.declared.bound.Bound.{Bound}
-use Rattle.match_tree.specs.declared.bound.Same.{Same}
+use Rattle.guard_bound.specs.declared.bound.Bound.{Bound}
+use Rattle.guard_bound.specs.declared.same.Same.{Same}
 use Rattle.match_tree.specs.declared.screen.Key.{Key}
 use Rattle.match_tree.specs.declared.screen.Screen.{Screen}
 use Rattle.match_tree.specs.Routes.{Branch, with_number}
-use Rattle.match_tree.specs.Bound.{Says, SaysSame, int_at}
+use Rattle.guard_bound.specs.Bound.{Says, int_at}
+use Rattle.guard_bound.specs.Same.{SaysSame}
 use Rattle.match_tree.specs.Offers.{Offered}
 
 -- the equality as a bound
@@ -30,7 +31,7 @@ pub record IsBound (o : Offered) (whole : Assignment) (pattern wanted : ℕ) (bo
   pub conjunct : Condition
   pub is_in : IsIn conjunct o.definition.conjuncts
   pub decided : is_decided whole conjunct ≡ true
-  pub says : Says o pattern wanted conjunct bound
+  pub says : Says o.letters o.number pattern wanted conjunct bound
 
 -- a decided conjunct of the definition says that these texts are equal
 pub record IsSaid (o : Offered) (whole : Assignment) (pattern wanted : ℕ) (same : Same) : Type 0 where

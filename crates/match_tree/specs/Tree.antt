@@ -8,7 +8,8 @@ use Rattle.pattern_core.specs.declared.candidate.Candidate.{Candidate}
 use Rattle.pattern_core.specs.Members.{IsIn}
 use Rattle.pattern_core.specs.Choice.{least}
 use Rattle.pattern_core.specs.Window.{oldest_seen}
-use Rattle.match_tree.specs.Routes.{with_number, is_one_of}
+use Rattle.match_tree.specs.Routes.{with_number}
+use Rattle.join_base.specs.Taken.{contains_number}
 use Rattle.match_tree.specs.Offers.{Offered, growing, matches_at}
 
 -- what a reserve for a number has found: the least match that the number completes, and the paths that it adds
@@ -53,7 +54,7 @@ completions o paths = flat_map (matches_at o) paths
 
 abbrev pub is_slot_without : List ℕ → Option ℕ → Bool
 is_slot_without numbers None = true
-is_slot_without numbers (Some n) = not (is_one_of numbers n)
+is_slot_without numbers (Some n) = not (contains_number numbers n)
 
 -- the path takes none of the numbers
 abbrev pub is_path_without : List ℕ → Assignment → Bool

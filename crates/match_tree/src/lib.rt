@@ -16,7 +16,6 @@
 //! Tests show the calls of one arrival one behind the other: rows, and small scripts against a plain listing.
 #![tactic(auto)]
 
-mod bound;
 mod expire;
 mod node;
 mod offer;

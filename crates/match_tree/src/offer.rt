@@ -1,10 +1,10 @@
 //! A new number that is offered to the paths of a definition.
-ghost use Rattle.std.specs.Prelude.{◌≡◌, ◌+◌, ◌<◌, ◌≤◌, length, map, true, not, ◌==◌, Some, None, slice_get};
+ghost use Rattle.std.specs.Prelude.{◌≡◌, ◌+◌, ◌<◌, ◌≤◌, ◌∷◌, [], length, map, true, not, ◌==◌, Some, None, slice_get};
 ghost use Rattle.std.specs.List.{filter, AllByRecursion};
 ghost use Rattle.pattern_core.specs.Matches.{is_agreeable, holds_number, is_full};
 ghost use Rattle.pattern_core.specs.Suits.{DefinitionSuits, IsRecorded, SlotsSuit};
 ghost use Rattle.pattern_core.specs.Choice.{least, taken_of, candidate_of};
-ghost use Rattle.match_tree.specs.Routes.{is_one_of};
+ghost use Rattle.join_base.specs.Taken.{contains_number};
 ghost use Rattle.match_tree.specs.Offers.{may_take, matches_of, leaves_one_free};
 ghost use Rattle.match_tree.specs.Offering.{offered, CanOffer, MayTry, MayTake};
 
@@ -77,18 +77,31 @@ fn candidate(offer: &Offer<'_>, slots: &Slots) -> Candidate
     }
 }
 
-// The least match that the number completes at one of the patterns, which may take it.
+// The match that the number completes at the pattern, which may take it.
+fn match_at(offer: &Offer<'_>, slots: &Slots, pattern: u32) -> Option<Candidate>
+    requires can { CanOffer (offered offer.now) slots.now }
+    requires may { MayTake (offered offer.now) slots.now pattern }
+    ensures { result ≡ least (matches_of (offered offer.now) slots.now (pattern ∷ [])) }
+{
+    let longer = slots.with(pattern, offer.number);
+    if !complete(offer.definition, &longer, offer.letters) {
+        return None;
+    }
+    Some(candidate(offer, &longer))
+}
+
+/// The least match that the number completes at one of the patterns, which may take it.
 pub fn best_match(offer: &Offer<'_>, slots: &Slots, patterns: &Numbers) -> Option<Candidate>
     requires can { CanOffer (offered offer.now) slots.now }
     requires may { AllByRecursion (MayTake (offered offer.now) slots.now) patterns.now }
     ensures { result ≡ least (matches_of (offered offer.now) slots.now patterns.now) }
 {
+    if let [pattern] = patterns.as_slice() {
+        return match_at(offer, slots, *pattern);
+    }
     let mut best = None;
     for pattern in patterns.as_slice() {
-        let longer = slots.with(*pattern, offer.number);
-        if complete(offer.definition, &longer, offer.letters) {
-            best = better(best, Some(candidate(offer, &longer)));
-        }
+        best = better(best, match_at(offer, slots, *pattern));
     }
     best
 }
@@ -111,7 +124,7 @@ pub fn growing(offer: &Offer<'_>, slots: &Slots, patterns: &Numbers) -> Numbers
 
 /// Whether the pattern is one of these.
 pub fn contains(patterns: &Numbers, wanted: u32) -> bool
-    ensures { result ≡ is_one_of patterns.now wanted }
+    ensures { result ≡ contains_number patterns.now wanted }
 {
     for pattern in patterns.as_slice() {
         if wanted == *pattern {

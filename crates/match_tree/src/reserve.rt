@@ -1,22 +1,22 @@
 //! A visit of all paths of a definition.
 ghost use Rattle.std.specs.Prelude.{◌≡◌, ◌≢◌, ◌+◌, ◌-◌, ◌^◌, ◌<◌, ◌≤◌, [], ◌∷◌, not, length, replicate, None, OnOk, OnErr, IfOk, slice_index};
-ghost use Rattle.std.specs.List.{filter};
+ghost use Rattle.std.specs.List.{filter, AllByRecursion};
 ghost use Rattle.guard_eval.specs.Meaning.{letter_at};
 ghost use Rattle.pattern_core.specs.Choice.{least};
 ghost use Rattle.pattern_core.specs.Matches.{is_of_kind};
 ghost use Rattle.pattern_core.specs.Suits.{IsRecorded};
 ghost use Rattle.match_tree.specs.Routes.{rows_routes, lacks};
 ghost use Rattle.match_tree.specs.Rows.{rows_of};
-ghost use Rattle.match_tree.specs.Offers.{places, growing, seen, new_matches};
+ghost use Rattle.match_tree.specs.Offers.{places, growing, matches_at, may_take, seen, takers, new_matches};
 ghost use Rattle.match_tree.specs.Below.{AreOpen};
-ghost use Rattle.match_tree.specs.Offering.{offered, CanOffer, LeadOn};
+ghost use Rattle.match_tree.specs.Offering.{offered, CanOffer, MayTry, LeadOn};
 ghost use Rattle.match_tree.specs.Order.{AreSound};
 ghost use Rattle.match_tree.specs.Growth.{Lasts, Grows};
 ghost use Rattle.match_tree.specs.Pruned.{AreShort};
 ghost use Rattle.match_tree.specs.Tries.{tried, tries_behind};
 
 use crate::node::Node;
-use crate::offer::Offer;
+use crate::offer::{Offer, best_match, takers};
 use crate::prune::prune_rows;
 use crate::visit::visit_rows;
 use join_base::{Message, NoMemory, Numbers, Slots, Steps};
@@ -68,6 +68,23 @@ fn remove_new(rows: &mut Vec<VecDeque<Node>>, number: u32, levels: usize, added:
     let _ = prune_rows(rows, &numbers, levels);
 }
 
+// Offers the number to one path. The answer is the least match that it completes there.
+fn visit_path<L: Ledger>(
+    offer: &Offer<'_>,
+    slots: &Slots,
+    wanted: &Numbers,
+    steps: &mut Steps<L>,
+) -> Option<Candidate>
+    requires can { CanOffer (offered offer.now) slots.now }
+    requires free { AllByRecursion (MayTry slots.now) wanted.now }
+    requires wanted { filter (may_take (offered offer.now) slots.now) wanted.now ≡ takers (offered offer.now) slots.now }
+    ensures best { result ≡ least (matches_at (offered offer.now) slots.now) }
+    ensures counted { steps.new ≡ steps.old + length wanted.now }
+{
+    let able = takers(offer, slots, wanted, steps);
+    best_match(offer, slots, &able)
+}
+
 /// Offers the number to the empty path and to all that go on from it. The answer is the least match that it completes.
 /// Where there is a match, or no memory, the nodes are as they were.
 pub fn visit_all<L: Ledger>(
@@ -98,6 +115,10 @@ pub fn visit_all<L: Ledger>(
     let patterns = offer.definition.patterns.len();
     let slots = Slots::new(patterns as u32);
     let wanted = of_kind(offer.definition, offer.number, offer.letters);
+    // A path with its one pattern filled is full, so no node is ever added.
+    if patterns == 1 && rows.len() == 0 {
+        return Ok(visit_path(offer, &slots, &wanted, steps));
+    }
     let before = *count;
     match visit_rows(alloc, offer, &slots, &wanted, rows, count, steps) {
         Ok(None) => Ok(None),

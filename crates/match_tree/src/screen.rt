@@ -10,9 +10,9 @@ ghost use Rattle.match_tree.specs.Offers.{takers};
 ghost use Rattle.match_tree.specs.Offering.{offered, CanOffer};
 ghost use Rattle.match_tree.specs.Screen.{AreLacking, AreTests, IsDecidedAt, IsWith, Screens, as_bound, key_of};
 
-use crate::bound::{Bound, Bounds, Same, bound_of, int_at, is_same, meets_all, same_of};
 use crate::node::Node;
 use crate::offer::Offer;
+use guard_bound::{Bound, Bounds, Same, bound_of, int_at, is_same, meets_all, same_of};
 use guard_eval::{decided, holds};
 use join_base::{Message, Numbers, Relation, Slots};
 use std::collections::VecDeque;
@@ -103,7 +103,13 @@ fn add_test(offer: &Offer<'_>, whole: &Slots, pattern: u32, place: u32, screen: 
 {
     let conjunct = offer.definition.conjuncts.at(place as usize);
     if screen.bounds.len() < 4 {
-        if let Some(bound) = bound_of(offer, pattern, screen.other, conjunct) {
+        if let Some(bound) = bound_of(
+            offer.letters,
+            offer.number,
+            pattern,
+            screen.other,
+            conjunct,
+        ) {
             add_bound(screen, bound);
             return;
         }
@@ -267,7 +273,7 @@ pub fn is_worth(
             if !meets_all(offer.letters, &screen.bounds, number) {
                 return false;
             }
-            if !is_same(offer, screen.same, number) {
+            if !is_same(offer.letters, offer.number, screen.same, number) {
                 return false;
             }
             agrees(offer, slots, pattern, screen, number)

@@ -2,7 +2,8 @@
 ghost use Rattle.std.specs.Prelude.{◌≡◌, ◌+◌, ◌<◌, ◌≤◌, ◌++◌, [], ◌∷◌, ℕ, length, map, replicate, true, not, ◌==◌, None, OnOk, IfOk, OnErr};
 ghost use Rattle.std.specs.List.{filter, AllByRecursion};
 ghost use Rattle.pattern_core.specs.Choice.{least};
-ghost use Rattle.match_tree.specs.Routes.{rows_routes, row_routes, is_one_of, lacks};
+ghost use Rattle.match_tree.specs.Routes.{rows_routes, row_routes, lacks};
+ghost use Rattle.join_base.specs.Taken.{contains_number};
 ghost use Rattle.match_tree.specs.Rows.{rows_of};
 ghost use Rattle.match_tree.specs.Offers.{takers, may_take, growing, places, seen, new_matches};
 ghost use Rattle.match_tree.specs.Below.{AreOpen};
@@ -76,7 +77,7 @@ fn begin_row(
     ensures sound { IsSoundRow row.new.items }
     ensures free_left { AreOpen slots.now (row_routes pattern row.new.items) }
     ensures lasting { filter (lacks (offer.now.number ∷ [])) (row_routes pattern row.new.items) ≡ filter (lacks (offer.now.number ∷ [])) (row_routes pattern row.old.items) }
-    ensures begins { result ≡ true → Begins offer.now.number (filter (is_one_of begun.now) (pattern ∷ [])) (row_routes pattern row.old.items) (row_routes pattern row.new.items) }
+    ensures begins { result ≡ true → Begins offer.now.number (filter (contains_number begun.now) (pattern ∷ [])) (row_routes pattern row.old.items) (row_routes pattern row.new.items) }
     ensures counted { count.new + length (row_routes pattern row.old.items) ≡ count.old + length (row_routes pattern row.new.items) }
 {
     if !contains(begun, pattern) {
@@ -106,7 +107,7 @@ fn begin_rows(
     ensures sound { AreSound (rows_of rows.new) }
     ensures free_left { AreOpen slots.now (rows_routes 0 (rows_of rows.new)) }
     ensures lasting { filter (lacks (offer.now.number ∷ [])) (rows_routes 0 (rows_of rows.new)) ≡ filter (lacks (offer.now.number ∷ [])) (rows_routes 0 (rows_of rows.old)) }
-    ensures begins { result ≡ true → Begins offer.now.number (filter (is_one_of begun.now) (places 0 (rows_of rows.old))) (rows_routes 0 (rows_of rows.old)) (rows_routes 0 (rows_of rows.new)) }
+    ensures begins { result ≡ true → Begins offer.now.number (filter (contains_number begun.now) (places 0 (rows_of rows.old))) (rows_routes 0 (rows_of rows.old)) (rows_routes 0 (rows_of rows.new)) }
     ensures counted { count.new + length (rows_routes 0 (rows_of rows.old)) ≡ count.old + length (rows_routes 0 (rows_of rows.new)) }
 {
     let mut fits = true;

@@ -11,7 +11,7 @@ use Rattle.pattern_core.specs.Matches.{complete_matches, partial_count, partial_
 use Rattle.pattern_core.specs.Members.{IsIn}
 use Rattle.pattern_core.specs.Window.{SeesLatest}
 use Rattle.pattern_core.proofs.MembersLemmas.{IsIn-append_left, IsIn-append_right, IsIn-filter_from, IsIn-map}
-use Rattle.match_tree.specs.Routes.{is_one_of}
+use Rattle.join_base.specs.Taken.{contains_number as is_one_of}
 use Rattle.match_tree.specs.Offers.{Offered}
 use Rattle.match_tree.specs.Tree.{Tree, completions, empty_of, extensions, is_path_without, seen_paths}
 use Rattle.tree_law.specs.Partials.{AreLive, NoneWaits, left_of, letters_more, live_more, number_more, offer_more}

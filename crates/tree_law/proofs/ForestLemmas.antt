@@ -2,7 +2,7 @@
 use Rattle.std.proofs.Common.{◌≡◌, ◌∙◌, ℕ, ◌+◌, List, [], ◌∷◌, map, true, None, refl}
 use Rattle.join_base.specs.declared.message.Message.{Message}
 use Rattle.pattern_core.specs.declared.definition.Definition.{Definition}
-use Rattle.match_tree.specs.Routes.{is_one_of}
+use Rattle.join_base.specs.Taken.{contains_number as is_one_of}
 use Rattle.match_tree.specs.Tree.{Tree}
 use Rattle.tree_law.specs.Partials.{AreLive, letters_more, number_more, live_more, left_of}
 use Rattle.tree_law.specs.Trees.{HoldAll, AreTreesOf, AreReservedFor, reserve_best, best_of, AreKept, AreSettled, fired_tree, cleared_tree}

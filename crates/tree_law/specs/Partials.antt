@@ -8,7 +8,7 @@ use Rattle.pattern_core.specs.Members.{IsIn}
 use Rattle.pattern_core.specs.Suits.{IsRecorded}
 use Rattle.pattern_core.specs.Window.{oldest_seen}
 use Rattle.std.specs.List.{filter}
-use Rattle.match_tree.specs.Routes.{is_one_of}
+use Rattle.join_base.specs.Taken.{contains_number as is_one_of}
 use Rattle.match_tree.specs.Offers.{Offered}
 use Rattle.match_tree.specs.Tree.{SameMembers}
 

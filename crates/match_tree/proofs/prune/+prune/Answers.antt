@@ -11,7 +11,8 @@ use Rattle.match_tree.specs.declared.node.Node.TheDeep.{size-Node}
 use Rattle.match_tree.specs.declared.node.Node.TheShapes.{weighed-Node-rows-at-1}
 use Rattle.match_tree.specs.declared.node.Node.TheView.{size}
 use Rattle.match_tree.specs.Smaller.{most_of_rows}
-use Rattle.match_tree.specs.Routes.{Route, Branch, row_routes, rows_routes, lacks, is_one_of}
+use Rattle.match_tree.specs.Routes.{Route, Branch, row_routes, rows_routes, lacks}
+use Rattle.join_base.specs.Taken.{contains_number}
 use Rattle.match_tree.specs.Rows.{rows_of}
 use Rattle.match_tree.specs.Order.{AreOrdered, IsOrderedNode, IsSoundRow, AreSound}
 use Rattle.match_tree.specs.Pruned.{AreShort, pruned, without_numbers}
@@ -107,7 +108,7 @@ prune_row-prune_nodes-requires t c =
     let keep = all_filtered IsOrderedNode _ row c.requires.sound.ordered in
     let short = all_filtered (λ (x : Branch). AreShort (a.levels - 1) x.routes) _ row (short_below a.levels 0 row c.requires.short) in
     let size_is = ap (most size-Node) is in
-    let smaller = most_filter size-Node (λ node. not (is_one_of a.numbers.now node.number)) row in (
+    let smaller = most_filter size-Node (λ node. not (contains_number a.numbers.now node.number)) row in (
       omega (arith, c.decreases),
       (omega (arith, c.requires.few, c.remove_numbers-gone.ensures.gone), (subst (λ (xs : List Branch). AllByRecursion IsOrderedNode xs) (sym is) keep, subst (λ (xs : List Branch). AllByRecursion (λ node. AreShort (a.levels - 1) node.routes) xs) (sym is) short)),
     )

@@ -1,33 +1,61 @@
 use Rattle.std.proofs.Common.{◌≡◌, ◌∙◌, ◌-◌, ◌∷◌, [], ℕ, List, None, replicate, length, ap, sym, subst, arith}
-use Rattle.std.specs.List.{filter, AllByRecursion}
+use Rattle.std.specs.declared.alloc.Global.{Global}
+use Rattle.std.specs.declared.collections.VecDeque.{VecDeque}
+use Rattle.std.proofs.lemmas.List.{nil_from_length}
+use Rattle.std.specs.List.{filter}
 use Rattle.guard_eval.specs.Meaning.{Assignment}
 use Rattle.match_tree.specs.Routes.{Route, rows_routes, lacks}
 use Rattle.match_tree.specs.Rows.{rows_of}
-use Rattle.match_tree.specs.Offers.{may_take, takers}
+use Rattle.match_tree.specs.Offers.{growing}
+use Rattle.match_tree.specs.Growth.{Grows}
 use Rattle.match_tree.specs.Below.{AreOpen}
-use Rattle.match_tree.specs.Offering.{offered, MayTry}
+use Rattle.match_tree.specs.Offering.{offered}
 use Rattle.match_tree.specs.Pruned.{AreShort}
 use Rattle.match_tree.specs.Tries.{tries_behind}
+use Rattle.match_tree.specs.declared.node.Node.{Node}
+use Rattle.match_tree.proofs.GrowLemmas.{grows_none}
 use Rattle.match_tree.proofs.LeadLemmas.{lead_lasts}
-use Rattle.match_tree.proofs.RootLemmas.{try_empty, takers_empty, tried_empty, open_short, of_kind}
+use Rattle.match_tree.proofs.RootLemmas.{alone_grows, open_short, root_free, root_takers, tried_empty}
 use Rattle.match_tree.proofs.ReserveLemmas.{reserve_counts}
 use Rattle.match_tree.proofs.reserve.visit_all.Goals as goal
 
-pub visit_rows-requires-clause-free : goal.visit_rows-requires-clause-free
-visit_rows-requires-clause-free g c =
+pub visit_path-requires-clause-free : goal.visit_path-requires-clause-free
+visit_path-requires-clause-free g c =
+    let o = offered c.args.offer.now in
+    let slots = c.new-slots.ensures ∙ ap (λ (n : ℕ). replicate n None) c.len-patterns.ensures.count in
+    root_free o c.new-slots.result c.of_kind-wanted.result slots c.of_kind-wanted.ensures
+
+pub visit_path-requires-clause-wanted : goal.visit_path-requires-clause-wanted
+visit_path-requires-clause-wanted g c =
+    let o = offered c.args.offer.now in
+    let slots = c.new-slots.ensures ∙ ap (λ (n : ℕ). replicate n None) c.len-patterns.ensures.count in
+    root_takers o c.new-slots.result c.of_kind-wanted.result slots c.of_kind-wanted.ensures
+
+pub returns-then-len-eq0-clause-grows : goal.returns-then-len-eq0-clause-grows
+returns-then-len-eq0-clause-grows g c =
     let a = c.args in
     let o = offered a.offer.now in
-    let kinds = a.offer.now.definition.now.patterns in
-    let slots : c.new-slots.result ≡ replicate (length kinds) None = c.new-slots.ensures ∙ ap (λ (n : ℕ). replicate n None) c.len-patterns.ensures.count in
-    subst (λ (s : Assignment). AllByRecursion (MayTry s) c.of_kind-wanted.result) (sym slots) (subst (λ (ps : List ℕ). AllByRecursion (MayTry (replicate (length kinds) None)) ps) (sym c.of_kind-wanted.ensures) (try_empty (of_kind o) kinds))
+    let slots : Assignment = replicate (length o.definition.patterns) None in
+    let none : rows_routes 0 (rows_of a.rows.now.items) ≡ [] = ap (λ (xs : List (VecDeque Node Global)). rows_routes 0 (rows_of xs)) (nil_from_length a.rows.now.items (omega (arith, c.len.ensures, c.if-len-eq0.true, a.rows.now.ok))) in
+    let alone = alone_grows o (sym c.len-patterns.ensures.count ∙ c.if-patterns-eq1.true) in
+    λ _. subst (λ (rs : List Route). Grows o slots (growing o slots) rs rs) (sym none) (subst (λ (ps : List ℕ). Grows o slots ps [] []) (sym alone) (grows_none o slots))
+
+pub returns-then-len-eq0-clause-stepped : goal.returns-then-len-eq0-clause-stepped
+returns-then-len-eq0-clause-stepped g c =
+    let wanted = ap (λ (ps : List ℕ). length ps) (c.of_kind-wanted.ensures ∙ tried_empty (offered c.args.offer.now)) in
+    omega (arith, c.visit_path.ensures.counted)
+
+pub visit_rows-requires-clause-free : goal.visit_rows-requires-clause-free
+visit_rows-requires-clause-free g c =
+    let o = offered c.args.offer.now in
+    let slots = c.new-slots.ensures ∙ ap (λ (n : ℕ). replicate n None) c.len-patterns.ensures.count in
+    root_free o c.new-slots.result c.of_kind-wanted.result slots c.of_kind-wanted.ensures
 
 pub visit_rows-requires-clause-wanted : goal.visit_rows-requires-clause-wanted
 visit_rows-requires-clause-wanted g c =
-    let a = c.args in
-    let o = offered a.offer.now in
-    let kinds = a.offer.now.definition.now.patterns in
-    let slots : c.new-slots.result ≡ replicate (length kinds) None = c.new-slots.ensures ∙ ap (λ (n : ℕ). replicate n None) c.len-patterns.ensures.count in
-    subst (λ (s : Assignment). filter (may_take o s) c.of_kind-wanted.result ≡ takers o s) (sym slots) (ap (filter (may_take o (replicate (length kinds) None))) c.of_kind-wanted.ensures ∙ takers_empty o)
+    let o = offered c.args.offer.now in
+    let slots = c.new-slots.ensures ∙ ap (λ (n : ℕ). replicate n None) c.len-patterns.ensures.count in
+    root_takers o c.new-slots.result c.of_kind-wanted.result slots c.of_kind-wanted.ensures
 
 pub remove_new-requires-clause-short : goal.remove_new-requires-clause-short
 remove_new-requires-clause-short g c =

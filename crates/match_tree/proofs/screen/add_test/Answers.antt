@@ -4,7 +4,7 @@ use Rattle.guard_eval.specs.Condition.{Condition}
 use Rattle.guard_eval.specs.Meaning.{is_decided}
 use Rattle.guard_eval.specs.Shape.{conjunct_condition}
 use Rattle.std.proofs.lemmas.Option.{IfSome_then}
-use Rattle.match_tree.specs.declared.bound.Same.{Same}
+use Rattle.guard_bound.specs.declared.same.Same.{Same}
 use Rattle.match_tree.specs.Offering.{offered}
 use Rattle.match_tree.proofs.ScreenLemmas.{bound_more, in_at, same_some}
 use Rattle.match_tree.proofs.screen.add_test.Goals as goal

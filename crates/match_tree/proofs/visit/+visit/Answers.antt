@@ -9,24 +9,24 @@ use Rattle.match_tree.specs.Growth.{Grows, Lasts}
 use Rattle.match_tree.specs.Begins.{AreLess}
 use Rattle.match_tree.specs.Tries.{tries_behind}
 use Rattle.pattern_core.specs.Choice.{least}
-use Rattle.match_tree.specs.Order.{IsOrderedNode, AreOrdered, IsSoundRow, AreSound}
+use Rattle.match_tree.specs.Order.{AreOrdered, IsSoundRow, AreSound}
 use Rattle.match_tree.specs.Rows.{rows_of}
-use Rattle.std.proofs.lemmas.List.{nil_from_length, take_all, take_at, append-nil, map-set, length-map, length-set, drop-set-lt}
+use Rattle.std.proofs.lemmas.List.{nil_from_length, take_all, take_at, append-nil, map-set, length-map, drop-set-lt}
 use Rattle.match_tree.proofs.GrowLemmas.{grows_none}
 use Rattle.match_tree.proofs.BeginLemmas.{grows_begun, no_value, no_ok}
 use Rattle.match_tree.proofs.RowsLemmas.{before_all, now_routes, now_all, numbers_below, sound_on, less_on, sound_all, lasts_on, lasts_all, lesser_none, best_on, grows_on, counts_rows_on, tries_rows_on, tries_rows_most, get_or-map, drop-map, most_map}
-use Rattle.match_tree.specs.Routes.{Route, Branch, node_routes, row_routes, rows_routes, with_number}
+use Rattle.match_tree.specs.Routes.{Route, Branch, row_routes, rows_routes, with_number}
 use Rattle.match_tree.specs.Below.{IsOpen, AreOpen}
 use Rattle.match_tree.proofs.LeadLemmas.{all_both}
 use Rattle.match_tree.proofs.PruneLemmas.{all_rows, all_rows_drop}
-use Rattle.match_tree.proofs.OpenLemmas.{open_below, open_now, open_node, open_on, open_all}
+use Rattle.match_tree.proofs.OpenLemmas.{open_below, open_now}
 use Rattle.match_tree.specs.Offering.{offered, CanOffer, MayTry, MayTake, LeadOn}
-use Rattle.match_tree.proofs.LeadLemmas.{lead_lasts, lead_node, lead_row, lead_below}
-use Rattle.match_tree.proofs.VisitLemmas.{Passed, passed_seen, stays_node, matches_node, quiet_row, quiet_least, quiet_grows, tries_further, all_take, nothing_here, nothing_grows}
-use Rattle.match_tree.proofs.WalkLemmas.{stays_sound, some_of, none_of, steps_behind, all_at, left_item, left_more, stopped, passed_on, left_set, counts_on, counts_all, tries_on, tries_most, found_first}
+use Rattle.match_tree.proofs.LeadLemmas.{lead_lasts, lead_row}
+use Rattle.match_tree.proofs.VisitLemmas.{passed_seen, stays_node, matches_node, quiet_row, quiet_least, quiet_grows, tries_further, all_take, nothing_here, nothing_grows}
+use Rattle.match_tree.proofs.WalkLemmas.{some_of, none_of, steps_behind, all_at, left_item, left_more, found_first}
 use Rattle.match_tree.specs.Screen.{Screens}
 use Rattle.match_tree.proofs.ScreenLemmas.{passed_worthless}
-use Rattle.match_tree.proofs.SkipLemmas.{Walked, walk_first, walk_lacking}
+use Rattle.match_tree.proofs.SkipLemmas.{Walked, go_on, reach, stop_at, walk_first, walk_lacking}
 use Rattle.match_tree.proofs.OrderLemmas.{rows_ordered_behind, rows_sound}
 use Rattle.match_tree.proofs.SlotsLemmas.{free_is_none}
 use Rattle.match_tree.proofs.TakeLemmas.{takers_further}
@@ -75,44 +75,29 @@ pub visit_nodes-is_worth-requires : goal.visit_nodes-is_worth-requires
 visit_nodes-is_worth-requires g t c =
     let a = c.args in
     let o = offered a.offer.now in
-    let i : ℕ = c.loop-place.place in
-    let d = c.index_mut-node.result.now in
-    let node : Branch = d in
-    let is : node ≡ get_or a.nodes.now.items i d = c.index_mut-node.ensures.value ∙ left_item c.loop-place.nodes.items a.nodes.now.items i d c.loop-place.invariant.left in
-    let within : i < length a.nodes.now.items = omega (arith, c.loop-place-test.true, c.len-in-loop-place.ensures, c.loop-place.invariant.long, c.loop-place.nodes.ok.0) in
-    let At : Branch → Type 0 = λ x. LeadOn o a.slots.now (node_routes a.pattern x) in
-    let leads = lead_below o a.slots.now a.pattern node (subst At (sym is) (lead_node o a.slots.now a.pattern a.nodes.now.items i d within c.requires.lead)) in
+    let at = reach c.requires.sound c.requires.lead c.requires.free_left c.loop-place.invariant (omega (arith, c.loop-place-test.true, c.len-in-loop-place.ensures, c.loop-place.nodes.ok.0)) c.index_mut-node.ensures.value in
     let Can : ℕ → Type 0 = λ n. CanOffer o (with_number a.slots.now a.pattern n) in
     let Is : List ℕ → Type 0 = λ ps. IfSome c.screen_of-screen.result (Screens o a.slots.now a.pattern ps) in
     record {
-      can = subst Can (sym c.number.ensures) leads.can;
-      free = free_is_none a.slots.now a.pattern leads.free;
+      can = subst Can (sym c.number.ensures) at.leads.can;
+      free = free_is_none a.slots.now a.pattern at.leads.free;
       screen = subst Is c.requires.wanted c.screen_of-screen.ensures;
     }
 
 pub visit_nodes-with-longer-requires : goal.visit_nodes-with-longer-requires
 visit_nodes-with-longer-requires g t c =
     let a = c.args in
-    let o = offered a.offer.now in
-    let i : ℕ = c.loop-place.place in
-    let within : i < length a.nodes.now.items = omega (arith, c.loop-place-test.true, c.len-in-loop-place.ensures, c.loop-place.invariant.long, c.loop-place.nodes.ok.0) in
-    let lead = lead_node o a.slots.now a.pattern a.nodes.now.items i c.index_mut-node.result.now within c.requires.lead in
-    free_is_none a.slots.now a.pattern (lead_below o a.slots.now a.pattern (get_or a.nodes.now.items i c.index_mut-node.result.now) lead).free
+    let at = reach c.requires.sound c.requires.lead c.requires.free_left c.loop-place.invariant (omega (arith, c.loop-place-test.true, c.len-in-loop-place.ensures, c.loop-place.nodes.ok.0)) c.index_mut-node.ensures.value in
+    free_is_none a.slots.now a.pattern at.leads.free
 
 pub visit_nodes-visit_node-requires : goal.visit_nodes-visit_node-requires
 visit_nodes-visit_node-requires g t c =
     let a = c.args in
     let o = offered a.offer.now in
-    let i : ℕ = c.loop-place.place in
-    let d = c.index_mut-node.result.now in
-    let node : Branch = d in
-    let is : node ≡ get_or a.nodes.now.items i d = c.index_mut-node.ensures.value ∙ left_item c.loop-place.nodes.items a.nodes.now.items i d c.loop-place.invariant.left in
-    let within : i < length a.nodes.now.items = omega (arith, c.loop-place-test.true, c.len-in-loop-place.ensures, c.loop-place.invariant.long, c.loop-place.nodes.ok.0) in
-    let At : Branch → Type 0 = λ x. LeadOn o a.slots.now (node_routes a.pattern x) in
-    let leads = lead_below o a.slots.now a.pattern node (subst At (sym is) (lead_node o a.slots.now a.pattern a.nodes.now.items i d within c.requires.lead)) in
+    let node : Branch = c.index_mut-node.result.now in
+    let at = reach c.requires.sound c.requires.lead c.requires.free_left c.loop-place.invariant (omega (arith, c.loop-place-test.true, c.len-in-loop-place.ensures, c.loop-place.nodes.ok.0)) c.index_mut-node.ensures.value in
     let longer : with_number a.slots.now a.pattern node.number ≡ c.with-longer.result = ap (with_number a.slots.now a.pattern) (sym c.number-then-is_worth.ensures) ∙ sym c.with-longer.ensures in
-    let takers_are = takers_further o a.slots.now a.pattern node.number leads.free in
-    let opened = subst (λ (x : Branch). AreOpen a.slots.now (node_routes a.pattern x)) (sym is) (open_node a.slots.now a.pattern a.nodes.now.items i d within c.requires.free_left) in
+    let takers_are = takers_further o a.slots.now a.pattern node.number at.leads.free in
     let Can : Assignment → Type 0 = λ s. CanOffer o s in
     let Free : Assignment → Type 0 = λ s. AllByRecursion (MayTry s) a.wanted.now in
     let Wanted : Assignment → Type 0 = λ s. filter (may_take o s) a.wanted.now ≡ takers o s in
@@ -122,16 +107,16 @@ visit_nodes-visit_node-requires g t c =
     (tries_further o a.slots.now a.pattern node.number (takers o a.slots.now) (all_take o a.slots.now (places 0 o.definition.patterns)))
     in
     λ κs h. (
-      omega (arith, c.decreases, at_most size-Node a.nodes.now.items i d within, ap size-Node is),
+      omega (arith, c.decreases, at_most size-Node a.nodes.now.items c.loop-place.place node at.before, ap size-Node at.is),
       (
         h,
         (
-          subst Can longer leads.can,
+          subst Can longer at.leads.can,
           (
             subst Free longer free,
             (
               subst Wanted longer (ap (filter (may_take o (with_number a.slots.now a.pattern node.number))) c.requires.wanted ∙ takers_are),
-              (subst IsOrderedNode (sym is) (all_at IsOrderedNode a.nodes.now.items i d within c.requires.sound.ordered), (subst Lead longer leads.lead, subst (λ (s : Assignment). AreOpen s node.routes) longer (open_below a.slots.now a.pattern node opened))),
+              (at.ordered, (subst Lead longer at.leads.lead, subst (λ (s : Assignment). AreOpen s node.routes) longer (open_below a.slots.now a.pattern node at.opened))),
             ),
           ),
         ),
@@ -185,71 +170,49 @@ pub visit_nodes-returns-in_err-found : goal.visit_nodes-returns-in_err-found
 visit_nodes-returns-in_err-found g t c =
     let a = c.args in
     let o = offered a.offer.now in
-    let i : ℕ = c.loop-place.place in
-    let d = c.index_mut-node.result.now in
-    let items = c.loop-place.nodes.items in
-    let node : Branch = d in
-    let is : node ≡ get_or a.nodes.now.items i d = c.index_mut-node.ensures.value ∙ left_item items a.nodes.now.items i d c.loop-place.invariant.left in
-    let within : i < length a.nodes.now.items = omega (arith, c.loop-place-test.true, c.len-in-loop-place.ensures, c.loop-place.invariant.long, c.loop-place.nodes.ok.0) in
-    let within' : i < length items = omega (arith, c.loop-place.invariant.long) in
-    let At : Branch → Type 0 = λ x. LeadOn o a.slots.now (node_routes a.pattern x) in
-    let leads = lead_below o a.slots.now a.pattern node (subst At (sym is) (lead_node o a.slots.now a.pattern a.nodes.now.items i d within c.requires.lead)) in
+    let node : Branch = c.index_mut-node.result.now in
     let now = c.visit_node.new.node in
+    let at = reach c.requires.sound c.requires.lead c.requires.free_left c.loop-place.invariant (omega (arith, c.loop-place-test.true, c.len-in-loop-place.ensures, c.loop-place.nodes.ok.0)) c.index_mut-node.ensures.value in
     let e = c.visit_node.ensures in
     let longer : with_number a.slots.now a.pattern node.number ≡ c.with-longer.result = ap (with_number a.slots.now a.pattern) (sym c.number-then-is_worth.ensures) ∙ sym c.with-longer.ensures in
-    let here = stays_node a.offer.now.number a.pattern node now leads.less e.number e.ordered e.lasting in
-    let stays = stopped o a.slots.now a.pattern a.nodes.now.items items i node now d within within' is c.loop-place.invariant.left c.requires.sound.ordered c.requires.lead c.loop-place.invariant.passed.stays here in
-    let opened = subst (λ (x : Branch). AreOpen a.slots.now (node_routes a.pattern x)) (sym is) (open_node a.slots.now a.pattern a.nodes.now.items i d within c.requires.free_left) in
-    let open_here = open_now a.slots.now a.pattern node now e.number opened (subst (λ (s : Assignment). AreOpen s now.routes) (sym longer) e.free_left) in
-    let opens = open_all a.slots.now a.pattern a.nodes.now.items items i now within' c.loop-place.invariant.left c.requires.free_left c.loop-place.invariant.opens open_here in
-    let stepped = steps_behind o a.slots.now c.with-longer.result a.pattern node a.wanted.now c.loop-place.steps c.visit_node.new.steps leads.free leads.below c.requires.wanted longer e.stepped in
-    let counts = counts_all o a.slots.now a.pattern a.nodes.now.items items i node now d within within' is c.loop-place.invariant.left in
+    let opens = open_now a.slots.now a.pattern node now e.number at.opened (subst (λ (s : Assignment). AreOpen s now.routes) (sym longer) e.free_left) in
+    let stepped = steps_behind o a.slots.now c.with-longer.result a.pattern node a.wanted.now c.loop-place.steps c.visit_node.new.steps at.leads.free at.leads.below c.requires.wanted longer e.stepped in
+    let left = stop_at now c.visit_node.new.count c.visit_node.new.steps c.requires.sound c.requires.lead c.requires.free_left c.loop-place.invariant at (stays_node o.number a.pattern node now at.leads.less e.number e.ordered e.lasting) opens e.counted stepped in
     record {
-      sound = stays_sound a.offer.now.number a.pattern a.nodes.now.items (set items i now) c.requires.sound stays;
-      free_left = opens;
-      numbers = stays.numbers;
-      lasting = stays.lasts;
+      sound = left.sound;
+      free_left = left.free_left;
+      numbers = left.numbers;
+      lasting = left.lasting;
       best = no_value (λ b. b ≡ least (new_matches o a.slots.now (seen o (row_routes a.pattern a.nodes.now.items)))) _ c.from_residual.result c.from_residual.ensures.1;
-      grows = no_value (λ b. b ≡ None → Grows o a.slots.now [] (row_routes a.pattern a.nodes.now.items) (row_routes a.pattern (set items i now))) _ c.from_residual.result c.from_residual.ensures.1;
-      counted = omega (arith, c.loop-place.invariant.counted, e.counted, counts.0, counts.1);
-      stepped = omega (arith, stepped, c.loop-place.invariant.stepped, tries_most o a.slots.now a.pattern a.nodes.now.items items i node d within is);
+      grows = no_value (λ b. b ≡ None → Grows o a.slots.now [] (row_routes a.pattern a.nodes.now.items) (row_routes a.pattern (set c.loop-place.nodes.items c.loop-place.place now))) _ c.from_residual.result c.from_residual.ensures.1;
+      counted = left.counted;
+      stepped = left.stepped;
     }
 
 pub visit_nodes-returns-then-is_some : goal.visit_nodes-returns-then-is_some
 visit_nodes-returns-then-is_some g t c =
     let a = c.args in
     let o = offered a.offer.now in
-    let i : ℕ = c.loop-place.place in
-    let d = c.index_mut-node.result.now in
-    let items = c.loop-place.nodes.items in
-    let node : Branch = d in
-    let is : node ≡ get_or a.nodes.now.items i d = c.index_mut-node.ensures.value ∙ left_item items a.nodes.now.items i d c.loop-place.invariant.left in
-    let within : i < length a.nodes.now.items = omega (arith, c.loop-place-test.true, c.len-in-loop-place.ensures, c.loop-place.invariant.long, c.loop-place.nodes.ok.0) in
-    let within' : i < length items = omega (arith, c.loop-place.invariant.long) in
-    let At : Branch → Type 0 = λ x. LeadOn o a.slots.now (node_routes a.pattern x) in
-    let leads = lead_below o a.slots.now a.pattern node (subst At (sym is) (lead_node o a.slots.now a.pattern a.nodes.now.items i d within c.requires.lead)) in
+    let node : Branch = c.index_mut-node.result.now in
     let now = c.visit_node.new.node in
+    let at = reach c.requires.sound c.requires.lead c.requires.free_left c.loop-place.invariant (omega (arith, c.loop-place-test.true, c.len-in-loop-place.ensures, c.loop-place.nodes.ok.0)) c.index_mut-node.ensures.value in
     let e = c.visit_node.ensures in
     let longer : with_number a.slots.now a.pattern node.number ≡ c.with-longer.result = ap (with_number a.slots.now a.pattern) (sym c.number-then-is_worth.ensures) ∙ sym c.with-longer.ensures in
-    let here = stays_node a.offer.now.number a.pattern node now leads.less e.number e.ordered e.lasting in
-    let stays = stopped o a.slots.now a.pattern a.nodes.now.items items i node now d within within' is c.loop-place.invariant.left c.requires.sound.ordered c.requires.lead c.loop-place.invariant.passed.stays here in
-    let opened = subst (λ (x : Branch). AreOpen a.slots.now (node_routes a.pattern x)) (sym is) (open_node a.slots.now a.pattern a.nodes.now.items i d within c.requires.free_left) in
-    let open_here = open_now a.slots.now a.pattern node now e.number opened (subst (λ (s : Assignment). AreOpen s now.routes) (sym longer) e.free_left) in
-    let opens = open_all a.slots.now a.pattern a.nodes.now.items items i now within' c.loop-place.invariant.left c.requires.free_left c.loop-place.invariant.opens open_here in
-    let stepped = steps_behind o a.slots.now c.with-longer.result a.pattern node a.wanted.now c.loop-place.steps c.visit_node.new.steps leads.free leads.below c.requires.wanted longer e.stepped in
+    let opens = open_now a.slots.now a.pattern node now e.number at.opened (subst (λ (s : Assignment). AreOpen s now.routes) (sym longer) e.free_left) in
+    let stepped = steps_behind o a.slots.now c.with-longer.result a.pattern node a.wanted.now c.loop-place.steps c.visit_node.new.steps at.leads.free at.leads.below c.requires.wanted longer e.stepped in
+    let left = stop_at now c.visit_node.new.count c.visit_node.new.steps c.requires.sound c.requires.lead c.requires.free_left c.loop-place.invariant at (stays_node o.number a.pattern node now at.leads.less e.number e.ordered e.lasting) opens e.counted stepped in
     let some = some_of c.in_ok-found.found (sym c.is_some.ensures ∙ c.if-is_some.true) in
     let seen_too = ap (nat_le a.offer.now.oldest) (sym c.number.ensures) ∙ c.is_worth.ensures.seen c.if-is_worth.true in
     let best = c.in_ok-found.ensures.best ∙ ap (λ (s : Assignment). least (new_matches o s ([] ∷ seen o node.routes))) (sym longer) ∙ ap least (sym (matches_node o a.slots.now a.pattern node seen_too)) in
-    let counts = counts_all o a.slots.now a.pattern a.nodes.now.items items i node now d within within' is c.loop-place.invariant.left in
     record {
-      sound = stays_sound a.offer.now.number a.pattern a.nodes.now.items (set items i now) c.requires.sound stays;
-      free_left = opens;
-      numbers = stays.numbers;
-      lasting = stays.lasts;
-      best = found_first o a.slots.now a.pattern a.nodes.now.items items i node d c.in_ok-found.found some.0 within is c.requires.sound c.requires.lead c.loop-place.invariant.passed some.1 best;
+      sound = left.sound;
+      free_left = left.free_left;
+      numbers = left.numbers;
+      lasting = left.lasting;
+      best = found_first o a.slots.now a.pattern a.nodes.now.items c.loop-place.nodes.items c.loop-place.place node node c.in_ok-found.found some.0 at.before at.is c.requires.sound c.requires.lead c.loop-place.invariant.passed some.1 best;
       grows = λ none. absurd (let e = sym some.1 ∙ none in cc);
-      counted = omega (arith, c.loop-place.invariant.counted, c.in_ok-found.ensures.counted, counts.0, counts.1);
-      stepped = omega (arith, stepped, c.loop-place.invariant.stepped, tries_most o a.slots.now a.pattern a.nodes.now.items items i node d within is);
+      counted = left.counted;
+      stepped = left.stepped;
     }
 
 pub visit_nodes-loop-place-preserved : goal.visit_nodes-loop-place-preserved
@@ -257,20 +220,14 @@ visit_nodes-loop-place-preserved g t c =
     let a = c.args in
     let o = offered a.offer.now in
     let i : ℕ = c.loop-place.place in
-    let d = c.index_mut-node.result.now in
-    let items = c.loop-place.nodes.items in
-    let node : Branch = d in
-    let is : node ≡ get_or a.nodes.now.items i d = c.index_mut-node.ensures.value ∙ left_item items a.nodes.now.items i d c.loop-place.invariant.left in
-    let within : i < length a.nodes.now.items = omega (arith, c.loop-place-test.true, c.len-in-loop-place.ensures, c.loop-place.invariant.long, c.loop-place.nodes.ok.0) in
-    let within' : i < length items = omega (arith, c.loop-place.invariant.long) in
-    let At : Branch → Type 0 = λ x. LeadOn o a.slots.now (node_routes a.pattern x) in
-    let leads = lead_below o a.slots.now a.pattern node (subst At (sym is) (lead_node o a.slots.now a.pattern a.nodes.now.items i d within c.requires.lead)) in
-    let opened = subst (λ (x : Branch). AreOpen a.slots.now (node_routes a.pattern x)) (sym is) (open_node a.slots.now a.pattern a.nodes.now.items i d within c.requires.free_left) in
-    let items' : List Branch = c.if-is_worth.nodes.items in
+    let node : Branch = c.index_mut-node.result.now in
+    let at = reach c.requires.sound c.requires.lead c.requires.free_left c.loop-place.invariant (omega (arith, c.loop-place-test.true, c.len-in-loop-place.ensures, c.loop-place.nodes.ok.0)) c.index_mut-node.ensures.value in
+    let nodes : List Branch = c.if-is_worth.nodes.items in
     let Is : List ℕ → Type 0 = λ ps. IfSome c.screen_of-screen.result (Screens o a.slots.now a.pattern ps) in
     let screens = subst Is c.requires.wanted c.screen_of-screen.ensures in
     let f = c.next_place-place-in-loop-place.ensures in
-    let walked : Walked o a.slots.now a.pattern a.nodes.now.items items' a.count.now c.if-is_worth.count a.steps.now c.if-is_worth.steps (i + 1) = elim c.if-is_worth.branch [
+    let Walks : List Branch → Type 0 = λ xs. Walked o a.slots.now a.pattern a.nodes.now.items xs a.count.now c.if-is_worth.count a.steps.now c.if-is_worth.steps (i + 1) in
+    let walked : Walks nodes = elim c.if-is_worth.branch [
       | visit_nodes-then-is_worth+in_ok-found+else-is_some w ↦
           let now = w.visit_node.new.node in
           let e = w.in_ok-found.ensures in
@@ -279,42 +236,17 @@ visit_nodes-loop-place-preserved g t c =
           let seen_too = ap (nat_le a.offer.now.oldest) (sym c.number.ensures) ∙ c.is_worth.ensures.seen w.if-is_worth.true in
           let grown = subst (λ (s : Assignment). Grows o s (growing o s) node.routes now.routes) (sym longer) (e.grows none) in
           let no_match = ap (λ (s : Assignment). least (new_matches o s ([] ∷ seen o node.routes))) longer ∙ sym e.best ∙ none in
-          let here = passed_seen o a.slots.now a.pattern node now seen_too leads.less e.number e.ordered e.lasting grown no_match in
-          let nodes_is = ap (λ (v : VecDeque Branch Global). v.items) w.nodes-is in
-          let counts = counts_on o a.slots.now a.pattern a.nodes.now.items items i node now d within within' is in
-          let stepped = steps_behind o a.slots.now w.with-longer.result a.pattern node a.wanted.now c.loop-place.steps w.visit_node.new.steps leads.free leads.below c.requires.wanted longer e.stepped in
-          let tried_on = tries_on o a.slots.now a.pattern a.nodes.now.items items i node d within is in
-          let Later : List Branch → Type 0 = λ xs. Passed o a.slots.now a.pattern (take (i + 1) a.nodes.now.items) (take (i + 1) xs) in
-          let count_of = ap (λ (xs : List Branch). length (row_routes a.pattern (take (i + 1) xs))) nodes_is in
-          record {
-            passed = subst Later (sym nodes_is) (passed_on o a.slots.now a.pattern a.nodes.now.items items i node now d within within' is c.loop-place.invariant.passed here);
-            opens = subst (λ (xs : List Branch). AreOpen a.slots.now (row_routes a.pattern (take (i + 1) xs))) (sym nodes_is) (open_on a.slots.now a.pattern items i now within' c.loop-place.invariant.opens (open_now a.slots.now a.pattern node now e.number opened (subst (λ (s : Assignment). AreOpen s now.routes) (sym longer) e.free_left)));
-            left = ap (drop (i + 1)) nodes_is ∙ left_set o a.slots.now a.pattern a.nodes.now.items items i now c.loop-place.invariant.left;
-            counted = omega (arith, c.loop-place.invariant.counted, e.counted, counts.0, counts.1, w.count-is, count_of);
-            long = ap (λ (xs : List Branch). length xs) nodes_is ∙ length-set items i now ∙ c.loop-place.invariant.long;
-            stepped = omega (arith, c.loop-place.invariant.stepped, stepped, tried_on, w.steps-is);
-          }
+          let here = passed_seen o a.slots.now a.pattern node now seen_too at.leads.less e.number e.ordered e.lasting grown no_match in
+          let opens = open_now a.slots.now a.pattern node now e.number at.opened (subst (λ (s : Assignment). AreOpen s now.routes) (sym longer) e.free_left) in
+          let stepped = steps_behind o a.slots.now w.with-longer.result a.pattern node a.wanted.now c.loop-place.steps w.visit_node.new.steps at.leads.free at.leads.below c.requires.wanted longer e.stepped in
+          subst Walks (sym (ap (λ (v : VecDeque Branch Global). v.items) w.nodes-is)) (go_on now c.if-is_worth.count c.if-is_worth.steps c.loop-place.invariant at here opens (omega (arith, e.counted, w.count-is)) (omega (arith, stepped, w.steps-is)))
       | visit_nodes-else-is_worth w ↦
           let Worthless : ℕ → Type 0 = λ n. (nat_le o.oldest n ≡ false) ⊎ (takers o (with_number a.slots.now a.pattern n) ≡ []) in
           let worthless = subst Worthless c.number.ensures (c.is_worth.ensures.left_out w.if-is_worth.false) in
-          let lead = subst At (sym is) (lead_node o a.slots.now a.pattern a.nodes.now.items i d within c.requires.lead) in
-          let ordered = subst IsOrderedNode (sym is) (all_at IsOrderedNode a.nodes.now.items i d within c.requires.sound.ordered) in
-          let here = passed_worthless o a.slots.now a.pattern node worthless ordered lead in
-          let nodes_is = ap (λ (v : VecDeque Branch Global). v.items) w.nodes-is in
-          let counts = counts_on o a.slots.now a.pattern a.nodes.now.items items i node node d within within' is in
-          let tried_on = tries_on o a.slots.now a.pattern a.nodes.now.items items i node d within is in
-          let Later : List Branch → Type 0 = λ xs. Passed o a.slots.now a.pattern (take (i + 1) a.nodes.now.items) (take (i + 1) xs) in
-          let count_of = ap (λ (xs : List Branch). length (row_routes a.pattern (take (i + 1) xs))) nodes_is in
-          record {
-            passed = subst Later (sym nodes_is) (passed_on o a.slots.now a.pattern a.nodes.now.items items i node node d within within' is c.loop-place.invariant.passed here);
-            opens = subst (λ (xs : List Branch). AreOpen a.slots.now (row_routes a.pattern (take (i + 1) xs))) (sym nodes_is) (open_on a.slots.now a.pattern items i node within' c.loop-place.invariant.opens opened);
-            left = ap (drop (i + 1)) nodes_is ∙ left_set o a.slots.now a.pattern a.nodes.now.items items i node c.loop-place.invariant.left;
-            counted = omega (arith, c.loop-place.invariant.counted, counts.0, counts.1, w.count-is, count_of);
-            long = ap (λ (xs : List Branch). length xs) nodes_is ∙ length-set items i node ∙ c.loop-place.invariant.long;
-            stepped = omega (arith, c.loop-place.invariant.stepped, tried_on, w.steps-is);
-          }
+          let here = passed_worthless o a.slots.now a.pattern node worthless at.ordered at.lead in
+          subst Walks (sym (ap (λ (v : VecDeque Branch Global). v.items) w.nodes-is)) (go_on node c.if-is_worth.count c.if-is_worth.steps c.loop-place.invariant at here at.opened (omega (arith, w.count-is)) (omega (arith, w.steps-is)))
     ] in
-    walk_lacking o a.slots.now a.pattern a.nodes.now.items items' a.count.now c.if-is_worth.count a.steps.now c.if-is_worth.steps c.screen_of-screen.result c.key_of-key.result (i + 1) c.next_place-place-in-loop-place.result c.requires.sound c.requires.lead c.requires.free_left screens c.key_of-key.ensures
+    walk_lacking o a.slots.now a.pattern a.nodes.now.items nodes a.count.now c.if-is_worth.count a.steps.now c.if-is_worth.steps c.screen_of-screen.result c.key_of-key.result (i + 1) c.next_place-place-in-loop-place.result c.requires.sound c.requires.lead c.requires.free_left screens c.key_of-key.ensures
     f.from f.within f.lacking walked
 
 pub visit_each-best_match-best-requires-clause-may : goal.visit_each-best_match-best-requires-clause-may

@@ -4,7 +4,8 @@ use Rattle.std.specs.List.{filter, AllByRecursion}
 use Rattle.std.specs.declared.alloc.Global.{Global}
 use Rattle.std.proofs.lemmas.List.{nil_from_length, take_at, length-map}
 use Rattle.match_tree.specs.declared.node.Node.{Node}
-use Rattle.match_tree.specs.Routes.{Route, rows_routes, lacks, is_one_of}
+use Rattle.match_tree.specs.Routes.{Route, rows_routes, lacks}
+use Rattle.join_base.specs.Taken.{contains_number}
 use Rattle.match_tree.specs.Rows.{rows_of}
 use Rattle.match_tree.specs.Offers.{places, leaves_one_free, growing}
 use Rattle.match_tree.specs.Below.{AreOpen}
@@ -96,7 +97,7 @@ returns-in-Ok c =
       free_left = put (λ xs. AreOpen slots (routes xs)) b.free_left;
       lasting = both (λ xs ys. filter (lacks (n ∷ [])) ys ≡ filter (lacks (n ∷ [])) xs) b.lasting;
       begins = λ fits.
-          let here = subst (λ (ps : List ℕ). Begins n (filter (is_one_of ps) (places 0 (rows_of c.deref_mut.result.now))) (routes c.deref_mut.result.now) (routes after)) begun (b.begins fits) in
+          let here = subst (λ (ps : List ℕ). Begins n (filter (contains_number ps) (places 0 (rows_of c.deref_mut.result.now))) (routes c.deref_mut.result.now) (routes after)) begun (b.begins fits) in
           both (λ xs ys. Begins n (growing o slots) xs ys) (begins_in_rows o slots (rows_of c.deref_mut.result.now) (routes c.deref_mut.result.now) (routes after) enough here);
       counted = both (λ xs ys. c.begin_rows.new.count + length xs ≡ a.count.now + length ys) b.counted;
     }

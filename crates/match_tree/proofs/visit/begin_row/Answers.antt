@@ -1,6 +1,7 @@
 use Rattle.std.proofs.Common.{◌≡◌, ◌∙◌, ◌+◌, ◌++◌, ◌∷◌, [], ℕ, List, Bool, cond, ap, sym, subst, refl, arith, length}
 use Rattle.std.specs.List.{filter}
-use Rattle.match_tree.specs.Routes.{Route, Branch, row_routes, lacks, is_one_of}
+use Rattle.match_tree.specs.Routes.{Route, Branch, row_routes, lacks}
+use Rattle.join_base.specs.Taken.{contains_number}
 use Rattle.match_tree.specs.Below.{AreOpen}
 use Rattle.match_tree.specs.Offering.{offered}
 use Rattle.match_tree.specs.Order.{IsSoundRow}
@@ -30,9 +31,9 @@ returns-in-Ok c =
     let at : (P : List Branch → Type 0) → P (row ++ leaf n ∷ []) → P c.push_leaf.new.row.items = λ P p. subst P (sym e.ok) p in
     record {
       sound = at (λ xs. IsSoundRow xs) (push_sound n row c.requires.sound c.requires.less);
-      free_left = at (λ xs. AreOpen a.slots.now (row_routes q xs)) (open_push o a.slots.now q row c.requires.can (ap (λ (ps : List ℕ). is_one_of ps q) (sym c.requires.begun) ∙ contained) c.requires.free_left);
+      free_left = at (λ xs. AreOpen a.slots.now (row_routes q xs)) (open_push o a.slots.now q row c.requires.can (ap (λ (ps : List ℕ). contains_number ps q) (sym c.requires.begun) ∙ contained) c.requires.free_left);
       lasting = at (λ xs. filter (lacks (n ∷ [])) (row_routes q xs) ≡ filter (lacks (n ∷ [])) (row_routes q row)) (push_same n q row);
-      begins = λ _. at (λ xs. Begins n (filter (is_one_of a.begun.now) (q ∷ [])) (row_routes q row) (row_routes q xs)) (subst begins (sym contained) (push_begins n q row));
+      begins = λ _. at (λ xs. Begins n (filter (contains_number a.begun.now) (q ∷ [])) (row_routes q row) (row_routes q xs)) (subst begins (sym contained) (push_begins n q row));
       counted = at (λ xs. c.push_leaf.new.count + length (row_routes q row) ≡ a.count.now + length (row_routes q xs)) (omega (arith, e.counted, push_count n q row));
     }
 

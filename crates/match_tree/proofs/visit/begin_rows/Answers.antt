@@ -5,7 +5,8 @@ use Rattle.std.specs.declared.alloc.Global.{Global}
 use Rattle.std.proofs.lemmas.List.{take_all, map-set, length-map, drop-set-lt}
 use Rattle.std.proofs.lemmas.Bool.{and_parts}
 use Rattle.match_tree.specs.declared.node.Node.{Node}
-use Rattle.match_tree.specs.Routes.{Branch, row_routes, rows_routes, lacks, is_one_of}
+use Rattle.match_tree.specs.Routes.{Branch, row_routes, rows_routes, lacks}
+use Rattle.join_base.specs.Taken.{contains_number}
 use Rattle.match_tree.specs.Rows.{rows_of}
 use Rattle.match_tree.specs.Offers.{places}
 use Rattle.match_tree.specs.Below.{IsOpen, AreOpen}
@@ -71,7 +72,7 @@ loop-place-preserved c =
       left = drop-set-lt (i + 1) items i now (omega arith) ∙ left_more items first i c.loop-place.invariant.left;
       begins = λ fits.
           let both = and_parts c.loop-place.fits c.begin_row-fits.result fits in
-          at (λ xs. Begins n (filter (is_one_of a.begun.now) (places 0 old)) (rows_routes 0 old) (rows_routes 0 (take (i + 1) xs)))
+          at (λ xs. Begins n (filter (contains_number a.begun.now) (places 0 old)) (rows_routes 0 old) (rows_routes 0 (take (i + 1) xs)))
           (begins_on B R i row now.items d.items in_rows in_items is n a.begun.now (c.loop-place.invariant.begins both.0) (e.begins both.1));
       counted = omega (arith, c.loop-place.invariant.counted, e.counted, counts.0, counts.1, count_of);
     }
@@ -92,6 +93,6 @@ returns c =
       sound = subst AreSound all' inv.sound;
       free_left = subst (λ (xs : List (List Branch)). AreOpen a.slots.now (rows_routes 0 xs)) all' inv.opens;
       lasting = both (λ xs ys. filter (lacks (n ∷ [])) (rows_routes 0 ys) ≡ filter (lacks (n ∷ [])) (rows_routes 0 xs)) inv.lasts;
-      begins = λ fits. both (λ xs ys. Begins n (filter (is_one_of a.begun.now) (places 0 xs)) (rows_routes 0 xs) (rows_routes 0 ys)) (inv.begins fits);
+      begins = λ fits. both (λ xs ys. Begins n (filter (contains_number a.begun.now) (places 0 xs)) (rows_routes 0 xs) (rows_routes 0 ys)) (inv.begins fits);
       counted = both (λ xs ys. c.loop-place.count + length (rows_routes 0 xs) ≡ a.count.now + length (rows_routes 0 ys)) inv.counted;
     }

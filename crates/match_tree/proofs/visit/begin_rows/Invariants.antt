@@ -1,6 +1,7 @@
 use Rattle.std.proofs.Common.{◌≡◌, ◌+◌, ◌∷◌, [], true, length, take, drop}
 use Rattle.std.specs.List.{filter}
-use Rattle.match_tree.specs.Routes.{rows_routes, lacks, is_one_of}
+use Rattle.match_tree.specs.Routes.{rows_routes, lacks}
+use Rattle.join_base.specs.Taken.{contains_number}
 use Rattle.match_tree.specs.Rows.{rows_of}
 use Rattle.match_tree.specs.Offers.{places}
 use Rattle.match_tree.specs.Below.{AreOpen}
@@ -15,6 +16,6 @@ invariant-loop-place l = record {
   opens : AreOpen l.slots (rows_routes 0 (take l.place (rows_of l.rows)));
   lasts : filter (lacks (l.offer.number ∷ [])) (rows_routes 0 (take l.place (rows_of l.rows))) ≡ filter (lacks (l.offer.number ∷ [])) (rows_routes 0 (take l.place (rows_of l.initial.rows)));
   left : drop l.place l.rows ≡ drop l.place l.initial.rows;
-  begins : l.fits ≡ true → Begins l.offer.number (filter (is_one_of l.begun) (places 0 (take l.place (rows_of l.initial.rows)))) (rows_routes 0 (take l.place (rows_of l.initial.rows))) (rows_routes 0 (take l.place (rows_of l.rows)));
+  begins : l.fits ≡ true → Begins l.offer.number (filter (contains_number l.begun) (places 0 (take l.place (rows_of l.initial.rows)))) (rows_routes 0 (take l.place (rows_of l.initial.rows))) (rows_routes 0 (take l.place (rows_of l.rows)));
   counted : l.count + length (rows_routes 0 (take l.place (rows_of l.initial.rows))) ≡ l.initial.count + length (rows_routes 0 (take l.place (rows_of l.rows)));
 }

@@ -3,10 +3,10 @@ use Rattle.std.specs.Int.{w128}
 use Rattle.std.proofs.lemmas.Int.{ints}
 use Rattle.std.specs.Prelude.{ℤ}
 use Rattle.join_base.specs.declared.message.Relation.{Relation}
-use Rattle.match_tree.specs.Bound.{BoundsSplits}
-use Rattle.match_tree.specs.declared.bound.Bound.{Bound}
-use Rattle.match_tree.proofs.BoundLemmas.{plus_leaf, minus_leaf}
-use Rattle.match_tree.proofs.bound.bound_beside.Goals as goal
+use Rattle.guard_bound.specs.Bound.{BoundsSplits}
+use Rattle.guard_bound.specs.declared.bound.Bound.{Bound}
+use Rattle.guard_bound.proofs.BoundLemmas.{plus_leaf, minus_leaf}
+use Rattle.guard_bound.proofs.bound.bound_beside.Goals as goal
 
 pub returns-then-own : goal.returns-then-own
 returns-then-own c =

@@ -1,10 +1,10 @@
 use Rattle.std.proofs.Common.{subst}
 use Rattle.std.proofs.lemmas.Option.{IfSome_then}
 use Rattle.join_base.specs.declared.message.Relation.{Relation}
-use Rattle.match_tree.specs.Bound.{BoundsSplits}
-use Rattle.match_tree.specs.declared.bound.Bound.{Bound}
-use Rattle.match_tree.proofs.BoundLemmas.{other_side}
-use Rattle.match_tree.proofs.bound.solved.Goals as goal
+use Rattle.guard_bound.specs.Bound.{BoundsSplits}
+use Rattle.guard_bound.specs.declared.bound.Bound.{Bound}
+use Rattle.guard_bound.proofs.BoundLemmas.{other_side}
+use Rattle.guard_bound.proofs.bound.solved.Goals as goal
 
 pub returns-in-None-Some : goal.returns-in-None-Some
 returns-in-None-Some c =

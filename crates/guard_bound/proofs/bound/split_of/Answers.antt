@@ -2,9 +2,8 @@ use Rattle.std.proofs.Common.{◌+◌, ℕ, List, false, pos, arith, drop, get_o
 use Rattle.std.proofs.lemmas.List.{drop_more, drop_all}
 use Rattle.guard_eval.specs.declared.term.Signed.{Signed}
 use Rattle.guard_eval.specs.declared.term.Leaf.TheVariants.{Number}
-use Rattle.match_tree.specs.Offering.{offered}
-use Rattle.match_tree.proofs.BoundLemmas.{leaves_less, leaves_none}
-use Rattle.match_tree.proofs.bound.split_of.Goals as goal
+use Rattle.guard_bound.proofs.BoundLemmas.{leaves_less, leaves_none}
+use Rattle.guard_bound.proofs.bound.split_of.Goals as goal
 
 pub loop-signed-preserved : goal.loop-signed-preserved
 loop-signed-preserved c =
@@ -13,11 +12,11 @@ loop-signed-preserved c =
     let i : ℕ = c.loop-signed.signed-index in
     let d : Signed = record { minus = false; leaf = Number (pos 0) } in
     let split = drop_more xs i d c.loop-signed-test.true in
-    leaves_less (offered a.offer.now) a.pattern a.wanted a.term.now (drop i xs) (drop (i + 1) xs) (get_or xs i d) c.loop-signed.split c.in_ok-split.split split c.in_ok-split.ensures c.loop-signed.invariant
+    leaves_less a.letters.now a.known a.pattern a.wanted a.term.now (drop i xs) (drop (i + 1) xs) (get_or xs i d) c.loop-signed.split c.in_ok-split.split split c.in_ok-split.ensures c.loop-signed.invariant
 
 pub returns : goal.returns
 returns c =
     let a = c.args in
     let xs : List Signed = c.leaves-signed-items.result.now in
     let i : ℕ = c.loop-signed.signed-index in
-    leaves_none (offered a.offer.now) a.pattern a.wanted a.term.now (drop i xs) c.loop-signed.split (drop_all i xs (omega (arith, c.loop-signed-test.false))) c.loop-signed.invariant
+    leaves_none a.letters.now a.known a.pattern a.wanted a.term.now (drop i xs) c.loop-signed.split (drop_all i xs (omega (arith, c.loop-signed-test.false))) c.loop-signed.invariant

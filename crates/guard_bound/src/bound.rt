@@ -1,13 +1,11 @@
-//! What a conjunct says of the numbers of a row once the other number is known: how an integer field compares with a number.
+//! Comparisons of sums, solved for one integer field: how that field compares with a value.
 ghost use Rattle.std.specs.Prelude.{◌≡◌, ◌++◌, ◌∷◌, [], ◌<◌, length, IfSome, Some, None, neg_ℤ, ◌+ℤ◌, if◌then◌else◌};
 ghost use Rattle.std.specs.List.{list_all};
 ghost use Rattle.guard_eval.specs.Meaning.{int_relation};
 ghost use Rattle.guard_eval.specs.Shape.{conjunct_condition};
-ghost use Rattle.match_tree.specs.Offering.{offered};
-ghost use Rattle.match_tree.specs.Bound.{AddsLeaf, BoundsSplits, IsSplit, Says, SaysSame, are_same, int_at, is_same, meets, turned, words_at, words_operand};
+ghost use Rattle.guard_bound.specs.Bound.{AddsLeaf, BoundsSplits, IsSplit, Says, int_at, meets, turned};
 
-use crate::offer::Offer;
-use guard_eval::{Atom, Conjunct, Leaf, Operand, Place, Signed, Term, WordsLeaf};
+use guard_eval::{Atom, Conjunct, Leaf, Operand, Signed, Term};
 use join_base::{Message, Relation, Value};
 use std::marker::Model;
 
@@ -19,25 +17,18 @@ pub struct Bound {
     pub value: i128,
 }
 
-/// The one leaf of a sum that is a field of the row.
+/// The one leaf of a sum that is a field of the pattern.
 #[derive(Clone, Copy, PartialEq, Eq, Debug)]
 pub struct Own {
     pub field: u32,
     pub minus: bool,
 }
 
-/// A sum as that of its known leaves, and the row's leaf if it has one.
+/// A sum as that of its known leaves, and the pattern's leaf if it has one.
 #[derive(Clone, Copy, PartialEq, Eq, Debug)]
 pub struct Split {
     pub known: i128,
     pub own: Option<Own>,
-}
-
-/// A text field of a number's message is equal to a field of the offered number's.
-#[derive(Clone, Copy, PartialEq, Eq, Debug)]
-pub struct Same {
-    pub field: u32,
-    pub other: u32,
 }
 
 /// At most 4 bounds.
@@ -49,7 +40,7 @@ pub struct Bounds {
 
 impl Model for Bounds {
     ghost use Rattle.std.specs.Prelude.{List, take, ◌≤◌};
-    ghost use Rattle.match_tree.specs.declared.bound.Bound.{Bound as OneBound};
+    ghost use Rattle.guard_bound.specs.declared.bound.Bound.{Bound as OneBound};
 
     ghost Value = { List OneBound };
 
@@ -155,21 +146,22 @@ fn with_known(split: Split, minus: bool, value: i64) -> Option<Split>
     })
 }
 
-// The split with a leaf more, where at most one is the row's and the others are known.
+// The split with a leaf more, where at most one is the pattern's and the others are known.
 fn with_leaf(
-    offer: &Offer<'_>,
+    letters: &[Message],
+    known: u32,
     pattern: u32,
     wanted: u32,
     split: Split,
     signed: Signed,
 ) -> Option<Split>
-    ensures { IfSome result (AddsLeaf (offered offer.now) pattern wanted split signed) }
+    ensures { IfSome result (AddsLeaf letters.now known pattern wanted split signed) }
 {
     match signed.leaf {
         Leaf::Number(value) => with_known(split, signed.minus, value),
         Leaf::Field(place) => {
             if place.pattern == wanted {
-                let value = int_at(offer.letters, offer.number, place.field);
+                let value = int_at(letters, known, place.field);
                 return with_known(split, signed.minus, value);
             }
             if place.pattern != pattern || split.own.is_some() {
@@ -186,21 +178,27 @@ fn with_leaf(
     }
 }
 
-// The known leaves of a sum and the row's, where it has no others.
-fn split_of(offer: &Offer<'_>, pattern: u32, wanted: u32, term: &Term) -> Option<Split>
-    ensures { IfSome result (IsSplit (offered offer.now) pattern wanted term.now) }
+// The known leaves of a sum and the pattern's, where it has no others.
+fn split_of(
+    letters: &[Message],
+    known: u32,
+    pattern: u32,
+    wanted: u32,
+    term: &Term,
+) -> Option<Split>
+    ensures { IfSome result (IsSplit letters.now known pattern wanted term.now) }
 {
     let mut split = Split {
         known: 0,
         own: None,
     };
     for signed in term.leaves() {
-        split = with_leaf(offer, pattern, wanted, split, *signed)?;
+        split = with_leaf(letters, known, pattern, wanted, split, *signed)?;
     }
     Some(split)
 }
 
-// How the row's field compares, where the sum that has its leaf stands so to the other one.
+// How the pattern's field compares, where the sum that has its leaf stands so to the other one.
 fn bound_beside(own: Own, left: Split, relation: Relation, right: Split) -> Option<Bound>
     requires has { left.own ≡ Some own }
     requires lacks { right.own ≡ None }
@@ -222,7 +220,7 @@ fn bound_beside(own: Own, left: Split, relation: Relation, right: Split) -> Opti
     })
 }
 
-// How the row's field compares, where the one sum stands so to the other.
+// How the pattern's field compares, where the one sum stands so to the other.
 fn solved(left: Split, relation: Relation, right: Split) -> Option<Bound>
     ensures { IfSome result (BoundsSplits left relation right) }
 {
@@ -233,10 +231,17 @@ fn solved(left: Split, relation: Relation, right: Split) -> Option<Bound>
     }
 }
 
-/// How a field of the row's numbers compares by the conjunct, where that compares sums of integers, and of these one is a field of the
-/// row and the others are known.
-pub fn bound_of(offer: &Offer<'_>, pattern: u32, wanted: u32, conjunct: &Conjunct) -> Option<Bound>
-    ensures { IfSome result (Says (offered offer.now) pattern wanted (conjunct_condition conjunct.now)) }
+/// How a field of the pattern's message compares by the conjunct, where that compares sums of integers, and of these one is a
+/// field of the pattern and the others are constants or fields of the wanted pattern, which has the known number. No bound where
+/// the conjunct is any other, or a sum leaves 128 bits.
+pub fn bound_of(
+    letters: &[Message],
+    known: u32,
+    pattern: u32,
+    wanted: u32,
+    conjunct: &Conjunct,
+) -> Option<Bound>
+    ensures { IfSome result (Says letters.now known pattern wanted (conjunct_condition conjunct.now)) }
 {
     match conjunct.atoms.as_slice() {
         [
@@ -246,86 +251,11 @@ pub fn bound_of(offer: &Offer<'_>, pattern: u32, wanted: u32, conjunct: &Conjunc
                 right: Operand::Sum(right),
             },
         ] => {
-            let left = split_of(offer, pattern, wanted, left)?;
-            let right = split_of(offer, pattern, wanted, right)?;
+            let left = split_of(letters, known, pattern, wanted, left)?;
+            let right = split_of(letters, known, pattern, wanted, right)?;
             solved(left, *relation, right)
         }
         _ => None,
-    }
-}
-
-// The text at a field of a recorded message, and the empty one where there is none.
-fn words_at(letters: &[Message], number: u32, field: u32) -> &[u8]
-    ensures { result.now ≡ words_at letters.now number field }
-{
-    let Some(place) = number.checked_sub(1) else {
-        return &[];
-    };
-    let Some(message) = letters.get(place as usize) else {
-        return &[];
-    };
-    match message.fields.as_slice().get(field as usize) {
-        Some(Value::Words(text)) => text.bytes(),
-        _ => &[],
-    }
-}
-
-// The field that an operand is, where it is a text field.
-fn words_field(operand: &Operand) -> Option<Place>
-    ensures { IfSome result (λ place. operand.now ≡ words_operand place) }
-{
-    match operand {
-        Operand::Words(WordsLeaf::Field(place)) => Some(*place),
-        _ => None,
-    }
-}
-
-// The two text fields that a conjunct says are equal, where it says nothing else.
-fn equal_words(conjunct: &Conjunct) -> Option<(Place, Place)>
-    ensures { IfSome result (λ fields. conjunct_condition conjunct.now ≡ are_same fields.0 fields.1) }
-{
-    match conjunct.atoms.as_slice() {
-        [
-            Atom::Compare {
-                left,
-                relation: Relation::Equal,
-                right,
-            },
-        ] => Some((words_field(left)?, words_field(right)?)),
-        _ => None,
-    }
-}
-
-/// The text fields of the row and of the offered number that a conjunct says are equal.
-pub fn same_of(pattern: u32, wanted: u32, conjunct: &Conjunct) -> Option<Same>
-    ensures { IfSome result (SaysSame pattern wanted (conjunct_condition conjunct.now)) }
-{
-    let (first, second) = equal_words(conjunct)?;
-    if first.pattern == pattern && second.pattern == wanted {
-        return Some(Same {
-            field: first.field,
-            other: second.field,
-        });
-    }
-    if second.pattern == pattern && first.pattern == wanted {
-        return Some(Same {
-            field: second.field,
-            other: first.field,
-        });
-    }
-    None
-}
-
-/// Whether the number's text is that of the offered number.
-pub fn is_same(offer: &Offer<'_>, same: Option<Same>, number: u32) -> bool
-    ensures { result ≡ is_same (offered offer.now) same number }
-{
-    match same {
-        None => true,
-        Some(same) => {
-            words_at(offer.letters, number, same.field)
-                == words_at(offer.letters, offer.number, same.other)
-        }
     }
 }
 

@@ -1,7 +1,7 @@
 use Rattle.std.proofs.Common.{◌≡◌, drop}
 use Rattle.std.specs.List.{list_all}
-use Rattle.match_tree.specs.Bound.{meets}
-use Rattle.match_tree.proofs.bound.meets_all.Given as goal
+use Rattle.guard_bound.specs.Bound.{meets}
+use Rattle.guard_bound.proofs.bound.meets_all.Given as goal
 
 abbrev pub invariant-loop-bound : goal.invariant-loop-bound
 invariant-loop-bound l = list_all (λ bound. meets l.letters bound l.number) (drop l.bound-index l.bound-items) ≡ list_all (λ bound. meets l.letters bound l.number) l.bounds

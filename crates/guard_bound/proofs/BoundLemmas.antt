@@ -1,26 +1,20 @@
 -- Comparisons of sums as comparisons of one leaf.
-use Rattle.std.proofs.Common.{◌≡◌, ◌∙◌, ℕ, Bool, true, false, not, ◌||◌, inl, inr, List, [], ◌∷◌, Some, None, pos, neg_ℤ, ◌+ℤ◌, refl, sym, ap, arith}
+use Rattle.std.proofs.Common.{◌≡◌, ◌∙◌, ℕ, Bool, true, false, not, List, [], ◌∷◌, Some, None, pos, neg_ℤ, ◌+ℤ◌, refl, sym, ap, arith}
 use Rattle.std.proofs.lemmas.Int.{ints}
 use Rattle.std.specs.Prelude.{ℤ, int_lt, int_le, if◌then◌else◌}
 use Rattle.std.specs.Ordering.{int_eq}
-use Rattle.std.specs.Str.{bytes_eq}
-use Rattle.std.proofs.lemmas.Slice.Eq.{bytes_eq-Decides}
-use Rattle.guard_eval.specs.declared.term.Place.{Place}
-use Rattle.guard_eval.specs.Condition.{Condition}
-use Rattle.match_tree.specs.declared.bound.Same.{Same}
 use Rattle.std.proofs.lemmas.Bool.Decides.{Decides-int_eq}
 use Rattle.join_base.specs.declared.message.Message.{Message}
 use Rattle.join_base.specs.declared.message.Relation.{Relation}
 use Rattle.join_base.specs.declared.message.Relation.TheVariants.{Equal, NotEqual, Less, LessEqual, Greater, GreaterEqual}
 use Rattle.guard_eval.specs.declared.term.Signed.{Signed}
-use Rattle.guard_eval.specs.Meaning.{Assignment, field_of, is_true, letter_of, number_at, words_of, int_relation, signed_value, term_value}
-use Rattle.match_tree.specs.Offers.{Offered}
-use Rattle.match_tree.specs.Bound.{AddsLeaf, BoundsSplits, IsPair, IsSplit, SaysSame, are_same, int_at, is_same, words_at, own_value, split_value, turned}
-use Rattle.match_tree.specs.declared.bound.Bound.{Bound}
-use Rattle.match_tree.specs.declared.bound.Own.{Own}
-use Rattle.match_tree.specs.declared.bound.Split.{Split}
+use Rattle.guard_eval.specs.Meaning.{Assignment, int_relation, signed_value, term_value}
+use Rattle.guard_bound.specs.Bound.{AddsLeaf, BoundsSplits, IsPair, IsSplit, int_at, own_value, split_value, turned}
+use Rattle.guard_bound.specs.declared.bound.Bound.{Bound}
+use Rattle.guard_bound.specs.declared.bound.Own.{Own}
+use Rattle.guard_bound.specs.declared.bound.Split.{Split}
 
-same_tests : (p q : Bool) → (p ≡ true → q ≡ true) → (q ≡ true → p ≡ true) → p ≡ q
+pub same_tests : (p q : Bool) → (p ≡ true → q ≡ true) → (q ≡ true → p ≡ true) → p ≡ q
 same_tests true true f g = refl
 same_tests false false f g = refl
 same_tests true false f g = sym (f refl)
@@ -92,46 +86,22 @@ pub other_side : (left right : Split) (r : Relation) (bound : Bound) → BoundsS
 other_side left right r bound h letters number = sym (turn r (split_value letters right number) (split_value letters left number)) ∙ h letters number
 
 -- what is left of a sum beside the split of the others
-abbrev pub Leaves : Offered → ℕ → ℕ → List Signed → List Signed → Split → Type 0
-Leaves o pattern wanted leaves left split =
-    (number : ℕ) (whole : Assignment) → IsPair o pattern wanted number whole → split_value o.letters split number +ℤ term_value o.letters whole left ≡ term_value o.letters whole leaves
+abbrev pub Leaves : List Message → ℕ → ℕ → ℕ → List Signed → List Signed → Split → Type 0
+Leaves letters known pattern wanted leaves left split =
+    (number : ℕ) (whole : Assignment) → IsPair known pattern wanted number whole → split_value letters split number +ℤ term_value letters whole left ≡ term_value letters whole leaves
 
-pub leaves_all : (o : Offered) (pattern wanted : ℕ) (leaves : List Signed) → Leaves o pattern wanted leaves leaves (record { known = pos 0; own = None })
-leaves_all o pattern wanted leaves number whole pair = omega (arith, ints)
+pub leaves_all : (letters : List Message) (known pattern wanted : ℕ) (leaves : List Signed) → Leaves letters known pattern wanted leaves leaves (record { known = pos 0; own = None })
+leaves_all letters known pattern wanted leaves number whole pair = omega (arith, ints)
 
-pub leaves_less : (o : Offered) (pattern wanted : ℕ) (leaves left more : List Signed) (x : Signed) (split longer : Split) → left ≡ x ∷ more → AddsLeaf o pattern wanted split x longer → Leaves o pattern wanted leaves left split → Leaves o pattern wanted leaves more longer
-leaves_less o pattern wanted leaves left more x split longer e adds before number whole pair =
+pub leaves_less : (letters : List Message) (known pattern wanted : ℕ) (leaves left more : List Signed) (x : Signed) (split longer : Split) → left ≡ x ∷ more → AddsLeaf letters known pattern wanted split x longer → Leaves letters known pattern wanted leaves left split → Leaves letters known pattern wanted leaves more longer
+leaves_less letters known pattern wanted leaves left more x split longer e adds before number whole pair =
     let one = adds number whole pair in
     let told = before number whole pair in
-    let rest : term_value o.letters whole left ≡ signed_value o.letters whole x +ℤ term_value o.letters whole more = ap (term_value o.letters whole) e in
+    let rest : term_value letters whole left ≡ signed_value letters whole x +ℤ term_value letters whole more = ap (term_value letters whole) e in
     omega (arith, ints)
 
-pub leaves_none : (o : Offered) (pattern wanted : ℕ) (leaves left : List Signed) (split : Split) → left ≡ [] → Leaves o pattern wanted leaves left split → IsSplit o pattern wanted leaves split
-leaves_none o pattern wanted leaves left split e before number whole pair =
+pub leaves_none : (letters : List Message) (known pattern wanted : ℕ) (leaves left : List Signed) (split : Split) → left ≡ [] → Leaves letters known pattern wanted leaves left split → IsSplit letters known pattern wanted leaves split
+leaves_none letters known pattern wanted leaves left split e before number whole pair =
     let told = before number whole pair in
-    let rest : term_value o.letters whole left ≡ pos 0 = ap (term_value o.letters whole) e in
+    let rest : term_value letters whole left ≡ pos 0 = ap (term_value letters whole) e in
     omega (arith, ints)
-
--- ---- texts
-
-or_false : (b : Bool) → (b || false) ≡ b
-or_false true = refl
-or_false false = refl
-
-bytes_turn : (xs ys : List ℕ) → bytes_eq xs ys ≡ bytes_eq ys xs
-bytes_turn xs ys =
-    same_tests (bytes_eq xs ys) (bytes_eq ys xs) (λ h. (bytes_eq-Decides ys xs).1 (sym ((bytes_eq-Decides xs ys).0 h))) (λ h. (bytes_eq-Decides xs ys).1 (sym ((bytes_eq-Decides ys xs).0 h)))
-
-equal_words : (letters : List Message) (whole : Assignment) (a b : Place) (m n : ℕ) → number_at whole a.pattern ≡ Some m → number_at whole b.pattern ≡ Some n → is_true letters whole (are_same a b) ≡ bytes_eq (words_at letters m a.field) (words_at letters n b.field)
-equal_words letters whole a b m n ea eb =
-    (λ i. bytes_eq (words_of (field_of (letter_of letters (ea i)) a.field)) (words_of (field_of (letter_of letters (eb i)) b.field)) || false) ∙ or_false (bytes_eq (words_at letters m a.field) (words_at letters n b.field))
-
-pub same_said : (o : Offered) (pattern wanted number : ℕ) (whole : Assignment) (conjunct : Condition) (same : Same) → SaysSame pattern wanted conjunct same → IsPair o pattern wanted number whole → is_true o.letters whole conjunct ≡ is_same o (Some same) number
-same_said o pattern wanted number whole conjunct same says pair =
-    let here : number_at whole says.here.pattern ≡ Some number = ap (number_at whole) says.of_pattern ∙ pair.here in
-    let there : number_at whole says.there.pattern ≡ Some o.number = ap (number_at whole) says.of_wanted ∙ pair.there in
-    let fields : bytes_eq (words_at o.letters number says.here.field) (words_at o.letters o.number says.there.field) ≡ is_same o (Some same) number = sym (λ i. bytes_eq (words_at o.letters number (says.field i)) (words_at o.letters o.number (says.other i))) in
-    elim says.said [
-      | inl e ↦ ap (is_true o.letters whole) e ∙ equal_words o.letters whole says.here says.there number o.number here there ∙ fields
-      | inr e ↦ ap (is_true o.letters whole) e ∙ equal_words o.letters whole says.there says.here o.number number there here ∙ bytes_turn (words_at o.letters o.number says.there.field) (words_at o.letters number says.here.field) ∙ fields
-    ]
