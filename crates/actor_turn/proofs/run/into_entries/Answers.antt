@@ -17,13 +17,13 @@ loop-message-preserved c =
     let ls : List Message = c.give_room_back.new.items.items in
     let ms : List Mark = c.give_room_back-in-Some.new.items.items in
     let fs : List (Option Firing) = c.give_room_back-in-Some-2.new.items.items in
-    let letters : c.loop-message.letters.items ≡ ls ++ message ∷ [] = c.in-Some.ensures.items ∙ ap (λ (xs : List Message). xs ++ message ∷ []) (sym c.give_room_back.ensures) in
+    let letters : c.loop-message.letters.items ≡ ls ++ message ∷ [] = c.in-Some.ensures.items ∙ ap (λ (xs : List Message). xs ++ message ∷ []) (sym c.give_room_back.ensures.same) in
     let marks : c.loop-message.marks.items ≡ ms ++ mark ∷ []
-    = c.pop-in-Some.ensures.items ∙ ap (λ (r : Option Mark). c.pop-in-Some.new.self.items ++ option_to_list r) c.unwrap-mark.ensures ∙ ap (λ (xs : List Mark). xs ++ mark ∷ []) (sym c.give_room_back-in-Some.ensures) in
+    = c.pop-in-Some.ensures.items ∙ ap (λ (r : Option Mark). c.pop-in-Some.new.self.items ++ option_to_list r) c.unwrap-mark.ensures ∙ ap (λ (xs : List Mark). xs ++ mark ∷ []) (sym c.give_room_back-in-Some.ensures.same) in
     let firings : c.loop-message.firings.items ≡ fs ++ firing ∷ []
-    = c.pop-in-Some-2.ensures.items ∙ ap (λ (r : Option (Option Firing)). c.pop-in-Some-2.new.self.items ++ option_to_list r) c.unwrap-firing.ensures ∙ ap (λ (xs : List (Option Firing)). xs ++ firing ∷ []) (sym c.give_room_back-in-Some-2.ensures) in
+    = c.pop-in-Some-2.ensures.items ∙ ap (λ (r : Option (Option Firing)). c.pop-in-Some-2.new.self.items ++ option_to_list r) c.unwrap-firing.ensures ∙ ap (λ (xs : List (Option Firing)). xs ++ firing ∷ []) (sym c.give_room_back-in-Some-2.ensures.same) in
     let entries : c.push.new.self.items ≡ c.loop-message.entries.items ++ entry ∷ [] = rw (c.push.ensures.items, c.unwrap.ensures) refl in
-    let count : c.len.result ≡ length ls = c.len.ensures ∙ c.pop.new.self.ok.0 ∙ ap length (sym c.give_room_back.ensures) in
+    let count : c.len.result ≡ length ls = c.len.ensures ∙ c.pop.new.self.ok.0 ∙ ap length (sym c.give_room_back.ensures.same) in
     let a = ap length letters ∙ length-append ls (message ∷ []) in
     let b = ap length marks ∙ length-append ms (mark ∷ []) in
     let d = ap length firings ∙ length-append fs (firing ∷ []) in
