@@ -327,11 +327,16 @@ impl Actor {
         let partials = self.partials();
         let Actor {
             mail,
+            trees,
             firings,
             ending,
+            outboxes,
             entries,
             ..
         } = self;
+        // The entries need memory next.
+        drop(trees);
+        drop(outboxes);
         let parts = mail.into_parts();
         ActorRun {
             entries: into_entries(parts.letters, parts.marks, firings, entries),

@@ -11,6 +11,7 @@ mod fit;
 mod opening;
 mod outbox;
 mod refused;
+mod room;
 mod run;
 mod sent;
 mod step;
@@ -18,6 +19,7 @@ mod texts;
 
 pub use actor::Actor;
 pub use refused::Refused;
+pub use room::give_room_back;
 
 #[cfg(test)]
 mod tests;

@@ -3,6 +3,7 @@ ghost use Rattle.std.specs.Prelude.{◌≡◌, ◌+◌, ◌≤◌, [], OnOk, len
 ghost use Rattle.mailbox_core.specs.Mail.{received_of};
 ghost use Rattle.actor_turn.specs.Parts.{entries_of};
 
+use crate::room::give_room_back;
 use fair_semantics::{Entry, Firing};
 use join_base::{Items, Message, NoMemory};
 use mailbox_core::Mark;
@@ -32,7 +33,8 @@ pub fn reserve_entry(
     Ok(())
 }
 
-/// The entries of letters, their marks and what they fired, put into the room that was made for them. It takes no memory.
+/// The entries of letters, their marks and what they fired, put into the room that was made for them. It takes no memory, and
+/// gives back the room of the three lists as they grow shorter.
 pub fn into_entries(
     letters: Items<Message>,
     marks: Items<Mark>,
@@ -63,7 +65,11 @@ pub fn into_entries(
             firing,
         };
         entries.push(entry).unwrap();
+        give_room_back(&mut letters);
+        give_room_back(&mut marks);
+        give_room_back(&mut firings);
     }
     entries.reverse();
+    entries.shrink_to_fit();
     Items::from_vec(entries)
 }

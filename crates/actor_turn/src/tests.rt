@@ -3,7 +3,7 @@ ghost use Rattle.join_base.specs.Late.{HasCount};
 ghost use Rattle.join_base.specs.declared.message.Source.TheVariants as source;
 ghost use Rattle.script_types.specs.Typed.{IsTyped};
 
-use crate::Actor;
+use crate::{Actor, give_room_back};
 use fair_semantics::{Ending, Limits, Outcome};
 use join_base::{Fields, Items, Message, Name, Source, Steps};
 use script_types::{ActorPlan, Kind, Plan};
@@ -91,5 +91,20 @@ fn a_full_actor_is_spent(rt: HostRuntime) -> Result<(), Fail> {
     );
     assert_eq!(rt; arrivals, 2);
     assert_eq!(rt; ending, Ending::Spent);
+    Ok(())
+}
+
+// What is left of the room of a list with one item and room for so many.
+fn room_left(alloc: Global, room: usize) -> Result<(usize, usize), Fail> {
+    let mut items: Vec<u32> = Vec::with_capacity(alloc, room)?;
+    items.push(7)?;
+    give_room_back(&mut items);
+    Ok((items.len(), items.capacity()))
+}
+
+#[test]
+fn room_is_given_back(rt: HostRuntime) -> Result<(), Fail> {
+    assert_eq!(rt; room_left(rt.alloc(), 1025)?, (1, 1025));
+    assert_eq!(rt; room_left(rt.alloc(), 1026)?, (1, 1));
     Ok(())
 }

@@ -1,5 +1,5 @@
 -- A further message may be offered to each path of a tree that holds.
-use Rattle.std.proofs.Common.{inl, inr, ◌∙◌, ℕ, List, [], ◌∷◌, length, not, Option, Some, None, refl, ap, arith, length-append}
+use Rattle.std.proofs.Common.{◌∙◌, ℕ, List, [], ◌∷◌, length, not, Option, Some, None, ap, arith, length-append}
 use Rattle.std.specs.List.{AllByRecursion}
 use Rattle.join_base.specs.declared.message.Message.{Message}
 use Rattle.guard_eval.specs.Meaning.{Assignment}

@@ -61,7 +61,10 @@ pub fn best_of(trees: &[MatchTree]) -> Option<Candidate>
 {
     let mut best = None;
     for tree in trees {
-        best = better(best, tree.best_with());
+        let Some(found) = tree.best_with() else {
+            continue;
+        };
+        best = better(best, Some(found));
     }
     best
 }
