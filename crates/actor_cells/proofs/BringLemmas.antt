@@ -13,7 +13,7 @@ use Rattle.post_ring.specs.Looks.{IsTake, Returns, Takes}
 use Rattle.cell_links.specs.declared.ends.Inward.{Inward}
 use Rattle.actor_cells.specs.declared.cell.Cell.{Cell}
 use Rattle.actor_cells.specs.declared.cell.LinkTally.{LinkTally}
-use Rattle.actor_cells.specs.Lawful.{IsLawful, link_tally, state_in}
+use Rattle.actor_cells.specs.Lawful.{IsLawful, held_in, link_tally, state_in}
 use Rattle.actor_cells.specs.Served.{IsKept, IsRefusing}
 use Rattle.actor_cells.specs.Steps.{Brings, FindsNone, Refuses, changed_at, one_look, one_received}
 use Rattle.actor_cells.proofs.CellLemmas.{brought, known-here, looked}
@@ -50,16 +50,16 @@ get-set (v ∷ ws) zero w within = refl
 get-set (v ∷ ws) (suc k) w within = get-set ws k w (omega arith)
 
 module _ (c after : Cell) (k : ℕ) (w : Inward) (l : LinkOut) (lawful : IsLawful c) (within : k < length c.inward.items) (here : get_or c.inward.items k w ≡ w)
-    (inward : after.inward.items ≡ set c.inward.items k (record w { link = l })) (outward : after.outward.items ≡ c.outward.items) where
+    (inward : after.inward.items ≡ set c.inward.items k (record w { link = l })) (outward : after.outward.items ≡ c.outward.items) (before : Held) (was : before ≡ held_in c) where
   abbrev pub Found : Option Outcome → Type 0
-  Found found = MatchOption found (FindsNone c.actor after.actor w.link l) (λ outcome. Brings w.source c.actor after.actor w.link l)
+  Found found = MatchOption found (FindsNone before (held_in after) w.link l) (λ outcome. Brings w.source before (held_in after) w.link l)
 
-  pub kept : (result : Result (Option Outcome) NoMemory) → IfOk result Found → OnErr result (Refuses c.actor after.actor w.link l) → IsKept c after
-  kept (Ok (Some outcome)) found refused = brought c after k w l lawful within here inward outward found.identity found
-  kept (Ok None) found refused = looked c after k w l lawful within here inward outward found.identity found.same found.took
-  kept (Err e) found refused = looked c after k w l lawful within here inward outward refused.identity refused.same refused.took
+  pub kept : (result : Result (Option Outcome) NoMemory) → IfOk result Found → OnErr result (Refuses before (held_in after) w.link l) → IsKept c after
+  kept (Ok (Some outcome)) found refused = brought c after k w l lawful within here inward outward found.identity (subst (λ (h : Held). Brings w.source h (held_in after) w.link l) was found)
+  kept (Ok None) found refused = looked c after k w l lawful within here inward outward found.identity (found.same ∙ was) found.took
+  kept (Err e) found refused = looked c after k w l lawful within here inward outward refused.identity (refused.same ∙ was) refused.took
 
-  pub refusing : (result : Result (Option Outcome) NoMemory) → OnErr result (Refuses c.actor after.actor w.link l) → OnErr result (IsRefusing after)
+  pub refusing : (result : Result (Option Outcome) NoMemory) → OnErr result (Refuses before (held_in after) w.link l) → OnErr result (IsRefusing after)
   refusing (Ok found) refused = tt
   refusing (Err e) refused = record {
     place = k;

@@ -24,7 +24,7 @@ use Rattle.cell_links.specs.Ends.{inward_tag, outward_tag, sent_to, tags_of}
 use Rattle.cell_links.proofs.TagLemmas.{inward-set, outward-set}
 use Rattle.actor_cells.specs.declared.cell.Cell.{Cell}
 use Rattle.actor_cells.specs.declared.cell.CellTag.{CellTag}
-use Rattle.actor_cells.specs.Lawful.{AreDifferent, AreDistinct, IsAmong, IsLawful, IsTag, actors_in, cell_tag, entries_in, feeds_in, history_of, noted, received_from, state_in}
+use Rattle.actor_cells.specs.Lawful.{AreDifferent, AreDistinct, IsAmong, IsLawful, IsTag, actors_in, cell_tag, entries_in, feeds_in, held_in, history_of, noted, received_from, state_in}
 use Rattle.actor_cells.specs.Served.{IsKept}
 use Rattle.actor_cells.specs.Steps.{AreSmall, Brings, Moves}
 use Rattle.actor_cells.proofs.StateLemmas.{HaveStamps, NoOthers, Stands, grows, stamped, stands_more}
@@ -45,7 +45,7 @@ kept-trans a b c p q = record { lawful = q.lawful; tag = q.tag ∙ p.tag; histor
 
 -- ---- what lawfulness says of the state
 
-pub of-lawful : (c : Cell) → IsLawful c → Stands c.actor.setting (feeds_in c) (actors_in c) (received_from c.inward.items) (state_in c)
+pub of-lawful : (c : Cell) → IsLawful c → Stands (held_in c).setting (feeds_in c) (actors_in c) (received_from c.inward.items) (state_in c)
 of-lawful c lawful = record { in_order = lawful.in_order; late = lawful.late; fair = lawful.fair }
 
 -- what is posted by entries to a target has gone over the link, or waits
@@ -53,8 +53,8 @@ abbrev pub IsPosted : List Outward → List (List Stamped) → List Entry → �
 IsPosted outward outbox entries actors = (target : ℕ) → target < actors → sent_to outward target ++ posts_for outbox target ≡ flat_map (entry_posts target) entries
 
 -- a cell with the tag of another whose state stands
-pub to-lawful : (c after : Cell) → IsLawful c → after.actor.setting ≡ c.actor.setting → cell_tag after ≡ cell_tag c → length after.actor.outbox ≡ length c.actor.outbox
-    → Stands c.actor.setting (feeds_in c) (actors_in c) (received_from after.inward.items) (state_in after) → IsPosted after.outward.items after.actor.outbox (entries_in after) (actors_in c) → IsLawful after
+pub to-lawful : (c after : Cell) → IsLawful c → (held_in after).setting ≡ (held_in c).setting → cell_tag after ≡ cell_tag c → length (held_in after).outbox ≡ length (held_in c).outbox
+    → Stands (held_in c).setting (feeds_in c) (actors_in c) (received_from after.inward.items) (state_in after) → IsPosted after.outward.items (held_in after).outbox (entries_in after) (actors_in c) → IsLawful after
 to-lawful c after lawful setting tag boxes before posted =
     let feeds : feeds_in after ≡ feeds_in c = ap (λ (t : CellTag). t.feeds) tag in
     let actors : actors_in after ≡ actors_in c = ap (λ (t : CellTag). t.actors) tag in
@@ -107,7 +107,7 @@ module _ (c after : Cell) (k : ℕ) (w : Inward) (l : LinkOut) (lawful : IsLawfu
   links = λ i. record { inward = tags i; outward = map outward_tag (outward i) }
 
   -- it showed nothing, or its message was refused
-  pub looked : after.actor ≡ c.actor → received l ≡ received w.link → IsKept c after
+  pub looked : held_in after ≡ held_in c → received l ≡ received w.link → IsKept c after
   looked same took =
       let tag : cell_tag after ≡ cell_tag c = λ i. record {
         sorts = (same i).setting.sorts;
@@ -118,9 +118,9 @@ module _ (c after : Cell) (k : ℕ) (w : Inward) (l : LinkOut) (lawful : IsLawfu
         links = links i;
       } in
       let came : received_from after.inward.items ≡ received_from c.inward.items = ap received_from inward ∙ (λ i source. received-same c.inward.items k w l source within here took i) in
-      let now : Stands c.actor.setting (feeds_in c) (actors_in c) (received_from after.inward.items) (state_in after) =
-      subst (λ (x : (Source → List Stamped) × State). Stands c.actor.setting (feeds_in c) (actors_in c) x.0 x.1) (λ i. (sym came i, (sym same i).state)) (of-lawful c lawful) in
-      let posted : IsPosted after.outward.items after.actor.outbox (entries_in after) (actors_in c) =
+      let now : Stands (held_in c).setting (feeds_in c) (actors_in c) (received_from after.inward.items) (state_in after) =
+      subst (λ (x : (Source → List Stamped) × State). Stands (held_in c).setting (feeds_in c) (actors_in c) x.0 x.1) (λ i. (sym came i, (sym same i).state)) (of-lawful c lawful) in
+      let posted : IsPosted after.outward.items (held_in after).outbox (entries_in after) (actors_in c) =
       subst (λ (x : List Outward × Held). IsPosted x.0 x.1.outbox x.1.state.entries (actors_in c)) (λ i. (sym outward i, sym same i)) lawful.posted in
       record {
         lawful = to-lawful c after lawful (ap (λ (h : Held). h.setting) same) tag (ap (λ (h : Held). length h.outbox) same) now posted;
@@ -129,10 +129,10 @@ module _ (c after : Cell) (k : ℕ) (w : Inward) (l : LinkOut) (lawful : IsLawfu
       }
 
   -- its message was taken
-  pub brought : Brings w.source c.actor after.actor w.link l → IsKept c after
+  pub brought : Brings w.source (held_in c) (held_in after) w.link l → IsKept c after
   brought b =
-      let state : State = (fair_step c.actor.setting c.actor.state w.source b.message.message b.message.stamp).0 in
-      let size : Sized (feeds_in c) (actors_in c) state.late = sized (feeds_in c) (actors_in c) c.actor.setting ((w.source, b.message) ∷ []) c.actor.state (refl, refl) in
+      let state : State = (fair_step (held_in c).setting (held_in c).state w.source b.message.message b.message.stamp).0 in
+      let size : Sized (feeds_in c) (actors_in c) state.late = sized (feeds_in c) (actors_in c) (held_in c).setting ((w.source, b.message) ∷ []) (held_in c).state (refl, refl) in
       let feeds : feeds_in after ≡ feeds_in c = ap (λ (s : State). length s.late.feeds) b.state ∙ size.0 in
       let actors : actors_in after ≡ actors_in c = ap (λ (s : State). length s.late.actors) b.state ∙ size.1 in
       let tag : cell_tag after ≡ cell_tag c = λ i. record {
@@ -143,19 +143,19 @@ module _ (c after : Cell) (k : ℕ) (w : Inward) (l : LinkOut) (lawful : IsLawfu
         actors = actors i;
         links = links i;
       } in
-      let none : NoOthers c.actor.setting (feeds_in c) (actors_in c) (received_from c.inward.items) = λ source n. none-from (feeds_in c) (actors_in c) c.inward.items known source n in
+      let none : NoOthers (held_in c).setting (feeds_in c) (actors_in c) (received_from c.inward.items) = λ source n. none-from (feeds_in c) (actors_in c) c.inward.items known source n in
       let came : (other : Source) → received_from (set c.inward.items k (record w { link = l })) other ≡ (if same_source w.source other then received_from c.inward.items other ++ b.message ∷ [] else received_from c.inward.items other) =
       λ other. received-more w l b.message b.took c.inward.items k other within here different in
-      let stands = stands_more c.actor.setting (feeds_in c) (actors_in c) (received_from c.inward.items) (received_from (set c.inward.items k (record w { link = l }))) c.actor.state (of-lawful c lawful) none w.source b.message (among (feeds_in c) (actors_in c) w.source known-here) came in
-      let now : Stands c.actor.setting (feeds_in c) (actors_in c) (received_from after.inward.items) (state_in after) =
-      subst (λ (x : List Inward × State). Stands c.actor.setting (feeds_in c) (actors_in c) (received_from x.0) x.1) (λ i. (sym inward i, sym b.state i)) stands in
-      let g = grows c.actor.setting c.actor.state w.source b.message in
+      let stands = stands_more (held_in c).setting (feeds_in c) (actors_in c) (received_from c.inward.items) (received_from (set c.inward.items k (record w { link = l }))) (held_in c).state (of-lawful c lawful) none w.source b.message (among (feeds_in c) (actors_in c) w.source known-here) came in
+      let now : Stands (held_in c).setting (feeds_in c) (actors_in c) (received_from after.inward.items) (state_in after) =
+      subst (λ (x : List Inward × State). Stands (held_in c).setting (feeds_in c) (actors_in c) (received_from x.0) x.1) (λ i. (sym inward i, sym b.state i)) stands in
+      let g = grows (held_in c).setting (held_in c).state w.source b.message in
       let entries : entries_in after ≡ entries_in c ++ g.new = ap (λ (s : State). s.entries) b.state ∙ g.are in
-      let new : new_entries c.actor.state after.actor.state ≡ g.new = ap (λ (s : State). drop (length c.actor.state.entries) s.entries) b.state ∙ g.behind in
-      let boxes : after.actor.outbox ≡ posts_behind 0 g.new c.actor.outbox = b.outbox ∙ ap (λ (es : List Entry). posts_behind 0 es c.actor.outbox) new in
-      let posted = still-posted c.outward.items c.actor.outbox after.actor.outbox (entries_in c) (entries_in after) g.new (actors_in c) entries boxes lawful.outboxes lawful.posted in
+      let new : new_entries (held_in c).state (held_in after).state ≡ g.new = ap (λ (s : State). drop (length (held_in c).state.entries) s.entries) b.state ∙ g.behind in
+      let boxes : (held_in after).outbox ≡ posts_behind 0 g.new (held_in c).outbox = b.outbox ∙ ap (λ (es : List Entry). posts_behind 0 es (held_in c).outbox) new in
+      let posted = still-posted c.outward.items (held_in c).outbox (held_in after).outbox (entries_in c) (entries_in after) g.new (actors_in c) entries boxes lawful.outboxes lawful.posted in
       record {
-        lawful = to-lawful c after lawful b.setting tag (ap length boxes ∙ length-posts_behind 0 g.new c.actor.outbox) now (subst (λ (o : List Outward). IsPosted o after.actor.outbox (entries_in after) (actors_in c)) (sym outward) posted);
+        lawful = to-lawful c after lawful b.setting tag (ap length boxes ∙ length-posts_behind 0 g.new (held_in c).outbox) now (subst (λ (o : List Outward). IsPosted o (held_in after).outbox (entries_in after) (actors_in c)) (sym outward) posted);
         tag = tag;
         history = (map noted g.new, sym (ap (map noted) entries ∙ map-append noted (entries_in c) g.new));
       }
@@ -163,21 +163,21 @@ module _ (c after : Cell) (k : ℕ) (w : Inward) (l : LinkOut) (lawful : IsLawfu
 -- ---- posts were moved to the link at a place
 
 module _ (c after : Cell) (k : ℕ) (w : Outward) (l : LinkIn) (lawful : IsLawful c) (within : k < length c.outward.items) (here : get_or c.outward.items k w ≡ w)
-    (inward : after.inward.items ≡ c.inward.items) (outward : after.outward.items ≡ set c.outward.items k (record w { link = l })) (moves : Moves w.target c.actor after.actor w.link l) where
+    (inward : after.inward.items ≡ c.inward.items) (outward : after.outward.items ≡ set c.outward.items k (record w { link = l })) (moves : Moves w.target (held_in c) (held_in after) w.link l) where
   distinct : AreDistinct (map target_of c.outward.items)
   distinct = subst AreDistinct (targets-are c.outward.items) lawful.tag.distinct
 
-  now_posted : IsPosted (set c.outward.items k (record w { link = l })) after.actor.outbox (entries_in c) (actors_in c)
+  now_posted : IsPosted (set c.outward.items k (record w { link = l })) (held_in after).outbox (entries_in c) (actors_in c)
   now_posted target lt = by (target == w.target) refl
     where
-      own : target ≡ w.target → sent_to (set c.outward.items k (record w { link = l })) target ++ posts_for after.actor.outbox target ≡ flat_map (entry_posts target) (entries_in c)
+      own : target ≡ w.target → sent_to (set c.outward.items k (record w { link = l })) target ++ posts_for (held_in after).outbox target ≡ flat_map (entry_posts target) (entries_in c)
       own same =
-          ap (λ (t : ℕ). sent_to (set c.outward.items k (record w { link = l })) t ++ posts_for after.actor.outbox t) same
-          ∙ ap (λ (ps : List Stamped). ps ++ posts_for after.actor.outbox w.target) (sent-set c.outward.items k w l within here distinct) ∙ moves.all
-          ∙ ap (λ (ps : List Stamped). ps ++ posts_for c.actor.outbox w.target) (sym (sent-at c.outward.items k w within here distinct))
-          ∙ ap (λ (t : ℕ). sent_to c.outward.items t ++ posts_for c.actor.outbox t) (sym same) ∙ lawful.posted target lt
+          ap (λ (t : ℕ). sent_to (set c.outward.items k (record w { link = l })) t ++ posts_for (held_in after).outbox t) same
+          ∙ ap (λ (ps : List Stamped). ps ++ posts_for (held_in after).outbox w.target) (sent-set c.outward.items k w l within here distinct) ∙ moves.all
+          ∙ ap (λ (ps : List Stamped). ps ++ posts_for (held_in c).outbox w.target) (sym (sent-at c.outward.items k w within here distinct))
+          ∙ ap (λ (t : ℕ). sent_to c.outward.items t ++ posts_for (held_in c).outbox t) (sym same) ∙ lawful.posted target lt
 
-      by : (b : Bool) → (target == w.target) ≡ b → sent_to (set c.outward.items k (record w { link = l })) target ++ posts_for after.actor.outbox target ≡ flat_map (entry_posts target) (entries_in c)
+      by : (b : Bool) → (target == w.target) ≡ b → sent_to (set c.outward.items k (record w { link = l })) target ++ posts_for (held_in after).outbox target ≡ flat_map (entry_posts target) (entries_in c)
       by true e = own (same-number target w.target e)
       by false e =
           let apart : ¬ (target ≡ w.target) = λ same. let clash : true ≡ false = sym (is-itself w.target) ∙ ap (λ (t : ℕ). t == w.target) (sym same) ∙ e in cc in
@@ -194,10 +194,10 @@ module _ (c after : Cell) (k : ℕ) (w : Outward) (l : LinkIn) (lawful : IsLawfu
         actors = length (moves.state i).late.actors;
         links = record { inward = map inward_tag (inward i); outward = tags i };
       } in
-      let now : Stands c.actor.setting (feeds_in c) (actors_in c) (received_from after.inward.items) (state_in after) =
-      subst (λ (x : List Inward × State). Stands c.actor.setting (feeds_in c) (actors_in c) (received_from x.0) x.1) (λ i. (sym inward i, sym moves.state i)) (of-lawful c lawful) in
-      let posted : IsPosted after.outward.items after.actor.outbox (entries_in after) (actors_in c) =
-      subst (λ (x : List Outward × State). IsPosted x.0 after.actor.outbox x.1.entries (actors_in c)) (λ i. (sym outward i, sym moves.state i)) now_posted in
+      let now : Stands (held_in c).setting (feeds_in c) (actors_in c) (received_from after.inward.items) (state_in after) =
+      subst (λ (x : List Inward × State). Stands (held_in c).setting (feeds_in c) (actors_in c) (received_from x.0) x.1) (λ i. (sym inward i, sym moves.state i)) (of-lawful c lawful) in
+      let posted : IsPosted after.outward.items (held_in after).outbox (entries_in after) (actors_in c) =
+      subst (λ (x : List Outward × State). IsPosted x.0 (held_in after).outbox x.1.entries (actors_in c)) (λ i. (sym outward i, sym moves.state i)) now_posted in
       record {
         lawful = to-lawful c after lawful moves.setting tag moves.count now posted;
         tag = tag;
@@ -222,10 +222,10 @@ entries-small target (e ∷ entries) each =
     each_append (λ (p : Stamped). p.stamp ≤ 4294967295) (entry_posts target e) (flat_map (entry_posts target) entries) (effects-small target e.stamp each.0 (firing_effects e.firing)) (entries-small target entries each.1)
 
 -- a post that waits has a stamp that is not too great for a link
-pub waiting-small : (c : Cell) → IsLawful c → (target : ℕ) → target < actors_in c → AreSmall (posts_for c.actor.outbox target)
+pub waiting-small : (c : Cell) → IsLawful c → (target : ℕ) → target < actors_in c → AreSmall (posts_for (held_in c).outbox target)
 waiting-small c lawful target within =
-    let small = entries-small target (entries_in c) (stamped c.actor.setting (feeds_in c) (actors_in c) (received_from c.inward.items) (state_in c) (of-lawful c lawful)) in
-    each_right (λ (p : Stamped). p.stamp ≤ 4294967295) (sent_to c.outward.items target) (posts_for c.actor.outbox target) (subst AreSmall (sym (lawful.posted target within)) small)
+    let small = entries-small target (entries_in c) (stamped (held_in c).setting (feeds_in c) (actors_in c) (received_from c.inward.items) (state_in c) (of-lawful c lawful)) in
+    each_right (λ (p : Stamped). p.stamp ≤ 4294967295) (sent_to c.outward.items target) (posts_for (held_in c).outbox target) (subst AreSmall (sym (lawful.posted target within)) small)
 
 pub target-exists : (c : Cell) → IsLawful c → (k : ℕ) (w : Outward) → k < length c.outward.items → get_or c.outward.items k w ≡ w → w.target < actors_in c
 target-exists c lawful k w within here =

@@ -25,7 +25,7 @@ use Rattle.cell_links.specs.Making.{IsNewIn, IsNewOut}
 use Rattle.cell_links.specs.Wiring.{AreApart, IsWired, Joins, Key, feed_keys, inward_key, inward_keys, outward_key, outward_keys, sending_keys}
 use Rattle.cell_links.proofs.TagLemmas.{All-former, apart-back, apart-front}
 use Rattle.actor_cells.specs.declared.cell.Cell.{Cell}
-use Rattle.actor_cells.specs.Lawful.{AreDifferent, AreDistinct, IsAmong, IsLawful, IsTag, actors_in, cell_tag, feeds_in, links_in, names_target, received_from, sources_in, state_in}
+use Rattle.actor_cells.specs.Lawful.{AreDifferent, AreDistinct, IsAmong, IsLawful, IsTag, actors_in, cell_tag, feeds_in, held_in, links_in, names_target, received_from, sources_in, state_in}
 use Rattle.actor_cells.specs.Prepared.{IsOpening}
 use Rattle.actor_cells.specs.Targets.{AreTargets}
 use Rattle.actor_cells.proofs.StateLemmas.{Stands, stands_first}
@@ -68,7 +68,7 @@ opening-lawful plan limits feeds ring index c o tag =
     let feed_count : feeds_in c ≡ feeds = ap (λ (s : State). length s.late.feeds) state ∙ length-replicate feeds 0 in
     let actor_count : actors_in c ≡ n = ap (λ (s : State). length s.late.actors) state ∙ length-replicate n 0 in
     let is : opening (feeds_in c) (actors_in c) ≡ state_in c = (λ i. opening (feed_count i) (actor_count i)) ∙ sym state in
-    let stands = subst (Stands c.actor.setting (feeds_in c) (actors_in c) (received_from c.inward.items)) is (stands_first c.actor.setting (feeds_in c) (actors_in c) (received_from c.inward.items) (none-came c.inward.items o.inward)) in
+    let stands = subst (Stands (held_in c).setting (feeds_in c) (actors_in c) (received_from c.inward.items)) is (stands_first (held_in c).setting (feeds_in c) (actors_in c) (received_from c.inward.items) (none-came c.inward.items o.inward)) in
     record {
       tag = tag;
       outboxes = ap (λ (h : Held). length h.outbox) o.actor ∙ length-replicate n [] ∙ sym actor_count;
@@ -163,7 +163,7 @@ opening-tag plan limits feeds ring index c tags posters own o here count many wi
     let known = known-part (IsAmong feeds n) 0 index tags (links_in c) here (sources-known feeds n tags posters many count wired) in
     let to : map (λ e. e.0) (map outward_tag c.outward.items) ≡ own = targets-are c.outward.items ∙ targets in
     let exist = each_from_All (λ t. t < n) own are.below in
-    let rules : c.actor.setting.rules ≡ rules_of (slice_get plan.actors index) = ap (λ (h : Held). h.setting.rules) o.actor in
+    let rules : (held_in c).setting.rules ≡ rules_of (slice_get plan.actors index) = ap (λ (h : Held). h.setting.rules) o.actor in
     record {
       known = subst (λ (x : ℕ × ℕ). AllByRecursion (IsAmong x.0 x.1) (sources_in (cell_tag c))) (λ i. (sym feed_count i, sym actor_count i)) known;
       different = apart-part 0 index tags (links_in c) here wired.apart;

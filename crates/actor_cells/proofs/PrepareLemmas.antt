@@ -23,15 +23,12 @@ use Rattle.cell_links.specs.Making.{AreNew, IsNewIn, IsNewOut, TargetsApart}
 use Rattle.cell_links.specs.Wiring.{IsWired}
 use Rattle.actor_cells.specs.declared.cell.Cell.{Cell}
 use Rattle.actor_cells.specs.declared.cell.CellTag.{CellTag}
-use Rattle.actor_cells.specs.Lawful.{IsLawful, cell_tag, links_in}
+use Rattle.actor_cells.specs.Lawful.{IsLawful, cell_tag, held_in, links_in}
 use Rattle.actor_cells.specs.Prepared.{AreWired, IsNewPoster, IsOpening}
 use Rattle.actor_cells.specs.Targets.{AreTargets, AreTargetsOf, new_actors}
 use Rattle.actor_cells.proofs.LinkLemmas.{target_of}
 use Rattle.actor_cells.proofs.OpeningLemmas.{opening-lawful, opening-tag}
 use Rattle.actor_cells.proofs.TargetLemmas.{All-unmap, targets-apart, targets-below}
-
-abbrev pub actor_of : Cell → Held
-actor_of c = c.actor
 
 abbrev pub inward_of : Cell → List Inward
 inward_of c = c.inward.items
@@ -47,9 +44,9 @@ going l = l.outward.items
 
 -- ---- one cell more
 
-pub actors-more : (plan : Plan) (limits : Limits) (feeds index : ℕ) (cells : List Cell) (c : Cell) → map actor_of cells ≡ new_actors plan limits feeds index → c.actor ≡ new_actor plan index limits feeds → map actor_of (cells ++ c ∷ []) ≡ new_actors plan limits feeds (index + 1)
+pub actors-more : (plan : Plan) (limits : Limits) (feeds index : ℕ) (cells : List Cell) (c : Cell) → map held_in cells ≡ new_actors plan limits feeds index → held_in c ≡ new_actor plan index limits feeds → map held_in (cells ++ c ∷ []) ≡ new_actors plan limits feeds (index + 1)
 actors-more plan limits feeds index cells c before one =
-    map-append actor_of cells (c ∷ []) ∙ (λ i. before i ++ one i ∷ []) ∙ sym (map-append (λ k. new_actor plan k limits feeds) (numbers_from 0 index) (index ∷ []))
+    map-append held_in cells (c ∷ []) ∙ (λ i. before i ++ one i ∷ []) ∙ sym (map-append (λ k. new_actor plan k limits feeds) (numbers_from 0 index) (index ∷ []))
     ∙ ap (map (λ k. new_actor plan k limits feeds)) (ap (λ (n : ℕ). numbers_from 0 index ++ n ∷ []) (let e : index ≡ 0 + index = omega arith in e) ∙ numbers_from-more 0 index)
 
 pub mapped-more : {X Y Z : Type 0} (f : X → Z) (g : Y → Z) (xs : List X) (ys : List Y) (x : X) (y : Y) → map f xs ≡ map g ys → f x ≡ g y → map f (xs ++ x ∷ []) ≡ map g (ys ++ y ∷ [])
@@ -121,7 +118,7 @@ some-actor (a ∷ actors) (o ∷ all) count (suc k) own are at = some-actor acto
 
 -- the cells that were made for a plan, with the links that were made
 module _ (plan : Plan) (limits : Limits) (feeds ring : ℕ) (cells : List Cell) (links : List ActorLinks) (posters : List PosterTag) (all : List (List ℕ))
-    (actors : map actor_of cells ≡ new_actors plan limits feeds (length plan.actors)) (ins : map inward_of cells ≡ map coming links) (outs : map outward_of cells ≡ map going links) (new : All (AreNew ring) links) where
+    (actors : map held_in cells ≡ new_actors plan limits feeds (length plan.actors)) (ins : map inward_of cells ≡ map coming links) (outs : map outward_of cells ≡ map going links) (new : All (AreNew ring) links) where
   pub count-cells : length links ≡ length plan.actors → length cells ≡ length plan.actors
   count-cells count = sym (length-map cells inward_of) ∙ ap length ins ∙ length-map links coming ∙ count
 
@@ -130,9 +127,9 @@ module _ (plan : Plan) (limits : Limits) (feeds ring : ℕ) (cells : List Cell) 
       let l = links-at cells links k c ins outs at in
       let fresh : AreNew ring l.own =
       (let j = get-within links k l.own l.at in let e = get-at links k l.own j in let same : get_or links k l.own ≡ l.own = cc (sym e ∙ l.at) in subst (AreNew ring) same (new k l.own j)) in
-      let held : Some c.actor ≡ Some (new_actor plan (0 + k) limits feeds) =
-      sym (get-map actor_of cells k c at) ∙ ap (λ (hs : List Held). slice_get hs k) actors ∙ get_numbers (λ j. new_actor plan j limits feeds) 0 (length plan.actors) k within in
-      let own : c.actor ≡ new_actor plan (0 + k) limits feeds = cc held in
+      let held : Some (held_in c) ≡ Some (new_actor plan (0 + k) limits feeds) =
+      sym (get-map held_in cells k c at) ∙ ap (λ (hs : List Held). slice_get hs k) actors ∙ get_numbers (λ j. new_actor plan j limits feeds) 0 (length plan.actors) k within in
+      let own : held_in c ≡ new_actor plan (0 + k) limits feeds = cc held in
       record {
         actor = own ∙ ap (λ (n : ℕ). new_actor plan n limits feeds) (let e : 0 + k ≡ k = omega arith in e);
         inward = subst (All IsNewIn) (sym l.inward) fresh.inward;

@@ -13,7 +13,7 @@ use Rattle.fair_semantics.specs.declared.run.Entry.{Entry}
 use Rattle.fair_semantics.specs.Step.{Setting, State, opening}
 use Rattle.fair_semantics.specs.Fair.{after_all}
 use Rattle.fair_semantics.specs.Linked.{entry_posts, given_by, messages_of, rest_of, same_source, sources, taken_from}
-use Rattle.actor_turn.specs.Held.{posts_for}
+use Rattle.actor_turn.specs.Held.{Held, posts_for}
 use Rattle.post_ring.specs.Links.{received, empty_looks}
 use Rattle.cell_links.specs.declared.ends.Inward.{Inward}
 use Rattle.cell_links.specs.declared.ends.LinkTags.{LinkTags}
@@ -24,8 +24,11 @@ use Rattle.actor_cells.specs.declared.cell.LinkTally.{LinkTally}
 
 -- ---- what contracts read of a cell
 
+abbrev pub held_in : Cell → Held
+held_in c = c.actor.value
+
 abbrev pub state_in : Cell → State
-state_in c = c.actor.state
+state_in c = (held_in c).state
 
 abbrev pub feeds_in : Cell → ℕ
 feeds_in c = length (state_in c).late.feeds
@@ -38,9 +41,9 @@ links_in c = tags_of c.inward.items c.outward.items
 
 abbrev pub cell_tag : Cell → CellTag
 cell_tag c = record {
-  sorts = c.actor.setting.sorts;
-  rules = c.actor.setting.rules;
-  limits = c.actor.setting.limits;
+  sorts = (held_in c).setting.sorts;
+  rules = (held_in c).setting.rules;
+  limits = (held_in c).setting.limits;
   feeds = feeds_in c;
   actors = actors_in c;
   links = links_in c;
@@ -114,7 +117,7 @@ module _ (c : Cell) where
   came = received_from c.inward.items
 
   abbrev pub rules_in : Setting
-  rules_in = c.actor.setting
+  rules_in = (held_in c).setting
 
   abbrev pub all_sources : List Source
   all_sources = sources (feeds_in c) (actors_in c)
@@ -124,8 +127,8 @@ module _ (c : Cell) where
   -- and what went over the link to a target, and then what waits for it, is what the entries posted to it
   pub record IsLawful : Type 0 where
     pub tag : IsTag (cell_tag c)
-    pub outboxes : length c.actor.outbox ≡ actors_in c
+    pub outboxes : length (held_in c).outbox ≡ actors_in c
     pub in_order : (source : Source) → taken_from source entries_in ≡ take (length (taken_from source entries_in)) (messages_of (came source))
     pub late : (source : Source) → Contains all_sources source → late_count (state_in c).late source ≡ min (length (rest_of came entries_in source)) (2 ^ 64 - 1)
     pub fair : state_in c ≡ after_all rules_in (opening (feeds_in c) (actors_in c)) (given_by rules_in.sorts all_sources came entries_in)
-    pub posted : (target : ℕ) → target < actors_in c → sent_to c.outward.items target ++ posts_for c.actor.outbox target ≡ flat_map (entry_posts target) entries_in
+    pub posted : (target : ℕ) → target < actors_in c → sent_to c.outward.items target ++ posts_for (held_in c).outbox target ≡ flat_map (entry_posts target) entries_in

@@ -12,7 +12,7 @@ use Rattle.actor_cells.specs.declared.cell.Cell.{Cell}
 use Rattle.actor_cells.specs.declared.cell.CellTag.{CellTag}
 use Rattle.actor_cells.specs.declared.cells.Cells.{Cells}
 use Rattle.actor_cells.specs.declared.serving.Turned.{Turned}
-use Rattle.actor_cells.specs.Lawful.{tally_of}
+use Rattle.actor_cells.specs.Lawful.{held_in, tally_of}
 use Rattle.actor_cells.specs.Served.{IsKept, IsRefusing, Turns}
 
 -- the cells of a list, in order
@@ -25,7 +25,7 @@ AreWired tags posters = IsWired (map (λ tag. tag.links) tags) posters
 
 -- the actor of this number before its first arrival, and links over which nothing went
 pub record IsOpening (plan : Plan) (limits : Limits) (feeds ring index : ℕ) (c : Cell) : Type 0 where
-  pub actor : c.actor ≡ new_actor plan index limits feeds
+  pub actor : held_in c ≡ new_actor plan index limits feeds
   pub inward : All IsNewIn c.inward.items
   pub outward : All (IsNewOut ring) c.outward.items
 

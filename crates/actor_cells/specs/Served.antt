@@ -9,7 +9,7 @@ use Rattle.actor_cells.specs.declared.cell.Cell.{Cell}
 use Rattle.actor_cells.specs.declared.cell.LinkTally.{LinkTally}
 use Rattle.actor_cells.specs.declared.serving.Turned.{Turned}
 use Rattle.actor_cells.specs.declared.serving.Turned.TheVariants as turned
-use Rattle.actor_cells.specs.Lawful.{IsLawful, cell_tag, history_of, state_in}
+use Rattle.actor_cells.specs.Lawful.{IsLawful, cell_tag, held_in, history_of, state_in}
 
 -- the cell is lawful as before, with its tag, and its history goes on from what it was
 pub record IsKept (before after : Cell) : Type 0 where
@@ -41,4 +41,4 @@ pub record IsRefusing (c : Cell) : Type 0 where
   pub message : Stamped
   pub here : slice_get c.inward.items place ≡ Some link
   pub first : IsPrefix (message ∷ []) (waiting link.link)
-  pub taken : is_taken c.actor.setting (state_in c) message.message message.stamp ≡ true
+  pub taken : is_taken (held_in c).setting (state_in c) message.message message.stamp ≡ true

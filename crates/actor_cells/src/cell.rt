@@ -11,7 +11,8 @@ use turn_lock::TurnCell;
 /// An actor with the links into it and out of it.
 #[derive(Drop)]
 pub struct Cell {
-    pub actor: Actor,
+    /// Behind a pointer, so that a cell moves into and out of its lock in a few instructions. Contracts see it by `held_in`.
+    pub actor: Box<Actor>,
     pub inward: Vec<Inward>,
     pub outward: Vec<Outward>,
     /// The place of the actor's link to itself among those inward, or one behind them where it posts nothing to itself. No clause

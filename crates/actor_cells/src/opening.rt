@@ -5,6 +5,7 @@ ghost use Rattle.script_types.specs.Typed.{IsTyped};
 ghost use Rattle.fair_semantics.specs.Fair.{setting_of};
 ghost use Rattle.fair_semantics.specs.Fits.{RuleFits};
 ghost use Rattle.actor_turn.specs.Held.{AreLimits};
+ghost use Rattle.actor_cells.specs.Lawful.{held_in};
 ghost use Rattle.actor_cells.specs.Targets.{new_actors};
 
 use crate::cell::Cell;
@@ -36,7 +37,7 @@ pub fn opening_cells(
     requires typed { IsTyped plan.now }
     requires limits { AreLimits limits }
     requires count { length links.items ≡ length plan.now.actors }
-    ensures actors { IfOk result (λ cells. map (λ c. c.actor) cells.items ≡ new_actors plan.now limits feeds (length plan.now.actors)) }
+    ensures actors { IfOk result (λ cells. map held_in cells.items ≡ new_actors plan.now limits feeds (length plan.now.actors)) }
     ensures inward { IfOk result (λ cells. map (λ c. c.inward.items) cells.items ≡ map (λ l. l.inward.items) links.items) }
     ensures outward { IfOk result (λ cells. map (λ c. c.outward.items) cells.items ≡ map (λ l. l.outward.items) links.items) }
     ensures texts { OnOk result ((index : ℕ) → index < length plan.now.actors → AllByRecursion RuleFits (setting_of plan.now index limits).rules) }
@@ -48,7 +49,7 @@ pub fn opening_cells(
         let ActorLinks { inward, outward } = own;
         let place = own_place(inward.as_slice(), index);
         cells.push(Cell {
-            actor,
+            actor: Box::new(alloc, actor)?,
             inward,
             outward,
             own: place,

@@ -74,7 +74,8 @@ impl Cell {
     }
 
     // Brings the message that waits first on the link at a place, and moves the posts that it made to their links. So what an actor
-    // posts to itself stands on its own link when that is looked at next.
+    // posts to itself stands on its own link when that is looked at next. Each look at a link goes through it.
+    #[inline(always)]
     fn bring_and_send<L: Ledger>(
         &mut self,
         alloc: Global,

@@ -30,7 +30,7 @@ use Rattle.cell_links.specs.declared.ends.Inward.{Inward}
 use Rattle.cell_links.specs.declared.poster.Poster.{Poster}
 use Rattle.cell_links.specs.Ends.{inward_tag, poster_links, sent_to}
 use Rattle.actor_cells.specs.declared.cell.Cell.{Cell}
-use Rattle.actor_cells.specs.Lawful.{IsAmong, IsLawful, cell_tag, received_from, state_in}
+use Rattle.actor_cells.specs.Lawful.{IsAmong, IsLawful, cell_tag, held_in, received_from, state_in}
 use Rattle.actor_cells.specs.Tags.{IsTagOf}
 use Rattle.cell_settling.specs.Settled.{AreFeedsOf, AreOwn, AreSettled, SettledIsLinked, cell_sent, poster_sent, run_in, run_shown, went}
 
@@ -91,7 +91,7 @@ module _ (plan : Plan) (limits : Limits) (feeds : List (List (ℕ × Message))) 
     abbrev lawful : IsLawful cell
     lawful = own.lawful actor cell at
 
-    setting_is : cell.actor.setting ≡ setting_of plan actor limits
+    setting_is : (held_in cell).setting ≡ setting_of plan actor limits
     setting_is = λ i. record { sorts = tag.sorts i; rules = tag.rules i; limits = tag.same_limits i }
 
     feeds_are : length (state_in cell).late.feeds ≡ length feeds

@@ -21,7 +21,7 @@ use Rattle.cell_links.specs.Ends.{poster_links, poster_tag, sent_to}
 use Rattle.actor_cells.specs.declared.cell.Cell.{Cell}
 use Rattle.actor_cells.specs.Prepared.{AreWired}
 use Rattle.actor_cells.specs.Tags.{IsTagOf}
-use Rattle.actor_cells.specs.Lawful.{IsLawful, cell_tag, received_from, state_in}
+use Rattle.actor_cells.specs.Lawful.{IsLawful, cell_tag, held_in, received_from, state_in}
 
 -- a lawful cell of each actor of the plan, in order
 pub record AreOwn (plan : Plan) (limits : Limits) (feeds : ℕ) (cells : List Cell) : Type 0 where
@@ -77,12 +77,12 @@ pub record AreFeedsOf (plan : Plan) (posters : List Poster) (feeds : List (List 
 -- all that went over the links has arrived, and no outbox holds a post
 pub record AreSettled (posters : List Poster) (cells : List Cell) : Type 0 where
   pub arrived : (source : Source) (actor : ℕ) (cell : Cell) → slice_get cells actor ≡ Some cell → received_from cell.inward.items source ≡ went posters cells source actor
-  pub empty : (actor target : ℕ) (cell : Cell) → slice_get cells actor ≡ Some cell → posts_for cell.actor.outbox target ≡ []
+  pub empty : (actor target : ℕ) (cell : Cell) → slice_get cells actor ≡ Some cell → posts_for (held_in cell).outbox target ≡ []
 
 -- ---- the run
 
 abbrev pub run_in : Cell → ActorRun
-run_in cell = run_of cell.actor.setting.rules (state_in cell)
+run_in cell = run_of (held_in cell).setting.rules (state_in cell)
 
 abbrev pub run_shown : Limits → List (List (ℕ × Message)) → List Cell → Run
 run_shown limits feeds cells = record { version = 2; limits = limits; feeds = length feeds; actors = map run_in cells }

@@ -211,8 +211,11 @@ outward-send = declared_send Outward.the_type (search (sendable, crosses) depth 
 actor-send : IsSend Actor.the_row
 actor-send = search (sendable, crosses, rule-send, mailbox-send, tree-send, firing-send, outbox-send, entry-send) depth 40 fits 100000
 
+boxed-send : IsSend (Box.the_row Actor.the_row Global.the_row ghosts)
+boxed-send = box-send Actor.the_row actor-send
+
 cell-send : IsSend Cell.the_row
-cell-send = search (sendable, crosses, actor-send, inward-send, outward-send) depth 40 fits 100000
+cell-send = search (sendable, crosses, boxed-send, inward-send, outward-send) depth 40 fits 100000
 
 pub helper-send : IsSend Helper.the_row
 helper-send = search (sendable, crosses, seat-send, cell-send) depth 40 fits 100000

@@ -34,7 +34,7 @@ use Rattle.actor_turn.specs.Held.{AreLimits, Held}
 use Rattle.cell_links.specs.declared.poster.Poster.{Poster}
 use Rattle.cell_links.specs.Ends.{sent_to}
 use Rattle.actor_cells.specs.declared.cell.Cell.{Cell}
-use Rattle.actor_cells.specs.Lawful.{IsAmong, cell_tag, history_of, noted}
+use Rattle.actor_cells.specs.Lawful.{IsAmong, cell_tag, held_in, history_of, noted}
 use Rattle.actor_cells.proofs.CellLemmas.{prefix-trans}
 use Rattle.actor_cells.specs.Tags.{AreTagsOf, IsTagOf}
 use Rattle.cell_settling.specs.Settled.{cell_sent, poster_sent, went}
@@ -296,5 +296,5 @@ module _ (plan : Plan) (limits : Limits) (posters : List Poster) (cells : List C
         let m = mapped_at run_in third actor own (ap (λ (r : Run). slice_get r.actors actor) (sym is) ∙ mine) in
         let h = there first actor (let l = slice_get_within third actor m.0 m.1 in let n = on.count in omega (arith, l, n)) in
         subst (λ (r : ActorRun). IsPrefix (history_of cell) (map noted r.entries)) m.2
-        (prefix-trans (arrivals_of cell.actor) (arrivals_of h.0) (arrivals_of m.0) (drained.each actor cell h.0 at h.1).on.history (on.each actor h.0 m.0 h.1 m.1).history);
+        (prefix-trans (arrivals_of (held_in cell)) (arrivals_of h.0) (arrivals_of m.0) (drained.each actor cell h.0 at h.1).on.history (on.each actor h.0 m.0 h.1 m.1).history);
   }

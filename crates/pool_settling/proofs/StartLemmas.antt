@@ -18,7 +18,7 @@ use Rattle.cell_links.specs.Ends.{inward_tag, poster_tag, sent_to}
 use Rattle.cell_links.specs.Wiring.{AreLinked, Key}
 use Rattle.actor_cells.specs.declared.cell.Cell.{Cell}
 use Rattle.actor_cells.specs.AllLawful.{AreLawful}
-use Rattle.actor_cells.specs.Lawful.{IsAmong, IsLawful, cell_tag, received_from}
+use Rattle.actor_cells.specs.Lawful.{IsAmong, IsLawful, cell_tag, held_in, received_from}
 use Rattle.actor_cells.specs.Prepared.{AreWired}
 use Rattle.cell_settling.specs.Settled.{cell_sent, went}
 use Rattle.pool_settling.specs.declared.ends.Receiver.{Receiver}
@@ -43,10 +43,10 @@ known_all : (feeds actors : ℕ) (ws : List Inward) → AllByRecursion (IsAmong 
 known_all feeds actors [] each = All-nil (λ w. IsAmong feeds actors w.source)
 known_all feeds actors (w ∷ ws) each = All-cons (λ (v : Inward). IsAmong feeds actors v.source) w ws each.0 (known_all feeds actors ws each.1)
 
-stands_cell : (c : Cell) → IsLawful c → StandsBy (received_from c.inward.items) (sent_to c.outward.items) c.actor
+stands_cell : (c : Cell) → IsLawful c → StandsBy (received_from c.inward.items) (sent_to c.outward.items) (held_in c)
 stands_cell c lawful = record {
   outboxes = lawful.outboxes;
-  known = λ source. known_from (feed_count c.actor) (actor_count c.actor) c.inward.items source lawful.tag.known;
+  known = λ source. known_from (feed_count (held_in c)) (actor_count (held_in c)) c.inward.items source lawful.tag.known;
   in_order = lawful.in_order;
   late = lawful.late;
   fair = lawful.fair;
@@ -100,27 +100,27 @@ module _ (posters : List Poster) (cells : List Cell) (wired : AreWired (map cell
     where
       each : (actor : ℕ) (held : Held) → slice_get (actors_in cells) actor ≡ Some held → StandsBy (λ source. received_in rs source actor) (λ target. sent_in es (Actor actor) target) held
       each actor held is =
-          let m = mapped_at (λ (c : Cell). c.actor) cells actor held is in
+          let m = mapped_at held_in cells actor held is in
           let n : actor ≡ 0 + actor = omega arith in
-          stands_by (received_from m.0.inward.items) (λ source. received_in rs source actor) (sent_to m.0.outward.items) (λ target. sent_in es (Actor actor) target) m.0.actor held
+          stands_by (received_from m.0.inward.items) (λ source. received_in rs source actor) (sent_to m.0.outward.items) (λ target. sent_in es (Actor actor) target) (held_in m.0) held
           (λ source. ap (received_in rs source) n ∙ came_at source 0 actor cells m.0 m.1) (cell_went actor m.0 m.1) m.2 (stands_cell m.0 (lawful_at actor m.0 m.1))
 
       known : (k : ℕ) (c : Cell) → slice_get cells k ≡ Some c → All (λ w. IsKnownTo (actors_in cells) (receiver_of (0 + k) w)) c.inward.items
       known k c at =
           let n : k ≡ 0 + k = omega arith in
-          let got = map_get (λ (x : Cell). x.actor) cells k c at in
+          let got = map_get held_in cells k c at in
           let law = lawful_at k c at in
-          All-weaker (λ (w : Inward). IsAmong (feed_count c.actor) (actor_count c.actor) w.source) (λ (w : Inward). IsKnownTo (actors_in cells) (receiver_of (0 + k) w))
-          (λ w a. subst (λ (j : ℕ). IsKnownTo (actors_in cells) (receiver_of j w)) n (get_within (actors_in cells) k c.actor got, λ held e. subst (λ (h : Held). IsAmong (feed_count h) (actor_count h) w.source) (some_is c.actor held (sym got ∙ e)) a)) c.inward.items
-          (known_all (feed_count c.actor) (actor_count c.actor) c.inward.items law.tag.known)
+          All-weaker (λ (w : Inward). IsAmong (feed_count (held_in c)) (actor_count (held_in c)) w.source) (λ (w : Inward). IsKnownTo (actors_in cells) (receiver_of (0 + k) w))
+          (λ w a. subst (λ (j : ℕ). IsKnownTo (actors_in cells) (receiver_of j w)) n (get_within (actors_in cells) k (held_in c) got, λ held e. subst (λ (h : Held). IsAmong (feed_count h) (actor_count h) w.source) (some_is (held_in c) held (sym got ∙ e)) a)) c.inward.items
+          (known_all (feed_count (held_in c)) (actor_count (held_in c)) c.inward.items law.tag.known)
 
   pub are_drained : (nows : List Receiver) (helds : List Held) → receiver_keys nows ≡ receiver_keys rs → All (HasAll es) nows → AreStanding es nows helds → GoOn (actors_in cells) helds → AreDrained posters cells helds
   are_drained nows helds keys all standing on = record {
-    count = on.count ∙ length-map cells (λ (c : Cell). c.actor);
+    count = on.count ∙ length-map cells held_in;
     each = λ actor cell held at is. record {
       stands = stands_by (λ source. received_in nows source actor) (λ source. went posters cells source actor) (λ target. sent_in es (Actor actor) target) (sent_to cell.outward.items) held held
           (λ source. sym (all_came es nows (subst (AreLinked (keys_of es)) (sym keys) linked) all source actor ∙ went_is posters cells source actor)) (λ target. sym (cell_went actor cell at target)) refl (standing.each actor held is);
-      on = on.each actor cell.actor held (map_get (λ (x : Cell). x.actor) cells actor cell at) is;
+      on = on.each actor (held_in cell) held (map_get held_in cells actor cell at) is;
     };
   }
 

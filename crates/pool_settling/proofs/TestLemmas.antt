@@ -10,7 +10,7 @@ use Rattle.actor_turn.specs.Held.{Held, new_actor}
 use Rattle.cell_links.specs.declared.poster.Poster.{Poster}
 use Rattle.actor_cells.specs.declared.cell.Cell.{Cell}
 use Rattle.actor_cells.specs.declared.serving.Turned.{Turned}
-use Rattle.actor_cells.specs.Lawful.{cell_tag}
+use Rattle.actor_cells.specs.Lawful.{cell_tag, held_in}
 use Rattle.actor_cells.specs.Prepared.{ArePrepared, IsServedAt}
 use Rattle.actor_cells.specs.Tags.{AreTagsOf, IsTagOf}
 
@@ -19,7 +19,7 @@ prepared_tags plan limits feeds ring cells posters are = record {
   count = length-map cells cell_tag ∙ are.count;
   each = λ actor tag is.
       let c = mapped_at cell_tag cells actor tag is in
-      let new : c.0.actor ≡ new_actor plan actor limits feeds = (are.opening actor c.0 c.1).actor in
+      let new : held_in c.0 ≡ new_actor plan actor limits feeds = (are.opening actor c.0 c.1).actor in
       subst (IsTagOf plan limits feeds actor) c.2 record {
         sorts = ap (λ (h : Held). h.setting.sorts) new;
         rules = ap (λ (h : Held). h.setting.rules) new;

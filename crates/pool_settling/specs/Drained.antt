@@ -4,13 +4,14 @@ use Rattle.actor_turn.specs.Held.{Held}
 use Rattle.cell_links.specs.declared.poster.Poster.{Poster}
 use Rattle.cell_links.specs.Ends.{sent_to}
 use Rattle.actor_cells.specs.declared.cell.Cell.{Cell}
+use Rattle.actor_cells.specs.Lawful.{held_in}
 use Rattle.cell_settling.specs.Settled.{went}
 use Rattle.pool_settling.specs.Standing.{GoesOn, StandsBy}
 
 -- all that went over the links to the cell came to its actor, which goes on from what it was
 pub record IsDrained (posters : List Poster) (cells : List Cell) (actor : ℕ) (cell : Cell) (held : Held) : Type 0 where
   pub stands : StandsBy (λ source. went posters cells source actor) (sent_to cell.outward.items) held
-  pub on : GoesOn cell.actor held
+  pub on : GoesOn (held_in cell) held
 
 -- so it is of the actor of each cell
 pub record AreDrained (posters : List Poster) (cells : List Cell) (helds : List Held) : Type 0 where

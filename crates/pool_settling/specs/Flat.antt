@@ -8,6 +8,7 @@ use Rattle.cell_links.specs.declared.ends.Outward.{Outward}
 use Rattle.cell_links.specs.declared.poster.Poster.{Poster}
 use Rattle.cell_links.specs.Ends.{poster_links}
 use Rattle.actor_cells.specs.declared.cell.Cell.{Cell}
+use Rattle.actor_cells.specs.Lawful.{held_in}
 use Rattle.pool_settling.specs.declared.ends.Sender.{Sender}
 use Rattle.pool_settling.specs.declared.ends.Receiver.{Receiver}
 
@@ -32,4 +33,4 @@ fed_from k [] = []
 fed_from k (p ∷ posters) = map (sender_of (Feed k)) (poster_links p) ++ fed_from (k + 1) posters
 
 abbrev pub actors_in : List Cell → List Held
-actors_in cells = map (λ (c : Cell). c.actor) cells
+actors_in cells = map held_in cells

@@ -79,7 +79,7 @@ pub fn take_cells(
         } = cell;
         add_senders(senders, Source::Actor(number), outward)?;
         add_receivers(receivers, number, inward)?;
-        actors.push(actor)?;
+        actors.push(Box::into_inner(actor))?;
         number += 1;
     }
     Ok(())

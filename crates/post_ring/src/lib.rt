@@ -1,8 +1,8 @@
 //! Links: from one source to one target, messages with their stamps, in order and each once.
 //!
 //! Calls: `link` makes the two ends of a link, which may stand in two threads. `LinkIn::push` sends a message, or hands it
-//! back. `LinkOut::peek` shows the next one and `take` takes it, or they find none. `give_back` puts the one that was taken last in
-//! front again. `meet` brings the two ends together on one thread. No call waits, and after `link` none takes memory.
+//! back. `LinkOut::take` takes the next one, or finds none. `give_back` puts the one that was taken last in front again. `meet`
+//! brings the two ends together on one thread. No call waits, and after `link` none takes memory.
 //!
 //! A contract sees of a `LinkIn` what was sent, its room and its identity, and of a `LinkOut` what was received, the messages
 //! that it knows to wait, how many looks found nothing, and its identity. Ends of one identity are the ends of one link

@@ -1,6 +1,7 @@
-use Rattle.std.proofs.Common.{arith, ◌∷◌, []}
+use Rattle.std.proofs.Common.{arith, ◌∷◌, [], ◌++◌, ◌∙◌, ap}
 use Rattle.std.proofs.lemmas.List.{length-append, map-append}
-use Rattle.actor_cells.specs.declared.cell.Cell.{Cell}
+use Rattle.actor_turn.specs.Held.{Held}
+use Rattle.actor_cells.specs.Lawful.{held_in}
 use Rattle.pool_settling.proofs.FlatLemmas.{senders_from-push, receivers_from-push, grown}
 use Rattle.pool_settling.proofs.apart.take_cells.Goals as goal
 
@@ -14,5 +15,5 @@ loop-cell-preserved c =
       number = omega (arith, before.number, length-append ys (one ∷ []));
       senders = grown _ _ _ _ _ _ c.in_ok-add_senders.ensures.added before.senders (senders_from-push 0 n ys one (omega (arith, before.number)));
       receivers = grown _ _ _ _ _ _ c.in_ok-add_receivers.ensures.added before.receivers (receivers_from-push 0 n ys one (omega (arith, before.number)));
-      actors = grown _ _ _ _ _ _ c.in_ok-push.ensures.items before.actors (map-append (λ (x : Cell). x.actor) ys (one ∷ []));
+      actors = grown _ _ _ _ _ _ (c.in_ok-push.ensures.items ∙ ap (λ (held : Held). c.loop-cell.actors.items ++ held ∷ []) c.into_inner.ensures) before.actors (map-append held_in ys (one ∷ []));
     }
