@@ -3,6 +3,7 @@ use Rattle.std.proofs.Common.{◌≡◌, ◌∙◌, ◌⊎◌, inl, inr, ℕ, �
 use Rattle.std.specs.Prelude.{if◌then◌else◌, nat_le, not, ◌&&◌}
 use Rattle.std.specs.List.{AllByRecursion}
 use Rattle.std.proofs.lemmas.List.{length-map, length-drop}
+use Rattle.std.proofs.lemmas.Bool.{and_left, and_right}
 use Rattle.join_base.specs.declared.message.Message.{Message}
 use Rattle.join_base.specs.declared.message.Stamped.{Stamped}
 use Rattle.join_base.specs.declared.message.Source.{Source}
@@ -185,11 +186,6 @@ module _ (plan : Plan) (feeds : List (List (ℕ × Message))) (run : Run) (linke
           ending = ap (λ (s : State). s.ending) same ∙ sym (ap (λ (s : State). s.ending) same_state) ∙ sym ends;
         }
 
-    and_false : (a b : Bool) → (a ≡ false) ⊎ (b ≡ false) → (a && b) ≡ false
-    and_false false b h = refl
-    and_false true b (inl e) = absurd cc
-    and_false true b (inr e) = e
-
     ends_as : Ends
     ends_as = by (is_running at_arrivals.ending) refl
       where
@@ -210,14 +206,14 @@ module _ (plan : Plan) (feeds : List (List (ℕ × Message))) (run : Run) (linke
         runs running [] none =
             let last : at_last ≡ at_arrivals = ap (after_all setting at_arrivals) none in
             let no_late = none_late (expected_late plan run actor) (late_same ∙ runs_on running none) in
-            keeps_on (and_false (is_running again.ending) (some_late (expected_late plan run actor)) (inr no_late)) (ap (λ (s : State). s.live) last) (ap (λ (s : State). s.ending) last)
+            keeps_on (and_right (is_running again.ending) (some_late (expected_late plan run actor)) no_late) (ap (λ (s : State). s.live) last) (ap (λ (s : State). s.ending) last)
         runs running (first ∷ more) is = spends first more is running (some_late (expected_late plan run actor)) refl
 
         by : (b : Bool) → is_running at_arrivals.ending ≡ b → Ends
         by false e =
             let o = ended setting behind at_arrivals e in
             let stopped : is_running again.ending ≡ false = sym (ap (λ (s : State). is_running s.ending) same_state) ∙ e in
-            keeps_on (and_false (is_running again.ending) (some_late (expected_late plan run actor)) (inl stopped)) o.live o.ending
+            keeps_on (and_left (is_running again.ending) (some_late (expected_late plan run actor)) stopped) o.live o.ending
         by true e = runs e behind refl
 
     letters_same : letters_of end.entries ≡ letters_of at_last.entries

@@ -5,6 +5,7 @@ use Rattle.std.specs.List.{AllByRecursion, cons_option}
 use Rattle.std.proofs.lemmas.Bool.Decides.{nat_tests, Decides-int_eq}
 use Rattle.std.proofs.lemmas.List.{length-map}
 use Rattle.std.proofs.lemmas.Slice.Eq.{bytes_eq-Decides}
+use Rattle.std.proofs.lemmas.Bool.{and_parts, eqb-true}
 use Rattle.join_base.specs.declared.message.Message.{Message}
 use Rattle.join_base.specs.declared.message.Source.{Source}
 use Rattle.join_base.specs.declared.message.Source.TheVariants.{Feed, Actor}
@@ -29,20 +30,13 @@ use Rattle.log_replay.proofs.FirstLemmas.{First, first_behind}
 
 -- ---- tests and facts
 
-pub both_parts : (a b : Bool) → (a && b) ≡ true → (a ≡ true) × (b ≡ true)
-both_parts true b e = (refl, e)
-both_parts false b e = absurd cc
-
-pub equal : (a b : ℕ) → (a == b) ≡ true → a ≡ b
-equal a b e = grind (arith, nat_tests)
-
 pub itself : (a : ℕ) → (a == a) ≡ true
 itself a = grind (arith, nat_tests)
 
 -- the source of a test
 from_of : (source : Source) (from : ℕ) → same_source source (Actor from) ≡ true → source ≡ Actor from
 from_of (Feed k) from e = absurd cc
-from_of (Actor a) from e = ap (λ (n : ℕ). Actor n) (equal a from e)
+from_of (Actor a) from e = ap (λ (n : ℕ). Actor n) (eqb-true a from e)
 
 from_is : (source : Source) (from : ℕ) → source ≡ Actor from → same_source source (Actor from) ≡ true
 from_is source from e = ap (λ (s : Source). same_source s (Actor from)) e ∙ itself from
@@ -62,7 +56,7 @@ same_values_are [] [] e = refl
 same_values_are [] (w ∷ ws) e = absurd cc
 same_values_are (v ∷ vs) [] e = absurd cc
 same_values_are (v ∷ vs) (w ∷ ws) e =
-    let h = both_parts (same_value v w) (same_values vs ws) e in
+    let h = and_parts (same_value v w) (same_values vs ws) e in
     let first = same_value_is v w h.0 in
     let later = same_values_are vs ws h.1 in
     λ i. first i ∷ later i
@@ -73,8 +67,8 @@ values_themselves (v ∷ vs) = λ i. value_itself v i && values_themselves vs i
 
 pub same_message_is : (m k : Message) → same_message m k ≡ true → m ≡ k
 same_message_is m k e =
-    let h = both_parts (m.kind == k.kind) (same_values m.fields k.fields) e in
-    let kinds = equal m.kind k.kind h.0 in
+    let h = and_parts (m.kind == k.kind) (same_values m.fields k.fields) e in
+    let kinds = eqb-true m.kind k.kind h.0 in
     let fields = same_values_are m.fields k.fields h.1 in
     λ i. record { kind = kinds i; fields = fields i }
 
@@ -146,7 +140,7 @@ module _ (plan : Plan) (run : Run) where
 
       end_fails : (taken : ℕ) → taken ≡ length (taken_from (Actor from) own.entries) → (runs && nat_lt taken (length posts)) ≡ true → LinkKeeps from (ends to) → ⊥
       end_fails taken count e keeps =
-          let h = both_parts runs (nat_lt taken (length posts)) e in
+          let h = and_parts runs (nat_lt taken (length posts)) e in
           let most = keeps (running_is (expected_actor plan run to).ending (sym runs_is ∙ h.0)) in
           let more = less taken (length posts) h.1 in
           omega (arith, most, more, count, ap length posts_are, ap (λ (es : List Entry). length (taken_from (Actor from) es)) read)

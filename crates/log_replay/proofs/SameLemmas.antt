@@ -3,6 +3,8 @@ use Rattle.std.proofs.Common.{◌≡◌, ◌∙◌, ℕ, suc, List, [], ◌∷�
 use Rattle.std.specs.Prelude.{◌&&◌, ◌==◌}
 use Rattle.std.proofs.lemmas.Bool.Decides.{nat_tests}
 use Rattle.std.proofs.lemmas.Slice.Eq.{bytes_eq-Decides}
+use Rattle.std.proofs.lemmas.Bool.{and_parts, eqb-true}
+use Rattle.std.proofs.Math.Bool.{and-false}
 use Rattle.join_base.specs.declared.message.Source.{Source}
 use Rattle.join_base.specs.declared.message.Source.TheVariants.{Feed, Actor}
 use Rattle.fair_semantics.specs.declared.run.Effect.{Effect}
@@ -10,13 +12,10 @@ use Rattle.fair_semantics.specs.declared.run.Effect.TheVariants.{Print, Post, Re
 use Rattle.fair_semantics.specs.declared.run.Entry.{Entry}
 use Rattle.fair_semantics.specs.declared.run.Firing.{Firing}
 use Rattle.fair_semantics.specs.Linked.{same_source, unstamped_entry}
+use Rattle.run_order.proofs.EventLemmas.{same_source_is}
 use Rattle.log_replay.specs.Kept.{same_message, same_value}
 use Rattle.log_replay.specs.Same.{same_effect, same_effects, same_entries, same_entry, same_fired, same_firing, same_numbers}
-use Rattle.log_replay.proofs.KeepsLemmas.{both_parts, same_message_is, same_value_is}
-
-none_false : (b : Bool) → (b && false) ≡ false
-none_false true = refl
-none_false false = refl
+use Rattle.log_replay.proofs.KeepsLemmas.{same_message_is, same_value_is}
 
 -- ---- lists that are not as long
 
@@ -24,24 +23,21 @@ pub effects_apart : (own other : List Effect) → (length own ≡ length other �
 effects_apart [] [] apart = absurd (apart refl)
 effects_apart [] (w ∷ other) apart = refl
 effects_apart (v ∷ own) [] apart = refl
-effects_apart (v ∷ own) (w ∷ other) apart = ap (λ (b : Bool). same_effect v w && b) (effects_apart own other (λ e. apart (ap suc e))) ∙ none_false (same_effect v w)
+effects_apart (v ∷ own) (w ∷ other) apart = ap (λ (b : Bool). same_effect v w && b) (effects_apart own other (λ e. apart (ap suc e))) ∙ and-false (same_effect v w)
 
 pub numbers_apart : (own other : List ℕ) → (length own ≡ length other → ⊥) → same_numbers own other ≡ false
 numbers_apart [] [] apart = absurd (apart refl)
 numbers_apart [] (w ∷ other) apart = refl
 numbers_apart (v ∷ own) [] apart = refl
-numbers_apart (v ∷ own) (w ∷ other) apart = ap (λ (b : Bool). (v == w) && b) (numbers_apart own other (λ e. apart (ap suc e))) ∙ none_false (v == w)
+numbers_apart (v ∷ own) (w ∷ other) apart = ap (λ (b : Bool). (v == w) && b) (numbers_apart own other (λ e. apart (ap suc e))) ∙ and-false (v == w)
 
 pub entries_apart : (own other : List Entry) → (length own ≡ length other → ⊥) → same_entries own other ≡ false
 entries_apart [] [] apart = absurd (apart refl)
 entries_apart [] (w ∷ other) apart = refl
 entries_apart (v ∷ own) [] apart = refl
-entries_apart (v ∷ own) (w ∷ other) apart = ap (λ (b : Bool). same_entry v w && b) (entries_apart own other (λ e. apart (ap suc e))) ∙ none_false (same_entry v w)
+entries_apart (v ∷ own) (w ∷ other) apart = ap (λ (b : Bool). same_entry v w && b) (entries_apart own other (λ e. apart (ap suc e))) ∙ and-false (same_entry v w)
 
 -- ---- what is equal
-
-equal : (a b : ℕ) → (a == b) ≡ true → a ≡ b
-equal a b e = grind (arith, nat_tests)
 
 effect_is : (a b : Effect) → same_effect a b ≡ true → a ≡ b
 effect_is (Print text) (Print second) e = ap (λ t. Print t) ((bytes_eq-Decides text second).0 e)
@@ -49,16 +45,16 @@ effect_is (Print text) (Post target message) e = absurd cc
 effect_is (Print text) (Reply number value) e = absurd cc
 effect_is (Post target message) (Print text) e = absurd cc
 effect_is (Post target message) (Post second sent) e =
-    let h = both_parts (target == second) (same_message message sent) e in
-    let t = equal target second h.0 in
+    let h = and_parts (target == second) (same_message message sent) e in
+    let t = eqb-true target second h.0 in
     let m = same_message_is message sent h.1 in
     λ i. Post (t i) (m i)
 effect_is (Post target message) (Reply number value) e = absurd cc
 effect_is (Reply number value) (Print text) e = absurd cc
 effect_is (Reply number value) (Post target message) e = absurd cc
 effect_is (Reply number value) (Reply second given) e =
-    let h = both_parts (number == second) (same_value value given) e in
-    let n = equal number second h.0 in
+    let h = and_parts (number == second) (same_value value given) e in
+    let n = eqb-true number second h.0 in
     let v = same_value_is value given h.1 in
     λ i. Reply (n i) (v i)
 
@@ -67,7 +63,7 @@ effects_are [] [] e = refl
 effects_are [] (w ∷ ws) e = absurd cc
 effects_are (v ∷ vs) [] e = absurd cc
 effects_are (v ∷ vs) (w ∷ ws) e =
-    let h = both_parts (same_effect v w) (same_effects vs ws) e in
+    let h = and_parts (same_effect v w) (same_effects vs ws) e in
     let first = effect_is v w h.0 in
     let later = effects_are vs ws h.1 in
     λ i. first i ∷ later i
@@ -77,16 +73,16 @@ numbers_are [] [] e = refl
 numbers_are [] (w ∷ ws) e = absurd cc
 numbers_are (v ∷ vs) [] e = absurd cc
 numbers_are (v ∷ vs) (w ∷ ws) e =
-    let h = both_parts (v == w) (same_numbers vs ws) e in
-    let first = equal v w h.0 in
+    let h = and_parts (v == w) (same_numbers vs ws) e in
+    let first = eqb-true v w h.0 in
     let later = numbers_are vs ws h.1 in
     λ i. first i ∷ later i
 
 firing_is : (a b : Firing) → same_firing a b ≡ true → a ≡ b
 firing_is a b e =
-    let h = both_parts ((a.rule == b.rule) && same_numbers a.taken b.taken) (same_effects a.effects b.effects) e in
-    let k = both_parts (a.rule == b.rule) (same_numbers a.taken b.taken) h.0 in
-    let rules = equal a.rule b.rule k.0 in
+    let h = and_parts ((a.rule == b.rule) && same_numbers a.taken b.taken) (same_effects a.effects b.effects) e in
+    let k = and_parts (a.rule == b.rule) (same_numbers a.taken b.taken) h.0 in
+    let rules = eqb-true a.rule b.rule k.0 in
     let numbers = numbers_are a.taken b.taken k.1 in
     let effects = effects_are a.effects b.effects h.1 in
     λ i. record { rule = rules i; taken = numbers i; effects = effects i }
@@ -97,19 +93,13 @@ fired_is None (Some b) e = absurd cc
 fired_is (Some a) None e = absurd cc
 fired_is (Some a) (Some b) e = ap (λ (f : Firing). Some f) (firing_is a b e)
 
-source_is : (a b : Source) → same_source a b ≡ true → a ≡ b
-source_is (Feed j) (Feed k) e = ap (λ (n : ℕ). Feed n) (equal j k e)
-source_is (Feed j) (Actor a) e = absurd cc
-source_is (Actor a) (Feed k) e = absurd cc
-source_is (Actor a) (Actor b) e = ap (λ (n : ℕ). Actor n) (equal a b e)
-
 entry_is : (a b : Entry) → same_entry a b ≡ true → unstamped_entry a ≡ unstamped_entry b
 entry_is a b e =
-    let h = both_parts ((a.number == b.number) && same_source a.source b.source && same_message a.message b.message) (same_fired a.firing b.firing) e in
-    let k = both_parts ((a.number == b.number) && same_source a.source b.source) (same_message a.message b.message) h.0 in
-    let l = both_parts (a.number == b.number) (same_source a.source b.source) k.0 in
-    let numbers = equal a.number b.number l.0 in
-    let sources = source_is a.source b.source l.1 in
+    let h = and_parts ((a.number == b.number) && same_source a.source b.source && same_message a.message b.message) (same_fired a.firing b.firing) e in
+    let k = and_parts ((a.number == b.number) && same_source a.source b.source) (same_message a.message b.message) h.0 in
+    let l = and_parts (a.number == b.number) (same_source a.source b.source) k.0 in
+    let numbers = eqb-true a.number b.number l.0 in
+    let sources = same_source_is a.source b.source l.1 in
     let messages = same_message_is a.message b.message k.1 in
     let firings = fired_is a.firing b.firing h.1 in
     λ i. record { number = numbers i; source = sources i; message = messages i; stamp = 0; firing = firings i }
@@ -120,7 +110,7 @@ entries_are [] [] e = refl
 entries_are [] (f ∷ fs) e = absurd cc
 entries_are (x ∷ es) [] e = absurd cc
 entries_are (x ∷ es) (f ∷ fs) e =
-    let h = both_parts (same_entry x f) (same_entries es fs) e in
+    let h = and_parts (same_entry x f) (same_entries es fs) e in
     let first = entry_is x f h.0 in
     let later = entries_are es fs h.1 in
     λ i. first i ∷ later i

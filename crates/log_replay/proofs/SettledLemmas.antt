@@ -3,7 +3,8 @@ use Rattle.std.proofs.Common.{◌≡◌, ◌∙◌, ℕ, zero, suc, ◌+◌, ◌
 use Rattle.std.specs.Prelude.{if◌then◌else◌, nat_lt, not, replicate, slice_index, slice_set, ◌&&◌, ◌||◌, ◌==◌}
 use Rattle.std.specs.List.{AllByRecursion, list_any}
 use Rattle.std.proofs.lemmas.Bool.Decides.{nat_tests}
-use Rattle.std.proofs.lemmas.List.{length-map, length-set}
+use Rattle.std.proofs.lemmas.List.{length-map, length-replicate, length-set}
+use Rattle.std.proofs.lemmas.Bool.{eqb-true}
 use Rattle.join_base.specs.Late.{Late, late_counts, late_list}
 use Rattle.join_base.specs.declared.message.Source.{Source}
 use Rattle.join_base.specs.declared.message.Source.TheVariants.{Feed, Actor}
@@ -24,11 +25,11 @@ use Rattle.log_replay.specs.Law.{AllRulesFit}
 use Rattle.fair_semantics.specs.Fair.{Sent, run_of, setting_of}
 use Rattle.fair_semantics.specs.Linked.{arrived, arrived_after, numbers_from, same_source, stamp_at, taken_from, unstamped_entry}
 use Rattle.fair_semantics.specs.Step.{State, definitions_of, is_running, letters_of}
+use Rattle.run_order.proofs.ArrivalLemmas.{length-arrived}
 use Rattle.log_replay.specs.Expected.{count_where, entries_in, expected_actor, expected_late, expected_posts, expected_run, late_in, may_be_late, next_stamp, posts_beyond, read_entries, read_late, restamped, settled, some_late, stamped_in, stamps_sent, stepped, with_entries, with_stamp}
 use Rattle.log_replay.specs.Kept.{posts_made}
 use Rattle.log_replay.specs.Settling as made
 use Rattle.log_replay.specs.Settling.{IsCounted, actor_counts, carried_by, definition_count, lates_made, link_at, links_to, made_run, made_runs, stamps_made, taken_after, with_stamps}
-use Rattle.log_replay.proofs.ActorLemmas.{length_arrived}
 use Rattle.log_replay.proofs.KeepsLemmas.{taken_more, taken_same}
 use Rattle.log_replay.proofs.ExpectedLemmas.{settled_entries}
 use Rattle.log_replay.proofs.ReadLemmas.{get_numbers}
@@ -66,9 +67,6 @@ set_other (y ∷ xs) zero (suc q) x apart = refl
 set_other (y ∷ xs) (suc p) zero x apart = refl
 set_other (y ∷ xs) (suc p) (suc q) x apart = set_other xs p q x (λ e. apart (ap suc e))
 
-equal : (a b : ℕ) → (a == b) ≡ true → a ≡ b
-equal a b e = grind (arith, nat_tests)
-
 itself : (a : ℕ) → (a == a) ≡ true
 itself a = grind (arith, nat_tests)
 
@@ -96,7 +94,7 @@ module _ (n : ℕ) (links : List (List Stamped)) (sends : Source → List Stampe
         where
           one : (a : ℕ) → a < n → (t : Bool) → (b == a) ≡ t → slice_index (slice_set taken b (slice_index taken b + 1)) a ≡ length (taken_from (Actor a) (before ++ e ∷ []))
           one a l true same =
-              let at : b ≡ a = equal b a same in
+              let at : b ≡ a = eqb-true b a same in
               subst (λ (c : ℕ). slice_index (slice_set taken b (slice_index taken b + 1)) c ≡ length (taken_from (Actor c) (before ++ e ∷ []))) at
               (set_here taken b (slice_index taken b + 1) (omega (arith, counted, h.many)) ∙ ap (λ (m : ℕ). m + 1) (h.each b counted)
               ∙ sym (taken_more b before e (ap (λ (s : Source). same_source s (Actor b)) is ∙ itself b)))
@@ -119,10 +117,6 @@ none_yet : (n a : ℕ) → slice_index (replicate n 0) a ≡ 0
 none_yet zero a = refl
 none_yet (suc n) zero = refl
 none_yet (suc n) (suc a) = none_yet n a
-
-pub length-replicate : (n : ℕ) → length (replicate n zero) ≡ n
-length-replicate zero = refl
-length-replicate (suc n) = ap suc (length-replicate n)
 
 -- ---- late counts
 
@@ -220,14 +214,14 @@ module _ (plan : Plan) (run : Run) (runs : List ActorRun) (many : length run.act
         let n : ℕ = length run.actors in
         let count = links_count runs run to 0 n in
         ap (λ (m : ℕ). stamps_made links (replicate m 0) 0 read.entries) count
-        ∙ stamps_are n links (stamps_sent plan run to) (λ k. refl) (λ a l. link_is to a (omega (arith, l, many))) (replicate n 0) 0 [] read.entries (record { many = length-replicate n; each = λ a l. none_yet n a }) counted
+        ∙ stamps_are n links (stamps_sent plan run to) (λ k. refl) (λ a l. link_is to a (omega (arith, l, many))) (replicate n 0) 0 [] read.entries (record { many = length-replicate n 0; each = λ a l. none_yet n a }) counted
 
     stamped_is : (entries : List Entry) → length entries ≤ length read.entries → with_stamps (made.stamps_in run.version links read.entries) entries ≡ stamped_in run.version sent entries
     stamped_is entries few = by (run.version == 1)
       where
         by : (b : Bool) → with_stamps (if b then replicate (length read.entries) 0 else stamps_made links (replicate (length links) 0) 0 read.entries) entries ≡ (if b then map unstamped_entry entries else restamped 0 sent entries)
         by true = unstamped_by (length read.entries) entries few
-        by false = ap (λ (ns : List ℕ). with_stamps ns entries) stamps_follow ∙ restamped_by 0 sent entries (omega (arith, few, length_arrived (stamps_sent plan run to) [] read.entries))
+        by false = ap (λ (ns : List ℕ). with_stamps ns entries) stamps_follow ∙ restamped_by 0 sent entries (omega (arith, few, length-arrived (stamps_sent plan run to) [] read.entries))
 
     -- settled, the run is the expected run of the actor
     pub finished_is : (definitions : ℕ) → definitions ≡ partial_count (letters_of (stepped plan run to).entries) [] (definitions_of (setting_of plan to run.limits).rules)

@@ -26,7 +26,7 @@ use Rattle.log_replay.proofs.SameLemmas.{entries_are}
 same_many : (es fs : List Entry) → map unstamped_entry es ≡ map unstamped_entry fs → length es ≡ length fs
 same_many es fs same = sym (length-map es unstamped_entry) ∙ ap length same ∙ length-map fs unstamped_entry
 
-stamped_like : (es fs lines : List Entry) → map unstamped_entry es ≡ map unstamped_entry fs → length es ≤ length lines → stamped_as es lines ≡ stamped_as fs lines
+pub stamped_like : (es fs lines : List Entry) → map unstamped_entry es ≡ map unstamped_entry fs → length es ≤ length lines → stamped_as es lines ≡ stamped_as fs lines
 stamped_like [] [] lines same few = refl
 stamped_like [] (f ∷ fs) lines same few = absurd cc
 stamped_like (e ∷ es) [] lines same few = absurd cc
