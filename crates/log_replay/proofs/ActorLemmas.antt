@@ -22,7 +22,9 @@ use Rattle.fair_semantics.proofs.ChainLemmas.{adds}
 use Rattle.fair_semantics.proofs.FairLemmas.{after_all-append}
 use Rattle.fair_semantics.proofs.LinkedLemmas.{feed_unstamped}
 use Rattle.run_order.proofs.ArrivalLemmas.{length-arrived}
-use Rattle.log_replay.specs.Expected.{bare, entries_in, expected_posts, read_entries, restamped, stamped_as, stamped_in, stamps_sent, stepped}
+use Rattle.run_order.specs.Sorted.{entries_in}
+use Rattle.log_posts.specs.Posts.{stamped_as}
+use Rattle.log_replay.specs.Expected.{bare, expected_posts, read_entries, restamped, stamped_in, stamps_sent, stepped}
 use Rattle.log_replay.proofs.BareLemmas.{bare_state, next_of}
 use Rattle.log_replay.proofs.TakenLemmas.{Taken, adding, bare_chain, ended, or_parts, records, restamped_is, stamped_alike, taken_count, taken_or_fewer, unsent}
 

@@ -28,7 +28,9 @@ use Rattle.fair_semantics.proofs.FairLemmas.{after_all-append}
 use Rattle.fair_semantics.proofs.ListLemmas.{each_replicate, each_in}
 use Rattle.fair_semantics.proofs.StampLemmas.{Known, ZeroOr, came_known, place_in, stamp_of_entry, found_in}
 use Rattle.join_base.specs.Stamps.{greatest_stamp}
-use Rattle.log_replay.specs.Expected.{bare, count_where, entries_in, expected_actor, expected_late, expected_posts, expected_run, may_be_late, posts_beyond, read_entries, read_late, restamped, settled, some_late, stepped}
+use Rattle.run_order.specs.Sorted.{entries_in}
+use Rattle.log_posts.specs.Lates.{count_where}
+use Rattle.log_replay.specs.Expected.{bare, expected_actor, expected_late, expected_posts, expected_run, may_be_late, posts_beyond, read_entries, read_late, restamped, settled, some_late, stepped}
 use Rattle.log_replay.specs.Feeds.{feed_shown, feeds_shown, first_copied, messages_shown}
 use Rattle.log_replay.proofs.BareLemmas.{bare_state, letters_bare}
 pub use Rattle.fair_semantics.proofs.NumberLemmas.{count_numbers, equal_at, zero_at}

@@ -21,7 +21,9 @@ use Rattle.join_base.specs.Late.{late_counts}
 use Rattle.fair_semantics.specs.Fair.{Sent, after_all, partials_of, setting_of}
 use Rattle.fair_semantics.specs.Fits.{PostFits}
 use Rattle.fair_semantics.specs.Linked.{arrived, count_of, numbers_from, posts_of, rest_of, rests_in_order, sources, taken_from, unstamped_entry, IsLinked}
-use Rattle.log_replay.specs.Expected.{count_where, entries_in, expected_actor, expected_late, expected_run, late_in, may_be_late, posts_beyond, read_entries, read_late, settled, some_late, stamped_in, stamps_sent, stepped}
+use Rattle.run_order.specs.Sorted.{entries_in}
+use Rattle.log_posts.specs.Lates.{count_where}
+use Rattle.log_replay.specs.Expected.{expected_actor, expected_late, expected_run, late_in, may_be_late, posts_beyond, read_entries, read_late, settled, some_late, stamped_in, stamps_sent, stepped}
 use Rattle.log_replay.proofs.BareLemmas.{bare_state, letters_bare}
 use Rattle.log_replay.proofs.TakenLemmas.{ended, or_parts, spent_on}
 use Rattle.log_replay.proofs.LateLemmas.{actor_count, feed_count, map_numbers, none_late}

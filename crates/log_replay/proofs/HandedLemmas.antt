@@ -28,16 +28,17 @@ use Rattle.log_replay.specs.declared.handed.Made.{Made}
 use Rattle.log_replay.specs.declared.handed.Remade.{Remade}
 use Rattle.log_replay.specs.declared.shared.Replayed.{Replayed}
 use Rattle.log_replay.specs.declared.shared.Shared.{Shared}
-use Rattle.log_replay.specs.Expected.{bare, entries_in, read_entries, with_entries, with_stamp}
-use Rattle.log_replay.specs.Handed.{AreCounted, IsHanded, IsMade, IsRemade, fired_as, is_recorded, kept_from, kept_of, without_entries}
+use Rattle.run_order.specs.Sorted.{entries_in}
+use Rattle.log_posts.specs.Posts.{with_stamp}
+use Rattle.log_replay.specs.Expected.{bare, read_entries, with_entries}
+use Rattle.log_replay.specs.Handed.{AreCounted, IsHanded, IsMade, IsRemade, fired_as, is_recorded, kept_from, kept_of}
 use Rattle.log_reader.specs.Log.{IsLogOf}
 use Rattle.log_replay.specs.Law.{AllRulesFit}
 use Rattle.log_replay.specs.Replays.{IsReplayed}
-use Rattle.log_replay.specs.Same.{same_effect, same_effects, same_entries, same_entry, same_fired, same_numbers}
-use Rattle.log_replay.specs.Settling.{with_stamps}
-use Rattle.log_replay.specs.Shared.{kept, kept_runs}
-use Rattle.log_replay.proofs.KeepsLemmas.{itself, message_itself, value_itself}
-use Rattle.log_replay.proofs.SameLemmas.{fired_is}
+use Rattle.log_posts.specs.Same.{same_effect, same_effects, same_entries, same_entry, same_fired, same_numbers}
+use Rattle.log_posts.specs.Stamps.{with_stamps}
+use Rattle.log_replay.specs.Shared.{kept, kept_runs, without_entries}
+use Rattle.log_posts.proofs.SameLemmas.{fired_is, message_itself, value_itself, itself}
 use Rattle.log_replay.proofs.ReplayLemmas.{source_counted, texts_all}
 use Rattle.std.proofs.lemmas.Slice.Eq.{bytes_eq-Decides}
 use Rattle.std.proofs.lemmas.List.{length-replicate}

@@ -23,15 +23,15 @@ use Rattle.fair_semantics.specs.Step.{is_running}
 use Rattle.arrival_log.specs.LogText.{effect_line, end_line, late_line}
 use Rattle.log_replay.specs.Expected.{expected_actor, expected_posts, read_entries}
 use Rattle.log_replay.specs.Fault.{Line, Mark, arrives, ends, entries_lines, entry_lines, firing_texts, other, other_line}
-use Rattle.log_replay.specs.Kept.{entry_size, firing_size, has_message, link_fault, same_message, same_value, same_values}
+use Rattle.log_posts.specs.Posts.{has_message}
+use Rattle.log_posts.specs.Same.{same_message, same_value, same_values}
+use Rattle.log_replay.specs.Kept.{entry_size, firing_size, link_fault}
 use Rattle.log_replay.proofs.AcceptedLemmas.{each_mapped, taken_with}
 use Rattle.log_replay.proofs.ExpectedLemmas.{running_is}
 use Rattle.log_replay.proofs.FirstLemmas.{First, first_behind}
+use Rattle.log_posts.proofs.SameLemmas.{message_itself, same_message_is, itself}
 
 -- ---- tests and facts
-
-pub itself : (a : ℕ) → (a == a) ≡ true
-itself a = grind (arith, nat_tests)
 
 -- the source of a test
 from_of : (source : Source) (from : ℕ) → same_source source (Actor from) ≡ true → source ≡ Actor from
@@ -40,40 +40,6 @@ from_of (Actor a) from e = ap (λ (n : ℕ). Actor n) (eqb-true a from e)
 
 from_is : (source : Source) (from : ℕ) → source ≡ Actor from → same_source source (Actor from) ≡ true
 from_is source from e = ap (λ (s : Source). same_source s (Actor from)) e ∙ itself from
-
-pub same_value_is : (v w : Value) → same_value v w ≡ true → v ≡ w
-same_value_is (Int a) (Int b) e = ap (λ z. Int z) ((Decides-int_eq a b).0 e)
-same_value_is (Int a) (Words text) e = absurd cc
-same_value_is (Words text) (Int b) e = absurd cc
-same_value_is (Words text) (Words second) e = ap (λ t. Words t) ((bytes_eq-Decides text second).0 e)
-
-pub value_itself : (v : Value) → same_value v v ≡ true
-value_itself (Int a) = (Decides-int_eq a a).1 refl
-value_itself (Words text) = (bytes_eq-Decides text text).1 refl
-
-same_values_are : (vs ws : List Value) → same_values vs ws ≡ true → vs ≡ ws
-same_values_are [] [] e = refl
-same_values_are [] (w ∷ ws) e = absurd cc
-same_values_are (v ∷ vs) [] e = absurd cc
-same_values_are (v ∷ vs) (w ∷ ws) e =
-    let h = and_parts (same_value v w) (same_values vs ws) e in
-    let first = same_value_is v w h.0 in
-    let later = same_values_are vs ws h.1 in
-    λ i. first i ∷ later i
-
-values_themselves : (vs : List Value) → same_values vs vs ≡ true
-values_themselves [] = refl
-values_themselves (v ∷ vs) = λ i. value_itself v i && values_themselves vs i
-
-pub same_message_is : (m k : Message) → same_message m k ≡ true → m ≡ k
-same_message_is m k e =
-    let h = and_parts (m.kind == k.kind) (same_values m.fields k.fields) e in
-    let kinds = eqb-true m.kind k.kind h.0 in
-    let fields = same_values_are m.fields k.fields h.1 in
-    λ i. record { kind = kinds i; fields = fields i }
-
-pub message_itself : (m : Message) → same_message m m ≡ true
-message_itself m = λ i. itself m.kind i && values_themselves m.fields i
 
 -- the post at a place, and its message
 has_is : (posts : List Stamped) (k : ℕ) (m : Message) → has_message (slice_get posts k) m ≡ true → slice_get (messages_of posts) k ≡ Some m

@@ -8,7 +8,6 @@ pub mod FoundLemmas
 pub mod SettlingLemmas
 pub mod SettledLemmas
 pub mod ReplayLemmas
-pub mod PostsLemmas
 pub mod FaultLemmas
 pub mod Examples
 pub mod BareLemmas
@@ -26,7 +25,6 @@ pub mod BackLemmas
 pub mod ExpectedFitsLemmas
 pub mod MadeLemmas
 pub mod ProgressLemmas
-pub mod SameLemmas
 pub mod SharedLemmas
 pub mod SwapLemmas
 pub mod WrittenLemmas

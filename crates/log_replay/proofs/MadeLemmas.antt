@@ -34,7 +34,9 @@ use Rattle.fair_semantics.proofs.ListLemmas.{each_in}
 use Rattle.fair_semantics.proofs.StampLemmas.{found_in}
 use Rattle.arrival_log.specs.LogText.{log_text}
 use Rattle.log_replay.proofs.BackLemmas.{accepted_has_one_text, expected_is_linked}
-use Rattle.log_replay.specs.Expected.{bare, count_where, entries_in, expected_actor, expected_late, expected_posts, expected_run, late_in, may_be_late, posts_beyond, read_entries, read_late, settled, some_late, stamps_sent, stepped}
+use Rattle.run_order.specs.Sorted.{entries_in}
+use Rattle.log_posts.specs.Lates.{count_where}
+use Rattle.log_replay.specs.Expected.{bare, expected_actor, expected_late, expected_posts, expected_run, late_in, may_be_late, posts_beyond, read_entries, read_late, settled, some_late, stamps_sent, stepped}
 use Rattle.log_replay.proofs.AcceptedLemmas.{each_mapped}
 use Rattle.log_replay.proofs.ConverseLemmas.{count_numbers}
 use Rattle.log_replay.proofs.ExpectedLemmas.{settled_as, settled_entries, settled_late}

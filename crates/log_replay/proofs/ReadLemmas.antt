@@ -27,7 +27,10 @@ use Rattle.fair_semantics.proofs.LinkedLemmas.{feed_unstamped}
 use Rattle.fair_semantics.proofs.ListLemmas.{each_in}
 use Rattle.fair_semantics.proofs.StampLemmas.{Known, ZeroOr, came_known, count_from, count_to-length, entry_known, found_in, max_of, place_in, stamp_of_entry, stamps}
 use Rattle.run_order.proofs.ArrivalLemmas.{length-arrived}
-use Rattle.log_replay.specs.Expected.{bare, entries_in, expected_actor, expected_late, expected_posts, expected_run, next_stamp, read_entries, restamped, stamped_as, stamped_in, stamps_sent, stepped}
+use Rattle.run_order.specs.Sorted.{entries_in}
+use Rattle.log_posts.specs.Posts.{stamped_as}
+use Rattle.log_posts.specs.Stamps.{next_stamp}
+use Rattle.log_replay.specs.Expected.{bare, expected_actor, expected_late, expected_posts, expected_run, read_entries, restamped, stamped_in, stamps_sent, stepped}
 use Rattle.log_replay.proofs.BareLemmas.{bare_state, arrival_alike, next_of}
 pub use Rattle.fair_semantics.proofs.NumberLemmas.{get_numbers}
 use Rattle.log_replay.proofs.TakenLemmas.{Follow, Taken, arrival_is, arrival_of, or_none, or_parts, records, stamped_alike, taken_count, taken_or_fewer, unsent}

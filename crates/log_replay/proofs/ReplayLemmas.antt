@@ -24,7 +24,8 @@ use Rattle.fair_semantics.specs.Step.{State, Stepped, fair_step, opening}
 use Rattle.fair_semantics.proofs.ListLemmas.{each_from}
 use Rattle.actor_turn.specs.Held.{Held, new_actor}
 use Rattle.run_fits.specs.FitsLaw.{RulesFit}
-use Rattle.log_replay.specs.Expected.{bare, entries_in, expected_run, read_entries, stepped}
+use Rattle.run_order.specs.Sorted.{entries_in}
+use Rattle.log_replay.specs.Expected.{bare, expected_run, read_entries, stepped}
 use Rattle.log_replay.specs.Law.{AllRulesFit}
 use Rattle.log_replay.specs.declared.settling.Settlement.{Settlement}
 use Rattle.log_replay.specs.Kept.{entries_size, sections_size}

@@ -26,10 +26,14 @@ use Rattle.fair_semantics.specs.Fair.{Sent, run_of, setting_of}
 use Rattle.fair_semantics.specs.Linked.{arrived, arrived_after, numbers_from, same_source, stamp_at, taken_from, unstamped_entry}
 use Rattle.fair_semantics.specs.Step.{State, definitions_of, is_running, letters_of}
 use Rattle.run_order.proofs.ArrivalLemmas.{length-arrived}
-use Rattle.log_replay.specs.Expected.{count_where, entries_in, expected_actor, expected_late, expected_posts, expected_run, late_in, may_be_late, next_stamp, posts_beyond, read_entries, read_late, restamped, settled, some_late, stamped_in, stamps_sent, stepped, with_entries, with_stamp}
-use Rattle.log_replay.specs.Kept.{posts_made}
+use Rattle.run_order.specs.Sorted.{entries_in}
+use Rattle.log_posts.specs.Lates.{actor_counts, count_where, lates_made}
+use Rattle.log_posts.specs.Posts.{posts_made, with_stamp}
+use Rattle.log_posts.specs.Stamps.{carried_by, IsCounted, link_at, next_stamp, stamps_in, stamps_made, taken_after, with_stamps}
+use Rattle.log_posts.proofs.SameLemmas.{itself}
+use Rattle.log_replay.specs.Expected.{expected_actor, expected_late, expected_posts, expected_run, late_in, may_be_late, posts_beyond, read_entries, read_late, restamped, settled, some_late, stamped_in, stamps_sent, stepped, with_entries}
 use Rattle.log_replay.specs.Settling as made
-use Rattle.log_replay.specs.Settling.{IsCounted, actor_counts, carried_by, definition_count, lates_made, link_at, links_to, made_run, made_runs, stamps_made, taken_after, with_stamps}
+use Rattle.log_replay.specs.Settling.{definition_count, links_to, made_run, made_runs}
 use Rattle.log_replay.proofs.KeepsLemmas.{taken_more, taken_same}
 use Rattle.log_replay.proofs.ExpectedLemmas.{settled_entries}
 use Rattle.log_replay.proofs.ReadLemmas.{get_numbers}
@@ -66,9 +70,6 @@ set_other (y ∷ xs) zero zero x apart = absurd (apart refl)
 set_other (y ∷ xs) zero (suc q) x apart = refl
 set_other (y ∷ xs) (suc p) zero x apart = refl
 set_other (y ∷ xs) (suc p) (suc q) x apart = set_other xs p q x (λ e. apart (ap suc e))
-
-itself : (a : ℕ) → (a == a) ≡ true
-itself a = grind (arith, nat_tests)
 
 not_equal : (a b : ℕ) → (a == b) ≡ false → a ≡ b → ⊥
 not_equal a b e p = absurd (grind (arith, nat_tests))
@@ -216,7 +217,7 @@ module _ (plan : Plan) (run : Run) (runs : List ActorRun) (many : length run.act
         ap (λ (m : ℕ). stamps_made links (replicate m 0) 0 read.entries) count
         ∙ stamps_are n links (stamps_sent plan run to) (λ k. refl) (λ a l. link_is to a (omega (arith, l, many))) (replicate n 0) 0 [] read.entries (record { many = length-replicate n 0; each = λ a l. none_yet n a }) counted
 
-    stamped_is : (entries : List Entry) → length entries ≤ length read.entries → with_stamps (made.stamps_in run.version links read.entries) entries ≡ stamped_in run.version sent entries
+    stamped_is : (entries : List Entry) → length entries ≤ length read.entries → with_stamps (stamps_in run.version links read.entries) entries ≡ stamped_in run.version sent entries
     stamped_is entries few = by (run.version == 1)
       where
         by : (b : Bool) → with_stamps (if b then replicate (length read.entries) 0 else stamps_made links (replicate (length links) 0) 0 read.entries) entries ≡ (if b then map unstamped_entry entries else restamped 0 sent entries)
@@ -235,7 +236,7 @@ module _ (plan : Plan) (run : Run) (runs : List ActorRun) (many : length run.act
         let own : ActorRun = run_of rules (settled state late) in
         let settled_too = ap (λ (ls : List (Source × ℕ)). made.settled_run (run_of rules state) ls definitions) lates ∙ settled_is to rules state late definitions count in
         let few : length own.entries ≤ length read.entries = omega (arith, ap length (settled_entries state late), few_stepped plan run to, ap length lines_are) in
-        (λ i. with_entries (settled_too i) (with_stamps (made.stamps_in run.version links read.entries) (settled_too i).entries))
+        (λ i. with_entries (settled_too i) (with_stamps (stamps_in run.version links read.entries) (settled_too i).entries))
         ∙ ap (with_entries own) (stamped_is own.entries few)
         ∙ (λ i. with_entries own (stamped_in run.version (arrived (stamps_sent plan run to) (sym lines_are i)) own.entries))
 

@@ -16,8 +16,8 @@ use Rattle.log_replay.specs.declared.shared.Replayed.{Replayed}
 use Rattle.log_replay.specs.declared.shared.Shared.{Shared}
 use Rattle.log_replay.specs.Expected.{bare, with_entries}
 use Rattle.log_replay.specs.Law.{AllRulesFit}
-use Rattle.log_replay.specs.Same.{same_fired}
-use Rattle.log_replay.specs.Settling.{with_stamps}
+use Rattle.log_posts.specs.Same.{same_fired}
+use Rattle.log_posts.specs.Stamps.{with_stamps}
 use Rattle.log_replay.specs.Shared.{kept, kept_runs}
 
 -- what an arrival fired, where there is one
@@ -41,9 +41,6 @@ made_of plan limits feeds index entries = fair_run plan index limits feeds (map 
 pub record IsMade (plan : Plan) (limits : Limits) (feeds index : ℕ) (entries : List Entry) (made : Made) : Type 0 where
   pub own : made.own ≡ made_of plan limits feeds index entries
   pub back : with_stamps made.stamps made.own.entries ≡ entries
-
-abbrev pub without_entries : ActorRun → Shared
-without_entries own = record { as_read = true; stamps = []; own = with_entries own [] }
 
 abbrev pub kept_of : Plan → Limits → ℕ → ℕ → List Entry → Shared
 kept_of plan limits feeds index entries = kept entries (made_of plan limits feeds index entries)

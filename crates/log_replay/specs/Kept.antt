@@ -14,38 +14,8 @@ use Rattle.fair_semantics.specs.declared.run.Firing.{Firing}
 use Rattle.fair_semantics.specs.declared.run.Run.{Run}
 use Rattle.fair_semantics.specs.Linked.{entry_posts, numbers_from, same_source}
 use Rattle.fair_semantics.specs.Step.{is_running}
-use Rattle.log_replay.specs.Expected.{entries_in, stamped_as}
-
--- ---- equality of messages
-
-abbrev pub same_value : Value → Value → Bool
-same_value (Int a) (Int b) = int_eq a b
-same_value (Int a) (Words text) = false
-same_value (Words text) (Int b) = false
-same_value (Words text) (Words other) = bytes_eq text other
-
-abbrev pub same_values : List Value → List Value → Bool
-same_values [] [] = true
-same_values [] (w ∷ others) = false
-same_values (v ∷ values) [] = false
-same_values (v ∷ values) (w ∷ others) = same_value v w && same_values values others
-
-abbrev pub same_message : Message → Message → Bool
-same_message a b = (a.kind == b.kind) && same_values a.fields b.fields
-
--- ---- the posts of a link
-
-abbrev pub line_stamp : Option Entry → ℕ → ℕ
-line_stamp None stamp = stamp
-line_stamp (Some line) stamp = line.stamp
-
--- the posts to an actor by the entries that were made, each with the stamp of the line that was read at its place
-abbrev pub posts_made : ℕ → List Entry → List Entry → List Stamped
-posts_made to made lines = flat_map (entry_posts to) (stamped_as made lines)
-
-abbrev pub has_message : Option Stamped → Message → Bool
-has_message None message = false
-has_message (Some post) message = same_message post.message message
+use Rattle.run_order.specs.Sorted.{entries_in}
+use Rattle.log_posts.specs.Posts.{has_message, posts_made}
 
 -- ---- the first line that does not hold
 
