@@ -1,5 +1,5 @@
 -- The posts of a link, one entry more.
-use Rattle.std.proofs.Common.{◌≡◌, ◌∙◌, ℕ, zero, suc, ◌+◌, ◌<◌, List, [], ◌∷◌, ◌++◌, length, drop, get_or, Bool, true, false, slice_get, append_assoc, refl, sym, ap, arith}
+use Rattle.std.proofs.Common.{◌≡◌, ◌∙◌, ℕ, zero, suc, ◌+◌, ◌<◌, List, [], ◌∷◌, ◌++◌, length, drop, get_or, slice_get, append_assoc, refl, sym, ap, arith}
 use Rattle.std.specs.List.{filter_map, flat_map}
 use Rattle.std.proofs.Math.Seq.{drop-nil}
 use Rattle.join_base.specs.declared.message.Stamped.{Stamped}

@@ -6,8 +6,6 @@ use Rattle.std.proofs.lemmas.Slice.Eq.{bytes_eq-Decides}
 use Rattle.std.proofs.lemmas.Bool.{and_parts, eqb-true}
 use Rattle.std.proofs.Math.Bool.{and-false}
 use Rattle.join_base.specs.declared.message.Message.{Message}
-use Rattle.join_base.specs.declared.message.Source.{Source}
-use Rattle.join_base.specs.declared.message.Source.TheVariants.{Feed, Actor}
 use Rattle.join_base.specs.declared.message.Value.{Value}
 use Rattle.join_base.specs.declared.message.Value.TheVariants.{Int, Words}
 use Rattle.fair_semantics.specs.declared.run.Effect.{Effect}

@@ -1,10 +1,10 @@
 -- A run that is its own expected run, and of whose posts the lines are right, is linked to the feeds that it shows.
-use Rattle.std.proofs.Common.{◌≡◌, ◌∙◌, ◌⊎◌, inl, inr, ℕ, zero, suc, ◌+◌, ◌-◌, ◌^◌, ◌<◌, ◌≤◌, min, max, List, [], ◌∷◌, ◌++◌, length, length-append, map, take, drop, Bool, true, false, Option, None, Some, slice_get, refl, ap, sym, subst, arith}
+use Rattle.std.proofs.Common.{◌≡◌, ◌∙◌, inl, inr, ℕ, zero, suc, ◌+◌, ◌-◌, ◌^◌, ◌<◌, ◌≤◌, min, max, List, [], ◌∷◌, ◌++◌, length, length-append, map, take, drop, Bool, true, false, Option, None, Some, slice_get, refl, ap, sym, subst, arith}
 use Rattle.std.specs.Prelude.{if◌then◌else◌, nat_le, not, ◌||◌, ◌&&◌, ◌==◌, slice_index}
 use Rattle.std.specs.List.{AllByRecursion, flat_map}
 use Rattle.std.proofs.lemmas.List.{length-map, length-drop, length-replicate}
 use Rattle.std.proofs.lemmas.Bool.Decides.{nat_tests}
-use Rattle.std.proofs.lemmas.Bool.{eqb-true, and_left, and_right}
+use Rattle.std.proofs.lemmas.Bool.{eqb-true, and_left}
 use Rattle.join_base.specs.declared.message.Message.{Message}
 use Rattle.join_base.specs.declared.message.Stamped.{Stamped}
 use Rattle.join_base.specs.declared.message.Source.{Source}
@@ -42,10 +42,11 @@ use Rattle.fair_semantics.proofs.CountedLemmas.{Among, counted, ended_late, occu
 use Rattle.run_order.proofs.ArrivalLemmas.{length-arrived}
 use Rattle.log_replay.proofs.ActorLemmas.{arrived_unsent}
 use Rattle.log_replay.proofs.BoundLemmas.{most}
-use Rattle.log_replay.proofs.ExpectedLemmas.{none_at, not_false, running_is, settled_as, settled_entries, settled_late}
+use Rattle.log_replay.proofs.ExpectedLemmas.{none_at, not_false, running_is}
 use Rattle.log_replay.proofs.FeedLemmas.{among_sources, bare_fed, count_small, fed, feed_to, first_of, next_posts}
 use Rattle.log_replay.proofs.AcceptedLemmas.{SectionKeeps, each_mapped}
 use Rattle.log_replay.proofs.ReadLemmas.{bare_taken, came, expected_is, few, own_expected, stamped_came, stamped_chain, stamps_small}
+use Rattle.log_replay.proofs.EndingLemmas.{Ends, ends_behind, settled_as, settled_entries, settled_late}
 
 index_numbers : (f : ℕ → ℕ) (begin n k : ℕ) → k < n → slice_index (map f (numbers_from begin n)) k ≡ f (begin + k)
 index_numbers f begin zero k l = absurd (omega arith)
@@ -316,47 +317,19 @@ module _ (plan : Plan) (run : Run) (fit : RunFits plan run) (few_actors : length
     abbrev end : State
     end = settled replayed late
 
-    pub record Ends : Type 0 where
-      pub live : end.live ≡ at_last.live
-      pub ending : end.ending ≡ at_last.ending
-
-    keeps_on : (is_running replayed.ending && some_late late) ≡ false → at_last.live ≡ at_arrivals.live → at_last.ending ≡ at_arrivals.ending → Ends
-    keeps_on e live ends =
-        let is = settled_as replayed late false e in
-        record {
-          live = ap (λ (s : State). s.live) is ∙ sym (ap (λ (s : State). s.live) same_state) ∙ sym live;
-          ending = ap (λ (s : State). s.ending) is ∙ sym (ap (λ (s : State). s.ending) same_state) ∙ sym ends;
-        }
-
-    ends_as : Ends
-    ends_as = by (is_running at_arrivals.ending) refl
+    ends_as : Ends setting at_arrivals replayed late behind
+    ends_as = ends_behind setting at_arrivals replayed late behind record {
+      same = same_state;
+      refused = refused;
+      nothing = λ e. none_behind (listed ∙ none_listed_of late e);
+      no_count = λ running none. none_late late (no_counts none);
+    }
       where
-        spends : (first : Sent) (more : List Sent) → behind ≡ first ∷ more → is_running at_arrivals.ending ≡ true → (b : Bool) → some_late late ≡ b → Ends
-        spends first more is running false e = let clash : first ∷ more ≡ [] = sym is ∙ none_behind (listed ∙ none_listed_of late e) in absurd cc
-        spends first more is running true e =
-            let o = spent_on setting first more at_arrivals running (refused first more is running) in
-            let last : at_last ≡ after_all setting at_arrivals (first ∷ more) = ap (after_all setting at_arrivals) is in
-            let both : (is_running replayed.ending && some_late late) ≡ true = λ i. (sym (ap (λ (s : State). is_running s.ending) same_state) ∙ running) i && e i in
-            let spent = settled_as replayed late true both in
-            record {
-              live = ap (λ (s : State). s.live) spent ∙ sym o.live ∙ sym (ap (λ (s : State). s.live) last);
-              ending = ap (λ (s : State). s.ending) spent ∙ sym o.ending ∙ sym (ap (λ (s : State). s.ending) last);
-            }
-
-        runs : is_running at_arrivals.ending ≡ true → (xs : List Sent) → behind ≡ xs → Ends
-        runs running [] none =
+        no_counts : behind ≡ [] → late_counts late ≡ []
+        no_counts none =
             let last : at_last ≡ at_arrivals = ap (after_all setting at_arrivals) none in
-            let zeros : late_counts first_state.late ≡ [] = none_counted first_state.late (each_replicate (λ n. n ≡ 0) run.feeds 0 refl) (each_replicate (λ n. n ≡ 0) (length plan.actors) 0 refl) in
-            let all : late_counts late ≡ [] = ap late_counts (late_equal ∙ ap (λ (s : State). s.late) last ∙ not_late setting sent first_state sent_taken) ∙ zeros in
-            keeps_on (and_right (is_running replayed.ending) (some_late late) (none_late late all)) (ap (λ (s : State). s.live) last) (ap (λ (s : State). s.ending) last)
-        runs running (first ∷ more) is = spends first more is running (some_late late) refl
-
-        by : (b : Bool) → is_running at_arrivals.ending ≡ b → Ends
-        by false e =
-            let o = ended setting behind at_arrivals e in
-            let stopped : is_running replayed.ending ≡ false = sym (ap (λ (s : State). is_running s.ending) same_state) ∙ e in
-            keeps_on (and_left (is_running replayed.ending) (some_late late) stopped) o.live o.ending
-        by true e = runs e behind refl
+            ap late_counts (late_equal ∙ ap (λ (s : State). s.late) last ∙ not_late setting sent first_state sent_taken)
+            ∙ none_counted first_state.late (each_replicate (λ n. n ≡ 0) run.feeds 0 refl) (each_replicate (λ n. n ≡ 0) (length plan.actors) 0 refl)
 
     -- ---- the run of the actor
 

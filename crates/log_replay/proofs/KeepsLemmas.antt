@@ -1,17 +1,14 @@
 -- The first line of a run that does not hold of posts, against what its lines keep.
 use Rattle.std.proofs.Common.{◌≡◌, inl, ◌∙◌, ℕ, zero, suc, ◌+◌, ◌<◌, ◌≤◌, List, [], ◌∷◌, ◌++◌, length, length-append, map, Bool, true, false, Option, None, Some, append_assoc, append-nil, slice_get, refl, sym, ap, subst, arith}
-use Rattle.std.specs.Prelude.{◌&&◌, ◌==◌, nat_lt, if◌then◌else◌}
+use Rattle.std.specs.Prelude.{◌&&◌, nat_lt, if◌then◌else◌}
 use Rattle.std.specs.List.{AllByRecursion, cons_option}
-use Rattle.std.proofs.lemmas.Bool.Decides.{nat_tests, Decides-int_eq}
+use Rattle.std.proofs.lemmas.Bool.Decides.{nat_tests}
 use Rattle.std.proofs.lemmas.List.{length-map}
-use Rattle.std.proofs.lemmas.Slice.Eq.{bytes_eq-Decides}
 use Rattle.std.proofs.lemmas.Bool.{and_parts, eqb-true}
 use Rattle.join_base.specs.declared.message.Message.{Message}
 use Rattle.join_base.specs.declared.message.Source.{Source}
 use Rattle.join_base.specs.declared.message.Source.TheVariants.{Feed, Actor}
 use Rattle.join_base.specs.declared.message.Stamped.{Stamped}
-use Rattle.join_base.specs.declared.message.Value.{Value}
-use Rattle.join_base.specs.declared.message.Value.TheVariants.{Int, Words}
 use Rattle.script_types.specs.declared.plan.Plan.{Plan}
 use Rattle.fair_semantics.specs.declared.run.ActorRun.{ActorRun}
 use Rattle.fair_semantics.specs.declared.run.Ending.TheVariants as ending
@@ -24,7 +21,7 @@ use Rattle.arrival_log.specs.LogText.{effect_line, end_line, late_line}
 use Rattle.log_replay.specs.Expected.{expected_actor, expected_posts, read_entries}
 use Rattle.log_replay.specs.Fault.{Line, Mark, arrives, ends, entries_lines, entry_lines, firing_texts, other, other_line}
 use Rattle.log_posts.specs.Posts.{has_message}
-use Rattle.log_posts.specs.Same.{same_message, same_value, same_values}
+use Rattle.log_posts.specs.Same.{same_message}
 use Rattle.log_replay.specs.Kept.{entry_size, firing_size, link_fault}
 use Rattle.log_replay.proofs.AcceptedLemmas.{each_mapped, taken_with}
 use Rattle.log_replay.proofs.ExpectedLemmas.{running_is}

@@ -5,7 +5,6 @@ pub mod TextLemmas
 pub mod KeepsLemmas
 pub mod SectionLemmas
 pub mod FoundLemmas
-pub mod SettlingLemmas
 pub mod SettledLemmas
 pub mod ReplayLemmas
 pub mod FaultLemmas
@@ -16,6 +15,7 @@ pub mod LateLemmas
 pub mod ActorLemmas
 pub mod BoundLemmas
 pub mod SizeLemmas
+pub mod EndingLemmas
 pub mod ExpectedLemmas
 pub mod AcceptedLemmas
 pub mod ReadLemmas

@@ -39,8 +39,8 @@ use Rattle.log_posts.specs.Lates.{count_where}
 use Rattle.log_replay.specs.Expected.{bare, expected_actor, expected_late, expected_posts, expected_run, late_in, may_be_late, posts_beyond, read_entries, read_late, settled, some_late, stamps_sent, stepped}
 use Rattle.log_replay.proofs.AcceptedLemmas.{each_mapped}
 use Rattle.log_replay.proofs.ConverseLemmas.{count_numbers}
-use Rattle.log_replay.proofs.ExpectedLemmas.{settled_as, settled_entries, settled_late}
 use Rattle.log_replay.proofs.FeedLemmas.{count_small}
+use Rattle.log_replay.proofs.EndingLemmas.{settled_as, settled_entries, settled_late}
 
 each_number : {X : Type 0} (P : X → Type 0) (f : ℕ → X) (begin n : ℕ) → ((k : ℕ) → begin ≤ k → k < begin + n → P (f k)) → AllByRecursion P (map f (numbers_from begin n))
 each_number P f begin zero h = tt

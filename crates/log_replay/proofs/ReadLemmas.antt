@@ -1,7 +1,7 @@
 -- A run that is its own expected run: each actor recorded each of its arrivals, with the stamps that the fair steps give.
-use Rattle.std.proofs.Common.{◌≡◌, ◌∙◌, inl, inr, ℕ, zero, suc, ◌+◌, ◌<◌, ◌≤◌, max, List, [], ◌∷◌, ◌++◌, length, length-append, map, Bool, true, false, Option, None, Some, slice_get, refl, ap, sym, subst, arith}
+use Rattle.std.proofs.Common.{◌≡◌, ◌∙◌, inl, inr, ℕ, suc, ◌+◌, ◌<◌, ◌≤◌, max, List, [], ◌∷◌, ◌++◌, length, length-append, map, Bool, true, false, Some, slice_get, refl, ap, sym, subst, arith}
 use Rattle.std.specs.Prelude.{if◌then◌else◌, nat_lt, nat_le, not, ◌||◌, ◌==◌}
-use Rattle.std.specs.List.{AllByRecursion, flat_map}
+use Rattle.std.specs.List.{AllByRecursion}
 use Rattle.std.proofs.lemmas.List.{length-map}
 use Rattle.std.proofs.lemmas.Option.{same_Some, slice_get_within}
 use Rattle.std.proofs.lemmas.Bool.Decides.{nat_tests}
@@ -9,7 +9,6 @@ use Rattle.join_base.specs.Stamps.{greatest_stamp}
 use Rattle.join_base.specs.declared.message.Message.{Message}
 use Rattle.join_base.specs.declared.message.Stamped.{Stamped}
 use Rattle.join_base.specs.declared.message.Source.{Source}
-use Rattle.join_base.specs.declared.message.Source.TheVariants.{Feed, Actor}
 use Rattle.join_base.proofs.EachLemmas.{each_from_get}
 use Rattle.pattern_core.specs.Members.{IsIn}
 use Rattle.pattern_core.proofs.MembersLemmas.{IsIn-flat_map_from, IsIn-map_from}
@@ -18,12 +17,11 @@ use Rattle.fair_semantics.specs.declared.run.Entry.{Entry}
 use Rattle.fair_semantics.specs.declared.run.ActorRun.{ActorRun}
 use Rattle.fair_semantics.specs.declared.run.Run.{Run}
 use Rattle.fair_semantics.specs.Step.{Setting, State, entry_with, fits, is_refused, is_running, latest_stamp, opening}
-use Rattle.fair_semantics.specs.Fair.{Sent, after_all, fair, setting_of}
+use Rattle.fair_semantics.specs.Fair.{Sent, after_all, setting_of}
 use Rattle.fair_semantics.specs.Fits.{EntryFits, RunFits}
-use Rattle.fair_semantics.specs.Linked.{arrived, arrived_after, entry_posts, numbers_from, posts_in, posts_of, stamp_at, taken_from, unstamped_entry}
+use Rattle.fair_semantics.specs.Linked.{arrived, arrived_after, numbers_from, posts_in, posts_of, stamp_at, taken_from, unstamped_entry}
 use Rattle.fair_semantics.specs.StampLaw.{arrivals_of}
 use Rattle.fair_semantics.proofs.FairLemmas.{latest_stamp-more}
-use Rattle.fair_semantics.proofs.LinkedLemmas.{feed_unstamped}
 use Rattle.fair_semantics.proofs.ListLemmas.{each_in}
 use Rattle.fair_semantics.proofs.StampLemmas.{Known, ZeroOr, came_known, count_from, count_to-length, entry_known, found_in, max_of, place_in, stamp_of_entry, stamps}
 use Rattle.run_order.proofs.ArrivalLemmas.{length-arrived}
@@ -36,7 +34,7 @@ pub use Rattle.fair_semantics.proofs.NumberLemmas.{get_numbers}
 use Rattle.log_replay.proofs.TakenLemmas.{Follow, Taken, arrival_is, arrival_of, or_none, or_parts, records, stamped_alike, taken_count, taken_or_fewer, unsent}
 use Rattle.log_replay.proofs.ActorLemmas.{arrived_same, taken_few, unstamped_twice, posts_are, stamps_are}
 use Rattle.log_replay.proofs.BoundLemmas.{most, one_or_two, sum_at_most}
-use Rattle.log_replay.proofs.ExpectedLemmas.{settled_entries}
+use Rattle.log_replay.proofs.EndingLemmas.{settled_entries}
 
 -- ---- stamps
 

@@ -36,7 +36,7 @@ use Rattle.log_replay.proofs.SwapLemmas.{kept_shown, kept_stamps, settled_shown,
 use Rattle.std.specs.Prelude.{slice_set}
 use Rattle.std.proofs.lemmas.List.{length-set}
 use Rattle.join_base.specs.declared.message.Stamped.{Stamped}
-use Rattle.actor_turn.specs.Held.{first_of, posts_behind, posts_for, without_first}
+use Rattle.actor_turn.specs.Held.{first_of, posts_for, without_first}
 use Rattle.log_replay.proofs.MadeLemmas.{read_fit}
 use Rattle.log_replay.proofs.SettledLemmas.{replay_is, sources_counted}
 use Rattle.log_replay.proofs.ConverseLemmas.{count_numbers}

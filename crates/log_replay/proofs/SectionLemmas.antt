@@ -20,16 +20,16 @@ use Rattle.guard_eval.proofs.ReadyLemmas.{each_at}
 use Rattle.arrival_log.specs.LogText.{end_line, head_line, late_line, line as text_line}
 use Rattle.run_order.proofs.ArrivalLemmas.{length-arrived}
 use Rattle.run_order.specs.Sorted.{entries_in}
-use Rattle.log_posts.specs.Posts.{posts_made, stamped_as, with_stamp}
+use Rattle.log_posts.specs.Posts.{posts_made}
 use Rattle.log_replay.specs.Expected.{bare, expected_actor, expected_late, expected_posts, expected_run, read_entries, stamped_in, stamps_sent, stepped, unstamped_actor}
 use Rattle.log_replay.specs.Fault.{Keeps, Line, Mark, ends, entries_lines, entry_lines, firing_texts, lines_of, other_line, section_lines, sections_from}
 use Rattle.log_replay.specs.Kept.{earlier, ends_running, entries_size, link_of, links_fault, posts_fault, section_fault, section_size, sections_fault}
 use Rattle.log_replay.proofs.AcceptedLemmas.{each_mapped}
-use Rattle.log_replay.proofs.ExpectedLemmas.{settled_entries}
 use Rattle.log_replay.proofs.FirstLemmas.{First, first_all, first_both, first_else, first_pass, first_same}
 use Rattle.log_replay.proofs.KeepsLemmas.{LinkKeeps, entries_first, firing_count}
 use Rattle.log_replay.proofs.ReadLemmas.{get_numbers, stamped_bare, stamped_few}
 use Rattle.log_replay.proofs.SwapLemmas.{stamped_like}
+use Rattle.log_replay.proofs.EndingLemmas.{settled_entries}
 
 -- ---- the posts of the expected run
 

@@ -34,11 +34,16 @@ use Rattle.log_posts.proofs.SameLemmas.{itself}
 use Rattle.log_replay.specs.Expected.{expected_actor, expected_late, expected_posts, expected_run, late_in, may_be_late, posts_beyond, read_entries, read_late, restamped, settled, some_late, stamped_in, stamps_sent, stepped, with_entries}
 use Rattle.log_replay.specs.Settling as made
 use Rattle.log_replay.specs.Settling.{definition_count, links_to, made_run, made_runs}
+use Rattle.log_replay.proofs.ConverseLemmas.{count_numbers}
 use Rattle.log_replay.proofs.KeepsLemmas.{taken_more, taken_same}
-use Rattle.log_replay.proofs.ExpectedLemmas.{settled_entries}
 use Rattle.log_replay.proofs.ReadLemmas.{get_numbers}
 use Rattle.log_replay.proofs.SectionLemmas.{few_stepped}
-use Rattle.log_replay.proofs.SettlingLemmas.{links_count}
+use Rattle.log_replay.proofs.EndingLemmas.{settled_entries}
+
+-- ---- links
+
+pub links_count : (made : List ActorRun) (run : Run) (to from n : ℕ) → length (links_to made run to from n) ≡ n
+links_count made run to from n = length-map (numbers_from from n) (λ k. posts_made to (entries_in (slice_get made k)) (entries_in (slice_get run.actors k))) ∙ count_numbers from n
 
 -- ---- stamps
 

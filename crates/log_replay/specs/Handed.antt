@@ -1,5 +1,5 @@
 -- The replay of a run that is handed over.
-use Rattle.std.specs.Prelude.{◌≡◌, ℕ, ◌+◌, List, [], ◌∷◌, Bool, true, false, ◌&&◌, ◌==◌, nat_lt, Option, None, Some, length, map, slice_get}
+use Rattle.std.specs.Prelude.{◌≡◌, ℕ, ◌+◌, List, [], ◌∷◌, Bool, false, ◌&&◌, ◌==◌, nat_lt, Option, None, Some, length, map, slice_get}
 use Rattle.std.specs.List.{AllByRecursion}
 use Rattle.join_base.specs.Late.{HasCount}
 use Rattle.script_types.specs.declared.plan.Plan.{Plan}
@@ -14,7 +14,7 @@ use Rattle.log_replay.specs.declared.handed.Made.{Made}
 use Rattle.log_replay.specs.declared.handed.Remade.{Remade}
 use Rattle.log_replay.specs.declared.shared.Replayed.{Replayed}
 use Rattle.log_replay.specs.declared.shared.Shared.{Shared}
-use Rattle.log_replay.specs.Expected.{bare, with_entries}
+use Rattle.log_replay.specs.Expected.{bare}
 use Rattle.log_replay.specs.Law.{AllRulesFit}
 use Rattle.log_posts.specs.Same.{same_fired}
 use Rattle.log_posts.specs.Stamps.{with_stamps}

@@ -1,18 +1,12 @@
 -- What the lines of a run say of posts, beside its expected run: the first that does not hold. Lines are counted from 0.
-use Rattle.std.specs.Prelude.{ℕ, ◌+◌, min, List, [], ◌∷◌, Bool, false, true, ◌&&◌, ◌==◌, nat_lt, Option, None, Some, length, slice_get, if◌then◌else◌}
-use Rattle.std.specs.List.{flat_map}
-use Rattle.std.specs.Ordering.{int_eq}
-use Rattle.std.specs.Str.{bytes_eq}
-use Rattle.join_base.specs.declared.message.Message.{Message}
+use Rattle.std.specs.Prelude.{ℕ, ◌+◌, min, List, [], ◌∷◌, Bool, false, ◌&&◌, nat_lt, Option, None, Some, length, slice_get, if◌then◌else◌}
 use Rattle.join_base.specs.declared.message.Source.TheVariants.{Actor}
 use Rattle.join_base.specs.declared.message.Stamped.{Stamped}
-use Rattle.join_base.specs.declared.message.Value.{Value}
-use Rattle.join_base.specs.declared.message.Value.TheVariants.{Int, Words}
 use Rattle.fair_semantics.specs.declared.run.ActorRun.{ActorRun}
 use Rattle.fair_semantics.specs.declared.run.Entry.{Entry}
 use Rattle.fair_semantics.specs.declared.run.Firing.{Firing}
 use Rattle.fair_semantics.specs.declared.run.Run.{Run}
-use Rattle.fair_semantics.specs.Linked.{entry_posts, numbers_from, same_source}
+use Rattle.fair_semantics.specs.Linked.{numbers_from, same_source}
 use Rattle.fair_semantics.specs.Step.{is_running}
 use Rattle.run_order.specs.Sorted.{entries_in}
 use Rattle.log_posts.specs.Posts.{has_message, posts_made}

@@ -1,17 +1,14 @@
 -- What is made of the runs that the fair steps over the read arrivals show: late counts, endings and stamps.
-use Rattle.std.specs.Prelude.{ℕ, ◌+◌, ◌-◌, ◌^◌, ◌<◌, ◌==◌, min, not, nat_le, ◌||◌, replicate, List, [], ◌∷◌, ◌++◌, Bool, ◌&&◌, nat_lt, Option, None, Some, length, map, slice_get, slice_index, slice_set, if◌then◌else◌}
-use Rattle.join_base.specs.Late.{late_list}
+use Rattle.std.specs.Prelude.{ℕ, ◌+◌, not, nat_le, ◌||◌, List, [], ◌∷◌, Bool, ◌&&◌, nat_lt, length, map, slice_get, if◌then◌else◌}
 use Rattle.join_base.specs.declared.message.Source.{Source}
-use Rattle.join_base.specs.declared.message.Source.TheVariants.{Feed, Actor}
 use Rattle.join_base.specs.declared.message.Stamped.{Stamped}
 use Rattle.script_types.specs.declared.plan.Plan.{Plan}
 use Rattle.fair_semantics.specs.Fair.{rules_of, run_of, setting_of}
 use Rattle.fair_semantics.specs.declared.run.ActorRun.{ActorRun}
 use Rattle.fair_semantics.specs.declared.run.Ending.TheVariants as ending
-use Rattle.fair_semantics.specs.declared.run.Entry.{Entry}
 use Rattle.fair_semantics.specs.declared.run.Limits.{Limits}
 use Rattle.fair_semantics.specs.declared.run.Run.{Run}
-use Rattle.fair_semantics.specs.Linked.{count_of, numbers_from, stamp_at, taken_from}
+use Rattle.fair_semantics.specs.Linked.{numbers_from}
 use Rattle.fair_semantics.specs.Step.{is_running}
 use Rattle.log_replay.specs.declared.settling.Settlement.{Settlement}
 use Rattle.run_order.specs.Sorted.{entries_in}
