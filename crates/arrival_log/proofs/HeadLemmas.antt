@@ -49,12 +49,28 @@ arrival_parts plan version entry text pushed now rest nothing pushed_is now_is =
     ∙ append_assoc text front message
     ∙ ap (λ (piece : List ℕ). text ++ piece) (sym (arrival_whole plan version entry))
 
--- lines out of the pieces that are put into a room
-pub message_whole : (name values : List ℕ) → name ++ 40 ∷ (values ++ 41 ∷ 10 ∷ []) ≡ (name ++ (40 ∷ (values ++ 41 ∷ []))) ++ 10 ∷ []
-message_whole name values = simp append_assoc
+-- lines out of the pieces that are put into a room, before what stands there
+pub arrival_before : (plan : Plan) (version : ℕ) (entry : Entry) (rest : List ℕ) → arrival_front plan version entry ++ (message_text plan entry.message ++ 10 ∷ rest) ≡ arrival_line plan version entry ++ rest
+arrival_before plan version entry rest =
+    let front : List ℕ = arrival_front plan version entry in
+    let message : List ℕ = message_text plan entry.message in
+    sym (ap (λ (text : List ℕ). text ++ rest) (arrival_whole plan version entry) ∙ append_assoc front (message ++ 10 ∷ []) rest ∙ ap (λ (text : List ℕ). front ++ text) (append_assoc message (10 ∷ []) rest))
 
-pub fire_whole : (rule taken : List ℕ) → codes "fire rule " ++ (rule ++ (codes " take " ++ (taken ++ 10 ∷ []))) ≡ line (codes "fire rule" ∷ rule ∷ codes "take" ∷ taken ∷ [])
-fire_whole rule taken = simp append_assoc
+pub message_before : (name values rest : List ℕ) → name ++ 40 ∷ (values ++ 41 ∷ 10 ∷ rest) ≡ (name ++ (40 ∷ (values ++ 41 ∷ []))) ++ 10 ∷ rest
+message_before name values rest = simp append_assoc
 
-pub reply_whole : (number value : List ℕ) → codes "reply " ++ (number ++ (32 ∷ (value ++ 10 ∷ []))) ≡ line (codes "reply" ∷ number ∷ value ∷ [])
-reply_whole number value = simp append_assoc
+pub fire_before : (rule taken rest : List ℕ) → codes "fire rule " ++ (rule ++ (codes " take " ++ (taken ++ 10 ∷ rest))) ≡ line (codes "fire rule" ∷ rule ∷ codes "take" ∷ taken ∷ []) ++ rest
+fire_before rule taken rest = simp append_assoc
+
+pub print_before : (printed rest : List ℕ) → codes "print " ++ (printed ++ 10 ∷ rest) ≡ line (codes "print" ∷ printed ∷ []) ++ rest
+print_before printed rest = simp append_assoc
+
+pub post_before : (target message rest : List ℕ) → codes "post " ++ (target ++ 32 ∷ (message ++ 10 ∷ rest)) ≡ line (codes "post" ∷ target ∷ message ∷ []) ++ rest
+post_before target message rest = simp append_assoc
+
+pub reply_before : (number value rest : List ℕ) → codes "reply " ++ (number ++ (32 ∷ (value ++ 10 ∷ rest))) ≡ line (codes "reply" ∷ number ∷ value ∷ []) ++ rest
+reply_before number value rest = simp append_assoc
+
+-- a line that was put at the end of the room is appended
+pub line_pushed : (text line now put rest : List ℕ) → rest ≡ [] → put ≡ line ++ rest → now ≡ text ++ put → now ≡ text ++ line
+line_pushed text line now put rest nothing put_is now_is = now_is ∙ ap (λ (piece : List ℕ). text ++ piece) (put_is ∙ ap (λ (piece : List ℕ). line ++ piece) nothing ∙ append-nil line)

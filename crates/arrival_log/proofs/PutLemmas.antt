@@ -66,3 +66,13 @@ name_short name is =
     let word = (and_parts (nat_le (length name) 64 && begins_word (get_or name 0 0) && list_all goes_on_word name) (not (is_reserved name)) is).0 in
     let short = (and_parts (nat_le (length name) 64 && begins_word (get_or name 0 0)) (list_all goes_on_word name) word).0 in
     leb-true (length name) 64 (and_parts (nat_le (length name) 64) (begins_word (get_or name 0 0)) short).0
+
+-- the lines of at most one item, put at the end of a room
+pub none_put : {X : Type 0} (f : X → List ℕ) (xs : List X) (put : List ℕ) → length xs < 1 → put ≡ [] → put ≡ flat_map f xs
+none_put f [] put few is = is
+none_put f (x ∷ xs) put few is = absurd (omega (arith, few))
+
+pub one_put : {X : Type 0} (f : X → List ℕ) (xs : List X) (x : X) (rest : List ℕ) → 1 ≤ length xs → length xs < 2 → x ≡ get_or xs 0 x → rest ≡ [] → f x ++ rest ≡ flat_map f xs
+one_put f [] x rest some few here nothing = absurd (omega (arith, some))
+one_put f (y ∷ []) x rest some few here nothing = λ i. f (here i) ++ nothing i
+one_put f (y ∷ z ∷ xs) x rest some few here nothing = absurd (omega (arith, few))

@@ -7,7 +7,7 @@ use crate::parts::{
     write_count, write_ending, write_labelled, write_left, write_message, write_source, write_value,
 };
 use crate::room::ROOM;
-use crate::whole::{put_arrival, put_effect, put_fire, put_front};
+use crate::whole::{put_arrival, put_effect, put_entry, put_fire, put_front};
 use fair_semantics::{ActorRun, Effect, Entry, Firing, Run};
 use join_base::{Bytes, NoMemory, Source, write_quoted};
 use script_types::{ActorPlan, Plan, write_actor_name};
@@ -65,7 +65,7 @@ fn write_effect(
 ) -> Result<(), NoMemory>
     ensures { OnOk result (text.new ≡ text.old ++ effect_line plan.now effect.now) }
 {
-    match put_effect(room, plan, effect) {
+    match put_effect(room, ROOM, plan, effect) {
         Some(start) => push_line(text, room, start),
         None => write_effect_parts(text, plan, effect),
     }
@@ -88,7 +88,7 @@ fn write_effects(
 fn write_fire(text: &mut Bytes, room: &mut [u8; ROOM], firing: &Firing) -> Result<(), NoMemory>
     ensures { OnOk result (text.new ≡ text.old ++ fire_line firing.now) }
 {
-    let start = put_fire(room, firing);
+    let start = put_fire(room, ROOM, firing);
     push_line(text, room, start)
 }
 
@@ -137,14 +137,14 @@ fn write_arrival(
 ) -> Result<(), NoMemory>
     ensures { OnOk result (text.new ≡ text.old ++ arrival_line plan.now version (stamped entry.now stamp)) }
 {
-    match put_arrival(room, plan, version, entry, stamp) {
+    match put_arrival(room, ROOM, plan, version, entry, stamp) {
         Some(start) => push_line(text, room, start),
         None => write_arrival_parts(text, room, plan, version, entry, stamp),
     }
 }
 
-// The lines of an arrival with this stamp in place of its own, and of what it fired, put together in the room.
-fn write_entry_in(
+// The lines of an arrival with this stamp in place of its own, and of what it fired, line by line.
+fn write_entry_lines(
     text: &mut Bytes,
     room: &mut [u8; ROOM],
     plan: &Plan,
@@ -156,6 +156,23 @@ fn write_entry_in(
 {
     write_arrival(text, room, plan, version, entry, stamp)?;
     write_firing(text, room, plan, &entry.firing)
+}
+
+// The same, in one piece where the room takes them.
+fn write_entry_in(
+    text: &mut Bytes,
+    room: &mut [u8; ROOM],
+    plan: &Plan,
+    version: u32,
+    entry: &Entry,
+    stamp: u64,
+) -> Result<(), NoMemory>
+    ensures { OnOk result (text.new ≡ text.old ++ entry_lines plan.now version (stamped entry.now stamp)) }
+{
+    match put_entry(room, plan, version, entry, stamp) {
+        Some(start) => push_line(text, room, start),
+        None => write_entry_lines(text, room, plan, version, entry, stamp),
+    }
 }
 
 /// Appends the lines of an arrival with this stamp in place of its own, and of what it fired.

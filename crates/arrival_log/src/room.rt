@@ -13,8 +13,8 @@ use join_base::Value;
 /// The bytes of a room.
 pub(crate) const ROOM: usize = 512;
 
-// How many of them are kept for what stands before the values of a line.
-const FRONT: usize = 256;
+/// How many of them are kept for what stands before the values of a line.
+pub(crate) const FRONT: usize = 256;
 
 #[inline]
 pub(crate) fn put_words(room: &mut [u8; ROOM], end: usize, words: &[u8]) -> usize

@@ -4,7 +4,7 @@ use Rattle.std.specs.Prelude.{not, ◌&&◌, ◌==◌, if◌then◌else◌}
 use Rattle.std.specs.List.{position_or_len}
 use Rattle.std.specs.Option.{option_map}
 use Rattle.std.specs.Str.{bytes_eq}
-use Rattle.std.proofs.lemmas.Bool.{cases_Bool, cases_lt, lt-ltb, le-ltb}
+use Rattle.std.proofs.lemmas.Bool.{cases_Bool, cases_lt, lt-ltb, le-ltb, eqb-true}
 use Rattle.std.proofs.lemmas.Bool.Decides.{nat_tests}
 use Rattle.std.proofs.lemmas.List.{take-append-drop}
 use Rattle.std.proofs.lemmas.Slice.Eq.{bytes_eq-Decides}
@@ -72,9 +72,6 @@ pub rest_lacks : (a b : Bool) → (not a && b) ≡ true → b ≡ true
 rest_lacks true b is = absurd cc
 rest_lacks false b is = is
 
-pub same_byte : (a b : ℕ) → (a == b) ≡ true → a ≡ b
-same_byte a b t = grind (arith, nat_tests)
-
 pub itself : (a : ℕ) → (a == a) ≡ true
 itself a = grind (arith, nat_tests)
 
@@ -96,7 +93,7 @@ IsCut byte text None = lacks byte text ≡ true
 IsCut byte text (Some p) = Takes byte text p
 
 cut_more : (byte x : ℕ) (xs : List ℕ) (b : Bool) (found : Option (List ℕ × List ℕ)) → (x == byte) ≡ b → IsCut byte xs found → IsCut byte (x ∷ xs) (cut_by b x xs found)
-cut_more byte x xs true found is h = record { split = ap (λ (n : ℕ). n ∷ xs) (same_byte x byte is); none = refl }
+cut_more byte x xs true found is h = record { split = ap (λ (n : ℕ). n ∷ xs) (eqb-true x byte is); none = refl }
 cut_more byte x xs false None is h = ap (λ (b : Bool). not b && lacks byte xs) is ∙ h
 cut_more byte x xs false (Some p) is h = record { split = ap (λ (l : List ℕ). x ∷ l) h.split; none = ap (λ (b : Bool). not b && lacks byte (p.0)) is ∙ h.none }
 

@@ -1,7 +1,7 @@
 -- What is read is the line that the text is.
 use Rattle.std.proofs.Common.{◌≡◌, ◌∙◌, ℕ, ◌==◌, Bool, true, false, List, [], ◌∷◌, ◌++◌, Option, None, Some, refl, sym, ap, subst, ⊎_elim, arith}
 use Rattle.std.specs.Prelude.{not, ◌&&◌, if◌then◌else◌, IfSome, IsNone, Result, Ok, Err, IfOk}
-use Rattle.std.proofs.lemmas.Bool.{cases_Bool}
+use Rattle.std.proofs.lemmas.Bool.{cases_Bool, eqb-true}
 use Rattle.std.proofs.lemmas.List.{append_cancel_right}
 use Rattle.std.proofs.lemmas.Option.{same_Some}
 use Rattle.script_types.specs.declared.plan.Plan.{Plan}
@@ -15,7 +15,7 @@ use Rattle.script_types.specs.Typed.{IsTyped}
 use Rattle.log_lines.specs.Lines.{first_line, head_of, line_of}
 use Rattle.log_lines.specs.Forms.{HeadFits, IsHead, IsLine, TextsAreOneLine, head_text}
 use Rattle.log_lines.proofs.OptionLemmas.{bound, else_is}
-use Rattle.log_lines.proofs.NumberLemmas.{eq_true, is_one}
+use Rattle.log_lines.proofs.NumberLemmas.{eq_true}
 use Rattle.log_lines.proofs.HeadLemmas.{HeadNumbers, head_again, head_body, head_takes}
 use Rattle.log_lines.proofs.FormLemmas.{Heads, body, body_is, line_again, line_takes}
 
@@ -89,7 +89,7 @@ first_is plan text head told =
     subst (IsHead plan text) same (record {
       fits = record {
         version = numbers.version;
-        replies = λ replies. is_one read.first.version 2 (test_version (has_reply plan) (read.first.version == 2) f replies);
+        replies = λ replies. eqb-true read.first.version 2 (test_version (has_reply plan) (read.first.version == 2) f replies);
         arrivals = numbers.arrivals;
         partials = numbers.partials;
         feeds = numbers.feeds;

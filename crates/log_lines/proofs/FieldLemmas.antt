@@ -4,7 +4,7 @@ use Rattle.std.specs.Prelude.{ℤ, pos, negsuc, not, ◌&&◌}
 use Rattle.std.specs.List.{AllByRecursion}
 use Rattle.std.specs.Char.{is_ascii_digit}
 use Rattle.std.specs.Fmt.{decimal, signed_decimal}
-use Rattle.std.proofs.lemmas.Bool.{and_parts}
+use Rattle.std.proofs.lemmas.Bool.{and_parts, eqb-true}
 use Rattle.join_base.specs.Quoted.{quoted}
 use Rattle.join_base.specs.declared.message.Sort.{Sort}
 use Rattle.join_base.specs.declared.message.Sort.TheVariants as sort
@@ -21,7 +21,7 @@ use Rattle.log_lines.specs.Quoting.{quoted_at}
 use Rattle.log_lines.specs.Messages.{closed_int, closed_value, closed_words, closing, fields_of, values_at}
 use Rattle.log_lines.proofs.OptionLemmas.{then_is, where_is}
 use Rattle.log_lines.proofs.CutLemmas.{after_again, after_takes, cut_again, cut_takes}
-use Rattle.log_lines.proofs.NumberLemmas.{decimal_lacks, is_one}
+use Rattle.log_lines.proofs.NumberLemmas.{decimal_lacks}
 use Rattle.log_lines.proofs.IntLemmas.{int_again, int_takes}
 use Rattle.log_lines.proofs.QuotingLemmas.{quoted_again, quoted_takes}
 
@@ -178,7 +178,7 @@ pub record TakesFields (types : List Sort) (text : List ℕ) (values : List Valu
 
 pub no_rest : (rest : List ℕ) → (length rest == 0) ≡ true → rest ≡ []
 no_rest [] is = refl
-no_rest (b ∷ bs) is = let none : suc (length bs) ≡ 0 = is_one (suc (length bs)) 0 is in absurd (omega arith)
+no_rest (b ∷ bs) is = let none : suc (length bs) ≡ 0 = eqb-true (suc (length bs)) 0 is in absurd (omega arith)
 
 fields_by : (types : List Sort) (text : List ℕ) (values : List Value) → all_values (values_at types text) ≡ Some values → (are_of_sorts types values ≡ true) × AllByRecursion ValueFits values × (text ≡ closed_texts values)
 fields_by types text values is =

@@ -5,7 +5,7 @@ use Rattle.std.proofs.lemmas.Fmt.{decimal_nonempty}
 use Rattle.std.specs.Char.{is_ascii_digit}
 use Rattle.std.specs.Fmt.{decimal}
 use Rattle.std.specs.Str.{bytes_eq}
-use Rattle.std.proofs.lemmas.Bool.{cases_Bool, le-leb, leb-true}
+use Rattle.std.proofs.lemmas.Bool.{cases_Bool, le-leb, leb-true, eqb-true}
 use Rattle.std.proofs.lemmas.Bool.Decides.{nat_tests}
 use Rattle.std.proofs.lemmas.Option.{same_Some}
 use Rattle.std.proofs.lemmas.Slice.Eq.{bytes_eq-Decides}
@@ -33,7 +33,7 @@ use Rattle.script_types.specs.Typed.{IsTyped}
 use Rattle.log_lines.specs.Forms.{LineFits, line_text}
 use Rattle.log_lines.proofs.OptionLemmas.{bind_is, bound, else_is, where_is}
 use Rattle.log_lines.proofs.CutLemmas.{Takes, after_again, after_takes, cut_again, cut_takes, lacks_both}
-use Rattle.log_lines.proofs.NumberLemmas.{count_again, count_takes, decimal_first, decimal_lacks, eq_true, number_again, number_takes, is_one}
+use Rattle.log_lines.proofs.NumberLemmas.{count_again, count_takes, decimal_first, decimal_lacks, eq_true, number_again, number_takes}
 use Rattle.log_lines.proofs.HeadLemmas.{TakesAt, number_at_again, number_at_takes}
 use Rattle.log_lines.proofs.PlanLemmas.{TakesMessage, TakesSource, actor_again, actor_lacks, actor_takes, message_again, message_takes, source_again, source_takes}
 use Rattle.log_lines.proofs.LineLemmas.{TakesNumbers, TakesStamp, AreNumbers, decimals, numbers_again, numbers_takes, stamp_again, stamp_takes, stamped, value_again, value_takes, words_again, words_takes}
@@ -337,7 +337,7 @@ module _ (plan : Plan) (typed : IsTyped plan) (head : Head) (heads : Heads head)
       let same : Does (effect.Reply (number.first.0) given.first) ≡ l = same_Some _ _ given.result in
       let small = n.below in
       subst (TakesLine plan head (codes "reply " ++ text)) same (record {
-        fits = (is_one head.version 2 t, omega arith, v.fits);
+        fits = (eqb-true head.version 2 t, omega arith, v.fits);
         is = ap (λ (t : List ℕ). codes "reply " ++ t) (n.split ∙ ap (λ (t : List ℕ). decimal (number.first.0) ++ 32 ∷ t) v.is);
       }))
       (λ (f : (head.version == 2) ≡ false). let none = one.no f in absurd cc)

@@ -4,14 +4,14 @@ use Rattle.std.specs.Prelude.{ℤ, pos, negsuc, if◌then◌else◌, FitsSigned}
 use Rattle.std.specs.Int.{w64}
 use Rattle.std.specs.Char.{is_ascii_digit}
 use Rattle.std.specs.Fmt.{decimal, signed_decimal}
-use Rattle.std.proofs.lemmas.Bool.{cases_Bool}
+use Rattle.std.proofs.lemmas.Bool.{cases_Bool, eqb-true}
 use Rattle.std.proofs.lemmas.Bool.Decides.{nat_tests}
 use Rattle.std.proofs.lemmas.Fmt.{first_decimal}
 use Rattle.join_base.specs.Integer.{integer_of, natural_of, negative, positive}
 use Rattle.log_lines.specs.Gives.{where_true}
 use Rattle.log_lines.specs.Numbers.{first_digit, int_of, is_plain}
 use Rattle.log_lines.proofs.OptionLemmas.{else_is, where_is}
-use Rattle.log_lines.proofs.NumberLemmas.{decimal_first, decimal_plain, first_is_digit, natural_again, natural_is, natural_text, not_zero, is_one, no_sign, plain_by, plain_zero}
+use Rattle.log_lines.proofs.NumberLemmas.{decimal_first, decimal_plain, first_is_digit, natural_again, natural_is, natural_text, not_zero, no_sign, plain_by, plain_zero}
 
 signless : (text : List ℕ) → is_ascii_digit (get_or text 0 0) ≡ true → (get_or text 0 0 == 45) ≡ false
 signless text is = grind (arith, nat_tests)
@@ -50,7 +50,7 @@ negative_takes (b ∷ bs) (Some n) z sign plain told is =
     let other : get_or bs 0 0 ≢ 48 = λ zero. (let one = plain_zero (b ∷ bs) plain (first ∙ zero) in omega arith) in
     let whole = natural_text (2 ^ 63) bs n (omega arith) natural (λ zero. absurd (other zero)) in
     let above = not_zero n (λ zero. other (ap (λ (l : List ℕ). get_or l 0 0) whole ∙ zero)) in
-    negative_by (b ∷ bs) n z above natural.small (ap (λ (c : ℕ). c ∷ bs) (is_one b 45 sign) ∙ ap (λ (l : List ℕ). 45 ∷ l) whole) is
+    negative_by (b ∷ bs) n z above natural.small (ap (λ (c : ℕ). c ∷ bs) (eqb-true b 45 sign) ∙ ap (λ (l : List ℕ). 45 ∷ l) whole) is
 
 positive_takes : (text : List ℕ) (found : Option ℕ) (z : ℤ) → is_plain text ≡ true → natural_of (2 ^ 63 - 1) text ≡ found → positive found ≡ Some z → TakesInt text z
 positive_takes text None z plain told is = absurd cc

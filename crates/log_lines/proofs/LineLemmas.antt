@@ -4,7 +4,7 @@ use Rattle.std.specs.Prelude.{ℤ, pos, negsuc, codes, if◌then◌else◌}
 use Rattle.std.specs.List.{AllByRecursion}
 use Rattle.std.specs.Fmt.{decimal, signed_decimal}
 use Rattle.std.specs.Char.{is_ascii_digit}
-use Rattle.std.proofs.lemmas.Bool.{cases_Bool}
+use Rattle.std.proofs.lemmas.Bool.{cases_Bool, eqb-true}
 use Rattle.std.proofs.lemmas.Bool.Decides.{nat_tests}
 use Rattle.std.proofs.lemmas.List.Splits.{join_with_byte-slice_split, length-slice_split}
 use Rattle.std.proofs.lemmas.Option.{same_Some}
@@ -23,7 +23,7 @@ use Rattle.log_lines.specs.Messages.{all_numbers, numbers_of, value_of, words_of
 use Rattle.log_lines.specs.Lines.{count_at, stamp_at}
 use Rattle.log_lines.proofs.OptionLemmas.{bind_is, bound, else_is, where_is}
 use Rattle.log_lines.proofs.CutLemmas.{after_again, after_takes}
-use Rattle.log_lines.proofs.NumberLemmas.{decimal_first, decimal_lacks, number_again, number_takes, is_one}
+use Rattle.log_lines.proofs.NumberLemmas.{decimal_first, decimal_lacks, number_again, number_takes}
 use Rattle.log_lines.proofs.IntLemmas.{int_again, int_takes}
 use Rattle.log_lines.proofs.QuotingLemmas.{quoted_again, quoted_takes}
 use Rattle.log_lines.proofs.ListLemmas.{comma_parts, split_again, split_last}
@@ -166,7 +166,7 @@ pub stamp_again : (version stamp : ℕ) (rest : List ℕ) (b : Bool) → (versio
 unfolding stamp_at
 stamp_again version stamp rest true is low fits =
     ap (λ (b : Bool). if b then Some (0, rest) else (after (codes "at ") rest >>= count_at greatest_stamp)) is
-    ∙ ap (λ (n : ℕ). Some (n, rest)) (sym (fits.first (is_one version 1 is)))
+    ∙ ap (λ (n : ℕ). Some (n, rest)) (sym (fits.first (eqb-true version 1 is)))
 stamp_again version stamp rest false is low fits =
     let other = not_one version is in
     let second : version ≡ 2 = omega (arith, low.0, low.1, other) in
@@ -183,7 +183,7 @@ stamp_by : (version : ℕ) (text : List ℕ) (p : ℕ × List ℕ) (b : Bool) �
     → StampFits version (p.0) × (text ≡ stamped b (p.0) (p.1))
 stamp_by version text p true is told =
     let same : (0, text) ≡ p = same_Some _ _ told in
-    let one = is_one version 1 is in
+    let one = eqb-true version 1 is in
     subst (λ (q : ℕ × List ℕ). StampFits version (q.0) × (text ≡ stamped true (q.0) (q.1))) same (record { first = λ e. refl; second = λ e. absurd (omega arith) }, refl)
 stamp_by version text p false is told =
     let rest = bound {o = after (codes "at ") text} told in

@@ -4,7 +4,7 @@ use Rattle.std.specs.Prelude.{not, ◌&&◌, ◌||◌, if◌then◌else◌}
 use Rattle.std.specs.List.{list_all, fold}
 use Rattle.std.specs.Char.{is_ascii_digit}
 use Rattle.std.specs.Fmt.{decimal}
-use Rattle.std.proofs.lemmas.Bool.{and_parts, leb-true, le-leb, lt-ltb, ltb-true}
+use Rattle.std.proofs.lemmas.Bool.{and_parts, leb-true, le-leb, lt-ltb, ltb-true, eqb-true}
 use Rattle.std.proofs.lemmas.Bool.Decides.{nat_tests}
 use Rattle.std.proofs.lemmas.Fmt.{digits_decimal, digits_value-decimal, decimal_digit, decimal_nonempty, decimal-digits_value, first_decimal}
 use Rattle.std.proofs.lemmas.Str.Parse.{IsNumeralModel, numerals_by_fold}
@@ -95,14 +95,11 @@ plain_first : (a b : Bool) → (not a || b) ≡ true → a ≡ true → b ≡ tr
 plain_first true b is t = is
 plain_first false b is t = absurd cc
 
-pub is_one : (a b : ℕ) → (a == b) ≡ true → a ≡ b
-is_one a b t = grind (arith, nat_tests)
-
 pub eq_true : (a b : ℕ) → a ≡ b → (a == b) ≡ true
 eq_true a b e = grind (arith, nat_tests)
 
 pub plain_zero : (text : List ℕ) → is_plain text ≡ true → first_digit text ≡ 48 → length text ≡ 1
-plain_zero text plain is = is_one (length text) 1 (plain_first (first_digit text == 48) (length text == 1) plain (eq_true (first_digit text) 48 is))
+plain_zero text plain is = eqb-true (length text) 1 (plain_first (first_digit text == 48) (length text == 1) plain (eq_true (first_digit text) 48 is))
 
 pub decimal_plain : (n : ℕ) → n < 2 ^ 64 → is_plain (decimal n) ≡ true
 decimal_plain zero small = ap is_plain (decimal_digit 0 (omega arith))

@@ -2,7 +2,7 @@
 use Rattle.std.proofs.Common.{◌≡◌, ◌∙◌, ℕ, suc, ◌+◌, ◌≤◌, ◌==◌, nat_lt, Bool, true, false, List, [], ◌∷◌, ◌++◌, length, map, None, Some, refl, sym, ap, subst, append_assoc, append-nil, length-append, arith}
 use Rattle.std.specs.Prelude.{not, ◌&&◌, if◌then◌else◌, Err}
 use Rattle.std.specs.List.{AllByRecursion}
-use Rattle.std.proofs.lemmas.Bool.{and_parts, ltb-false, not-true}
+use Rattle.std.proofs.lemmas.Bool.{and_parts, ltb-false, not-true, eqb-true}
 use Rattle.std.proofs.lemmas.Option.{same_Some}
 use Rattle.std.proofs.lemmas.List.Concat.{flat_map-append}
 use Rattle.script_types.specs.declared.plan.Plan.{Plan}
@@ -15,10 +15,11 @@ use Rattle.script_types.specs.Typed.{IsTyped}
 use Rattle.log_lines.specs.Lines.{head_of}
 use Rattle.log_lines.specs.Forms.{HeadFits, IsHead, IsLine, LineFits, head_text, line_text}
 use Rattle.log_lines.proofs.CutLemmas.{cut_takes}
-use Rattle.log_lines.proofs.NumberLemmas.{eq_true, is_one}
+use Rattle.log_lines.proofs.NumberLemmas.{eq_true}
 use Rattle.log_lines.proofs.HeadLemmas.{head_again, head_body}
 use Rattle.log_lines.proofs.FormLemmas.{body}
 use Rattle.log_lines.proofs.ExactLemmas.{numbers_of_head, texts_are_one_line}
+use Rattle.log_lines.proofs.FieldLemmas.{no_rest}
 use Rattle.log_reader.specs.declared.draft.Draft.{Draft}
 use Rattle.log_reader.specs.declared.draft.Open.{Open}
 use Rattle.log_reader.specs.declared.draft.Open.TheVariants.{Heading, Entries, Arrived, Fired, Lates}
@@ -189,7 +190,7 @@ not_open (Lates last) is = absurd cc
 pub reads_all : (plan : Plan) (bytes rest : List ℕ) (number : ℕ) (draft : Draft) → Reads plan bytes rest number draft → rest ≡ [] → is_done plan draft ≡ true → IsLogOf plan bytes (run_of draft)
 reads_all plan bytes rest number draft reads empty done =
     let parts = and_parts (not (is_open draft.reached)) (length draft.actors == length plan.actors) done in
-    let same = is_one (length draft.actors) (length plan.actors) parts.1 in
+    let same = eqb-true (length draft.actors) (length plan.actors) parts.1 in
     let at : draft.reached ≡ Heading = not_open draft.reached (not-true (is_open draft.reached) parts.0) in
     let sound = reads.sound in
     let head = draft.head in
@@ -212,14 +213,10 @@ reads_all plan bytes rest number draft reads empty done =
           ∙ sym (log_is plan (run_of draft) same);
     }
 
-no_bytes : (rest : List ℕ) → (length rest == 0) ≡ true → rest ≡ []
-no_bytes [] is = refl
-no_bytes (b ∷ bs) is = let none : suc (length bs) ≡ 0 = is_one (suc (length bs)) 0 is in absurd (omega arith)
-
 pub reads_whole : (plan : Plan) (bytes rest : List ℕ) (number : ℕ) (draft : Draft) → Reads plan bytes rest number draft → (length rest == 0 && is_done plan draft) ≡ true → IsLogOf plan bytes (run_of draft)
 reads_whole plan bytes rest number draft reads whole =
     let parts = and_parts (length rest == 0) (is_done plan draft) whole in
-    reads_all plan bytes rest number draft reads (no_bytes rest parts.0) parts.1
+    reads_all plan bytes rest number draft reads (no_rest rest parts.0) parts.1
 
 not_whole : (rest : List ℕ) (done : Bool) → (length rest == 0 && done) ≡ false → rest ≡ [] → done ≡ true → ⊥
 not_whole rest done is empty holds =

@@ -4,6 +4,7 @@ use Rattle.std.specs.List.{flat_map}
 use Rattle.std.proofs.lemmas.List.{map-append}
 use Rattle.std.proofs.lemmas.List.Concat.{flat_map-append}
 use Rattle.std.proofs.lemmas.Option.{same_Some}
+use Rattle.std.proofs.lemmas.Bool.{eqb-true}
 use Rattle.join_base.specs.declared.message.Source.{Source}
 use Rattle.fair_semantics.specs.declared.run.Effect.{Effect}
 use Rattle.fair_semantics.specs.declared.run.Ending.{Ending}
@@ -17,7 +18,6 @@ use Rattle.log_lines.specs.declared.line.LogLine.{LogLine}
 use Rattle.log_lines.specs.declared.line.LogLine.TheVariants as line
 use Rattle.log_lines.specs.Forms.{entry_with, fired}
 use Rattle.log_lines.proofs.OptionLemmas.{where_is}
-use Rattle.log_lines.proofs.NumberLemmas.{is_one}
 use Rattle.log_reader.specs.declared.draft.Draft.{Draft}
 use Rattle.log_reader.specs.declared.draft.Open.{Open}
 use Rattle.log_reader.specs.declared.draft.Open.TheVariants.{Heading, Entries, Arrived, Fired, Lates}
@@ -100,7 +100,7 @@ module _ (head : Head) (actors : List ActorRun) (es : List Entry) (lts : List (S
   begins_shows : (number : ℕ) (draft : Draft) → Clean Heading es lts → step (draft_at Heading) (line.Heading number) ≡ Some draft → Adds Heading (line.Heading number) draft
   begins_shows number draft clean is =
       let by = where_is (number == length actors) (Some (draft_at Entries)) draft is in
-      let here = is_one number (length actors) by.test in
+      let here = eqb-true number (length actors) by.test in
       gave Heading (line.Heading number) (draft_at Entries) draft by.is
       (ap (λ (t : List LogLine). front ++ line.Heading (length actors) ∷ t) (ap (λ (l : List Entry). inner_log (l ++ []) lts) clean.0 ∙ ap (λ (l : List (Source × ℕ)). map late_log l) clean.1)
       ∙ ap (λ (n : ℕ). front ++ line.Heading n ∷ []) (sym here)

@@ -2,7 +2,7 @@
 use Rattle.std.proofs.Common.{◌≡◌, ◌∙◌, ℕ, ◌+◌, ◌-◌, ◌<◌, ◌≤◌, ◌==◌, nat_lt, true, List, [], ◌∷◌, ◌++◌, length, map, get_or, Option, None, Some, refl, sym, ap, subst, length-append, ⊎_elim, arith}
 use Rattle.std.specs.List.{AllByRecursion}
 use Rattle.std.specs.List.Sorted.{IsStrictlyIncreasing}
-use Rattle.std.proofs.lemmas.Bool.{cases_lt, ltb-true}
+use Rattle.std.proofs.lemmas.Bool.{cases_lt, ltb-true, eqb-true}
 use Rattle.std.proofs.lemmas.List.{get_or_append_left, map-append}
 use Rattle.std.proofs.Math.Seq.{get_or-append_seam}
 use Rattle.std.proofs.lemmas.Option.{same_Some}
@@ -21,7 +21,6 @@ use Rattle.log_lines.specs.declared.line.LogLine.{LogLine}
 use Rattle.log_lines.specs.declared.line.LogLine.TheVariants as line
 use Rattle.log_lines.specs.Forms.{HeadFits, LineFits, ended, entry_with, fired}
 use Rattle.log_lines.proofs.OptionLemmas.{where_is}
-use Rattle.log_lines.proofs.NumberLemmas.{is_one}
 use Rattle.log_reader.specs.declared.draft.Draft.{Draft}
 use Rattle.log_reader.specs.declared.draft.Open.{Open}
 use Rattle.log_reader.specs.declared.draft.Open.TheVariants.{Heading, Entries, Arrived, Fired, Lates}
@@ -127,7 +126,7 @@ module _ (plan : Plan) (head : Head) (actors : List ActorRun) (es : List Entry) 
   begins_sound : (number : ℕ) (draft : Draft) → Sound plan (at Heading) → number < length plan.actors → step (at Heading) (line.Heading number) ≡ Some draft → Sound plan draft
   begins_sound number draft sound fits is =
       let by = where_is (number == length actors) (Some (at Entries)) draft is in
-      let here = is_one number (length actors) by.test in
+      let here = eqb-true number (length actors) by.test in
       gave (at Entries) draft by.is (record {
         head = sound.head;
         actors = sound.actors;

@@ -18,7 +18,8 @@ use Rattle.fair_semantics.specs.Fits.{EntryFits, SourceFits}
 use Rattle.fair_semantics.specs.Linked.{count_of, message_from, messages_of, posts_of, rest_of, same_source, taken_from, IsLinked}
 use Rattle.fair_semantics.proofs.ListLemmas.{each_append}
 use Rattle.arrival_log.specs.LogText.{end_line, late_line}
-use Rattle.log_replay.specs.Expected.{entries_in, expected_posts, expected_run, read_entries}
+use Rattle.run_order.specs.Sorted.{entries_in}
+use Rattle.log_replay.specs.Expected.{expected_posts, expected_run, read_entries}
 use Rattle.log_replay.specs.Fault.{Line, IsPosted, Keeps, LacksNone, ends, entries_lines, entry_lines, firing_texts, lines_of, other_line, section_lines, sections_from, texts_of}
 use Rattle.log_replay.specs.Law.{FeedsFit, LinkedIsAccepted, LinkedIsExpected}
 use Rattle.log_replay.proofs.SizeLemmas.{contains_actor}

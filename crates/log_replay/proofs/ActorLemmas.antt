@@ -2,7 +2,7 @@
 use Rattle.std.proofs.Common.{◌≡◌, ◌∙◌, inl, inr, ℕ, zero, suc, ◌+◌, ◌<◌, ◌≤◌, max, List, [], ◌∷◌, ◌++◌, length, length-append, map, Bool, true, false, Option, None, Some, slice_get, refl, ap, sym, arith}
 use Rattle.std.specs.Prelude.{if◌then◌else◌, nat_le, not, ◌||◌, ◌==◌}
 use Rattle.std.specs.List.{flat_map}
-use Rattle.std.proofs.lemmas.List.{append-nil, length-map}
+use Rattle.std.proofs.lemmas.List.{append-nil, length-map, nil_from_length}
 use Rattle.std.proofs.lemmas.Bool.Decides.{nat_tests}
 use Rattle.join_base.specs.Stamps.{greatest_stamp}
 use Rattle.join_base.specs.declared.message.Message.{Message}
@@ -21,7 +21,10 @@ use Rattle.fair_semantics.specs.Linked.{arrived, arrived_after, entry_posts, in_
 use Rattle.fair_semantics.proofs.ChainLemmas.{adds}
 use Rattle.fair_semantics.proofs.FairLemmas.{after_all-append}
 use Rattle.fair_semantics.proofs.LinkedLemmas.{feed_unstamped}
-use Rattle.log_replay.specs.Expected.{bare, entries_in, expected_posts, read_entries, restamped, stamped_as, stamped_in, stamps_sent, stepped}
+use Rattle.run_order.proofs.ArrivalLemmas.{length-arrived}
+use Rattle.run_order.specs.Sorted.{entries_in}
+use Rattle.log_posts.specs.Posts.{stamped_as}
+use Rattle.log_replay.specs.Expected.{bare, expected_posts, read_entries, restamped, stamped_in, stamps_sent, stepped}
 use Rattle.log_replay.proofs.BareLemmas.{bare_state, next_of}
 use Rattle.log_replay.proofs.TakenLemmas.{Taken, adding, bare_chain, ended, or_parts, records, restamped_is, stamped_alike, taken_count, taken_or_fewer, unsent}
 
@@ -34,7 +37,7 @@ pub record Shows (rules : List Rule) (own : ActorRun) (state : State) : Type 0 w
   pub left : own.left ≡ state.live
   pub partials : own.partials ≡ partials_of rules state
 
-unstamped_twice : (entries : List Entry) → map unstamped_entry (map unstamped_entry entries) ≡ map unstamped_entry entries
+pub unstamped_twice : (entries : List Entry) → map unstamped_entry (map unstamped_entry entries) ≡ map unstamped_entry entries
 unstamped_twice [] = refl
 unstamped_twice (e ∷ entries) = ap (λ (xs : List Entry). unstamped_entry e ∷ xs) (unstamped_twice entries)
 
@@ -67,10 +70,6 @@ stamped_is version rules own state sent entries e same is = by (version == 1) e
 
 -- ---- arrivals
 
-pub length_arrived : (posts : Source → List Stamped) (before entries : List Entry) → length (arrived_after posts before entries) ≡ length entries
-length_arrived posts before [] = refl
-length_arrived posts before (e ∷ entries) = ap suc (length_arrived posts (before ++ e ∷ []) entries)
-
 pub arrived_unsent : (posts : Source → List Stamped) (before entries : List Entry) → map unsent (arrived_after posts before entries) ≡ map bare entries
 arrived_unsent posts before [] = refl
 arrived_unsent posts before (e ∷ entries) = ap (λ (xs : List Sent). bare e ∷ xs) (arrived_unsent posts (before ++ e ∷ []) entries)
@@ -80,9 +79,24 @@ pub arrived_same : (one two : Source → List Stamped) → ((source : Source) (k
 arrived_same one two same before [] = refl
 arrived_same one two same before (e ∷ entries) = λ i. (e.source, record { message = e.message; stamp = same e.source (length (taken_from e.source before)) i }) ∷ arrived_same one two same (before ++ e ∷ []) entries i
 
-none_there : {X : Type 0} (xs : List X) → length xs ≡ 0 → xs ≡ []
-none_there [] e = refl
-none_there (x ∷ xs) e = absurd (omega arith)
+-- ---- posts
+
+-- the expected entries, with the stamps of the lines, are the entries that were read
+abbrev pub AreRead : Plan → Run → Type 0
+AreRead plan run = (actor : ℕ) (own : ActorRun) → slice_get run.actors actor ≡ Some own → stamped_as (stepped plan run actor).entries (read_entries run actor) ≡ own.entries
+
+-- what an actor posts by its expected entries is then what it posted
+pub posts_are : (plan : Plan) (run : Run) → AreRead plan run → (from to : ℕ) → expected_posts plan run from to ≡ posts_in to (slice_get run.actors from)
+posts_are plan run are from to = by (slice_get run.actors from) refl
+  where
+    by : (o : Option ActorRun) → slice_get run.actors from ≡ o → expected_posts plan run from to ≡ posts_in to (slice_get run.actors from)
+    by None e = ap (λ (es : List Entry). flat_map (entry_posts to) (stamped_as (fair plan from run.limits run.feeds (map bare es)).entries es)) (ap entries_in e) ∙ sym (ap (posts_in to) e)
+    by (Some own) e = ap (flat_map (entry_posts to)) (are from own e) ∙ sym (ap (posts_in to) e)
+
+pub stamps_are : (plan : Plan) (feeds : List (List (ℕ × Message))) (run : Run) → AreRead plan run → (actor : ℕ) (source : Source) (k : ℕ) → stamp_at (slice_get (stamps_sent plan run actor source) k) ≡ stamp_at (slice_get (posts_of feeds run.actors source actor) k)
+stamps_are plan feeds run are actor (Feed zero) k = refl
+stamps_are plan feeds run are actor (Feed (suc n)) k = sym (feed_unstamped actor (slice_get feeds n) k)
+stamps_are plan feeds run are actor (Actor from) k = ap (λ (xs : List Stamped). stamp_at (slice_get xs k)) (posts_are plan run are from actor)
 
 -- a chain that records each message stays below the limit
 pub taken_few : (setting : Setting) (sent : List Sent) (state : State) → Taken setting state sent → length state.entries ≤ setting.limits.arrivals → length state.entries + length sent ≤ setting.limits.arrivals
@@ -137,22 +151,22 @@ module _ (plan : Plan) (feeds : List (List (ℕ × Message))) (run : Run) (linke
       | inr f ↦
           let o = ended setting rest before f.0 in
           let kept : length after.entries ≡ length before.entries = ap length o.entries in
-          let all = length_arrived posts [] own.entries in
+          let all = length-arrived posts [] own.entries in
           absurd (omega (arith, f.1, count))
     ]
 
     pub before_count : length before.entries ≡ length own.entries
-    before_count = let sum = taken_count setting came start taken in let all = length_arrived posts [] own.entries in omega (arith, sum, all)
+    before_count = let sum = taken_count setting came start taken in let all = length-arrived posts [] own.entries in omega (arith, sum, all)
 
     pub entries_kept : after.entries ≡ before.entries
     entries_kept =
         let a = adds setting rest before in
         let sum : length after.entries ≡ length before.entries + length a.new = ap length a.entries_are ∙ length-append before.entries a.new in
-        let none : a.new ≡ [] = none_there a.new (omega (arith, count, before_count)) in
+        let none : a.new ≡ [] = nil_from_length a.new (omega (arith, count, before_count)) in
         a.entries_are ∙ ap (λ (xs : List Entry). before.entries ++ xs) none ∙ append-nil before.entries
 
     pub few : length own.entries ≤ run.limits.arrivals
-    few = let all = length_arrived posts [] own.entries in let most = taken_few setting came start taken (omega arith) in omega (arith, most, all)
+    few = let all = length-arrived posts [] own.entries in let most = taken_few setting came start taken (omega arith) in omega (arith, most, all)
 
     read : read_entries run actor ≡ own.entries
     read = ap entries_in there
@@ -160,7 +174,7 @@ module _ (plan : Plan) (feeds : List (List (ℕ × Message))) (run : Run) (linke
     -- the fair steps over the arrivals without stamps
     pub alike : bare_state before ≡ bare_state (stepped plan run actor)
     alike =
-        let all = length_arrived posts [] own.entries in
+        let all = length-arrived posts [] own.entries in
         let most = linked.fits_plan.arrivals.1 in
         bare_chain setting came start start refl refl (omega (arith, all, most, few)) taken
         ∙ (λ i. bare_state (after_all setting start ((arrived_unsent posts [] own.entries ∙ ap (map bare) (sym read)) i)))
@@ -173,16 +187,7 @@ module _ (plan : Plan) (feeds : List (List (ℕ × Message))) (run : Run) (linke
 
   -- what an actor posts by its expected entries is what it posted
   pub expected_is : (from to : ℕ) → expected_posts plan run from to ≡ posts_in to (slice_get run.actors from)
-  expected_is from to = by (slice_get run.actors from) refl
-    where
-      by : (o : Option ActorRun) → slice_get run.actors from ≡ o → expected_posts plan run from to ≡ posts_in to (slice_get run.actors from)
-      by None e = ap (λ (es : List Entry). flat_map (entry_posts to) (stamped_as (fair plan from run.limits run.feeds (map bare es)).entries es)) (ap entries_in e) ∙ sym (ap (posts_in to) e)
-      by (Some own) e = ap (flat_map (entry_posts to)) (stamped_entries from own e) ∙ sym (ap (posts_in to) e)
-
-  stamps_are : (actor : ℕ) (source : Source) (k : ℕ) → stamp_at (slice_get (stamps_sent plan run actor source) k) ≡ stamp_at (slice_get (posts_of feeds run.actors source actor) k)
-  stamps_are actor (Feed zero) k = refl
-  stamps_are actor (Feed (suc n)) k = sym (feed_unstamped actor (slice_get feeds n) k)
-  stamps_are actor (Actor from) k = ap (λ (xs : List Stamped). stamp_at (slice_get xs k)) (expected_is from actor)
+  expected_is = posts_are plan run stamped_entries
 
   -- the expected entries, with their stamps, are the entries that were read
   pub stamps_expected : (actor : ℕ) (own : ActorRun) → slice_get run.actors actor ≡ Some own → stamped_in run.version (arrived (stamps_sent plan run actor) (read_entries run actor)) (stepped plan run actor).entries ≡ own.entries
@@ -191,7 +196,7 @@ module _ (plan : Plan) (feeds : List (List (ℕ × Message))) (run : Run) (linke
       let sent : List Sent = came actor own there in
       let a = adding setting sent start (taken actor own there) in
       let same : arrived (stamps_sent plan run actor) (read_entries run actor) ≡ sent =
-      ap (arrived (stamps_sent plan run actor)) (ap entries_in there) ∙ arrived_same (stamps_sent plan run actor) (λ source. posts_of feeds run.actors source actor) (stamps_are actor) [] own.entries in
+      ap (arrived (stamps_sent plan run actor)) (ap entries_in there) ∙ arrived_same (stamps_sent plan run actor) (λ source. posts_of feeds run.actors source actor) (stamps_are plan feeds run stamped_entries actor) [] own.entries in
       let bare_same : map unstamped_entry (stepped plan run actor).entries ≡ map unstamped_entry (before actor own there).entries = sym (ap (λ (s : State). s.entries) (alike actor own there)) in
       let bare_new : map unstamped_entry (stepped plan run actor).entries ≡ map unstamped_entry a.new = bare_same ∙ ap (map unstamped_entry) a.are in
       let restamps : restamped 0 sent (stepped plan run actor).entries ≡ (after actor own there).entries = restamped_is 0 sent a.new (stepped plan run actor).entries a.follow bare_new ∙ sym a.are ∙ sym (entries_kept actor own there) in

@@ -5,6 +5,7 @@ use Rattle.std.specs.List.{AllByRecursion, flat_map}
 use Rattle.std.proofs.Math.ListN.{drop_of_length-le}
 use Rattle.std.proofs.lemmas.Bool.Decides.{nat_tests}
 use Rattle.std.proofs.lemmas.List.{append_cancel_right, drop_more}
+use Rattle.std.proofs.lemmas.Bool.{eqb-true}
 use Rattle.log_lines.specs.Cut.{lacks}
 use Rattle.log_lines.proofs.CutLemmas.{first_lacks, rest_lacks}
 use Rattle.log_replay.specs.Apart.{ended_with, lines_before}
@@ -27,9 +28,6 @@ pub record IsLine (text : List ℕ) : Type 0 where
   pub body : List ℕ
   pub is : body ++ 10 ∷ [] ≡ text
   pub none : lacks 10 body ≡ true
-
-equal : (a b : ℕ) → (a == b) ≡ true → a ≡ b
-equal a b e = grind (arith, nat_tests)
 
 itself : (a : ℕ) → (a == a) ≡ true
 itself a = grind (arith, nat_tests)
@@ -56,7 +54,7 @@ one_byte ended b c own other more rest ends later = by (b == c) refl
         ∙ ap (λ (n : ℕ). lines_before n (own ++ 10 ∷ more) (other ++ 10 ∷ rest)) goes_on
 
     from : (b == c) ≡ true → Parts ended own other more rest → Parts ended (b ∷ own) (c ∷ other) more rest
-    from e (inl h) = inl ((λ i. equal b c e i ∷ h.0 i), step e ∙ h.1)
+    from e (inl h) = inl ((λ i. eqb-true b c e i ∷ h.0 i), step e ∙ h.1)
     from e (inr h) = inr ((λ same. h.0 (let tails : own ≡ other = cc in tails)), step e ∙ h.1)
 
     by : (x : Bool) → (b == c) ≡ x → Parts ended (b ∷ own) (c ∷ other) more rest

@@ -9,6 +9,7 @@ use Rattle.fair_semantics.specs.declared.run.Entry.{Entry}
 use Rattle.fair_semantics.specs.declared.run.ActorRun.{ActorRun}
 use Rattle.fair_semantics.specs.declared.run.Run.{Run}
 use Rattle.arrival_log.specs.LogText.{end_line, late_line}
+use Rattle.fair_semantics.proofs.ListLemmas.{each_left, each_right}
 use Rattle.log_replay.specs.Expected.{expected_run}
 use Rattle.log_replay.specs.Fault.{Line, IsAccepted, IsPosted, ends, entries_lines, entry_lines, lines_of, other_line, section_lines, sections_from, texts_of}
 use Rattle.log_replay.specs.Law.{AcceptedHasOneText, ExpectedIsLinked}
@@ -19,14 +20,6 @@ use Rattle.log_replay.proofs.ConverseLemmas.{linked_shown}
 each_if : {X : Type 0} (P : X → Type 0) (xs : List X) → ((k : ℕ) → IfSome (slice_get xs k) P) → AllByRecursion P xs
 each_if P [] h = tt
 each_if P (x ∷ xs) h = (h 0, each_if P xs (λ k. h (suc k)))
-
-each_left : {X : Type 0} (P : X → Type 0) (xs ys : List X) → AllByRecursion P (xs ++ ys) → AllByRecursion P xs
-each_left P [] ys h = tt
-each_left P (x ∷ xs) ys h = (h.0, each_left P xs ys h.1)
-
-each_right : {X : Type 0} (P : X → Type 0) (xs ys : List X) → AllByRecursion P (xs ++ ys) → AllByRecursion P ys
-each_right P [] ys h = h
-each_right P (x ∷ xs) ys h = each_right P xs ys h.1
 
 same_at : {X : Type 0} (xs ys : List X) → ((k : ℕ) → slice_get xs k ≡ slice_get ys k) → xs ≡ ys
 same_at [] [] h = refl

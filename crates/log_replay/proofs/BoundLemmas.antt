@@ -8,6 +8,7 @@ use Rattle.join_base.specs.declared.message.Message.{Message}
 use Rattle.join_base.specs.declared.message.Stamped.{Stamped}
 use Rattle.join_base.specs.declared.message.Source.{Source}
 use Rattle.join_base.specs.declared.message.Source.TheVariants.{Feed, Actor}
+use Rattle.join_base.proofs.EachLemmas.{each_drop, each_from_get}
 use Rattle.pattern_core.specs.Members.{IsIn}
 use Rattle.pattern_core.proofs.MembersLemmas.{IsIn-flat_map}
 use Rattle.script_types.specs.declared.plan.Plan.{Plan}
@@ -25,35 +26,16 @@ use Rattle.fair_semantics.specs.Linked.{arrived_after, effect_for, entry_posts, 
 use Rattle.fair_semantics.specs.StampLaw.{arrivals_of}
 use Rattle.fair_semantics.proofs.ChainLemmas.{adds}
 use Rattle.fair_semantics.proofs.FairLemmas.{latest_stamp-more}
-use Rattle.fair_semantics.proofs.ListLemmas.{each_append, each_map}
-use Rattle.fair_semantics.proofs.StampLemmas.{stamps_are_few}
+use Rattle.fair_semantics.proofs.ListLemmas.{each_append, each_in, each_map}
+use Rattle.fair_semantics.proofs.StampLemmas.{found_in, stamps_are_few}
 use Rattle.log_replay.proofs.BareLemmas.{next_of}
 use Rattle.log_replay.proofs.TakenLemmas.{Taken, arrival_of, records}
 use Rattle.log_replay.proofs.ActorLemmas.{before, before_count, came, entries_kept, few, rest, start, taken}
-use Rattle.fair_semantics.proofs.RestLemmas.{each_in, each_in_order, each_of_all}
+use Rattle.fair_semantics.proofs.RestLemmas.{each_in as each_rest, each_in_order, each_of_all}
 
 -- no stamp of a run is greater than the number of all arrivals
 abbrev pub most : ℕ
 most = 32000000
-
-pub each_in_list : {X : Type 0} (P : X → Type 0) (xs : List X) (x : X) → AllByRecursion P xs → IsIn x xs → P x
-each_in_list P [] x each h = absurd h
-each_in_list {X} P (y ∷ xs) x each (inl e) = let Q : X → Type 0 = λ z. P z in subst Q e each.0
-each_in_list P (y ∷ xs) x each (inr h) = each_in_list P xs x each.1 h
-
-pub each_from_get : {X : Type 0} (P : X → Type 0) (xs : List X) → ((k : ℕ) (x : X) → slice_get xs k ≡ Some x → P x) → AllByRecursion P xs
-each_from_get P [] h = tt
-each_from_get P (x ∷ xs) h = (h 0 x refl, each_from_get P xs (λ k y e. h (suc k) y e))
-
-each_drop : {X : Type 0} (P : X → Type 0) (n : ℕ) (xs : List X) → AllByRecursion P xs → AllByRecursion P (drop n xs)
-each_drop P zero xs each = each
-each_drop P (suc n) [] each = tt
-each_drop P (suc n) (x ∷ xs) each = each_drop P n xs each.1
-
-pub found : {X : Type 0} (xs : List X) (k : ℕ) (x : X) → slice_get xs k ≡ Some x → IsIn x xs
-found [] k x e = absurd cc
-found (y ∷ xs) zero x e = inl cc
-found (y ∷ xs) (suc k) x e = inr (found xs k x e)
 
 pub sum_at_most : (runs : List ActorRun) → AllByRecursion (λ (r : ActorRun). length r.entries ≤ 1000000) runs → length (arrivals_of runs) ≤ length runs * 1000000
 sum_at_most [] each = omega arith
@@ -137,14 +119,14 @@ module _ (plan : Plan) where
         omega (arith, sum, linked.fits_plan.actors)
 
     pub actor_fits : (actor : ℕ) (own : ActorRun) → slice_get run.actors actor ≡ Some own → ActorRunFits plan run.version run.feeds own
-    actor_fits actor own there = each_in_list (ActorRunFits plan run.version run.feeds) run.actors own linked.fits_plan.each (found run.actors actor own there)
+    actor_fits actor own there = each_in (ActorRunFits plan run.version run.feeds) run.actors linked.fits_plan.each own (found_in run.actors actor own there)
 
     stamps_small : (actor : ℕ) (own : ActorRun) → slice_get run.actors actor ≡ Some own → (e : Entry) → IsIn e own.entries → e.stamp ≤ most
     stamps_small actor own there e h =
         elim (one_or_two run.version linked.fits_plan.version.0 linked.fits_plan.version.1) [
-          | inl first ↦ let f = each_in_list (EntryFits plan run.version run.feeds) own.entries e (actor_fits actor own there).entries h in let none = f.stamp.first first in omega (arith, none)
+          | inl first ↦ let f = each_in (EntryFits plan run.version run.feeds) own.entries (actor_fits actor own there).entries e h in let none = f.stamp.first first in omega (arith, none)
           | inr second ↦
-              let all = stamps_are_few plan run.limits feeds run linked second e (IsIn-flat_map (λ (x : ActorRun). x.entries) own e run.actors (found run.actors actor own there) h) in
+              let all = stamps_are_few plan run.limits feeds run linked second e (IsIn-flat_map (λ (x : ActorRun). x.entries) own e run.actors (found_in run.actors actor own there) h) in
               omega (arith, all, few_arrivals)
         ]
 
@@ -163,12 +145,12 @@ module _ (plan : Plan) where
 
       rest_fine : AllByRecursion FineSent (rest plan feeds run linked actor own there)
       rest_fine =
-          each_in FineSent (rests_in_order (kind_types plan.kinds) (map (rest_of posts own.entries) (sources run.feeds (length plan.actors))))
+          each_rest FineSent (rests_in_order (kind_types plan.kinds) (map (rest_of posts own.entries) (sources run.feeds (length plan.actors))))
           (each_in_order (AllByRecursion FineSent) (kind_types plan.kinds) (map (rest_of posts own.entries) (sources run.feeds (length plan.actors)))
           (each_of_all (AllByRecursion FineSent) (rest_of posts own.entries) (sources run.feeds (length plan.actors)) (λ source c. of_source source)))
         where
           of_source : (source : Source) → AllByRecursion FineSent (rest_of posts own.entries source)
-          of_source source = each_map Fine FineSent (λ post. (source, post)) (λ post f. f) (drop (length (taken_from source own.entries)) (posts source)) (each_drop Fine (length (taken_from source own.entries)) (posts source) (posts_fine actor source))
+          of_source source = each_map Fine FineSent (λ post. (source, post)) (λ post f. f) (drop (length (taken_from source own.entries)) (posts source)) (each_drop Fine (posts source) (length (taken_from source own.entries)) (posts_fine actor source))
 
       -- a running actor that leaves a message behind is full
       pub full : (first : Sent) (more : List Sent) → rest plan feeds run linked actor own there ≡ first ∷ more → is_running (before plan feeds run linked actor own there).ending ≡ true

@@ -1,9 +1,10 @@
 -- A run that is its own expected run, and of whose posts the lines are right, is linked to the feeds that it shows.
-use Rattle.std.proofs.Common.{◌≡◌, ◌∙◌, ◌⊎◌, inl, inr, ℕ, zero, suc, ◌+◌, ◌-◌, ◌^◌, ◌<◌, ◌≤◌, min, max, List, [], ◌∷◌, ◌++◌, length, length-append, map, take, drop, Bool, true, false, Option, None, Some, slice_get, refl, ap, sym, subst, arith}
+use Rattle.std.proofs.Common.{◌≡◌, ◌∙◌, inl, inr, ℕ, zero, suc, ◌+◌, ◌-◌, ◌^◌, ◌<◌, ◌≤◌, min, max, List, [], ◌∷◌, ◌++◌, length, length-append, map, take, drop, Bool, true, false, Option, None, Some, slice_get, refl, ap, sym, subst, arith}
 use Rattle.std.specs.Prelude.{if◌then◌else◌, nat_le, not, ◌||◌, ◌&&◌, ◌==◌, slice_index}
 use Rattle.std.specs.List.{AllByRecursion, flat_map}
 use Rattle.std.proofs.lemmas.List.{length-map, length-drop, length-replicate}
 use Rattle.std.proofs.lemmas.Bool.Decides.{nat_tests}
+use Rattle.std.proofs.lemmas.Bool.{eqb-true, and_left}
 use Rattle.join_base.specs.declared.message.Message.{Message}
 use Rattle.join_base.specs.declared.message.Stamped.{Stamped}
 use Rattle.join_base.specs.declared.message.Source.{Source}
@@ -24,24 +25,28 @@ use Rattle.fair_semantics.specs.Fits.{ActorRunFits, RunFits}
 use Rattle.fair_semantics.specs.Linked.{arrived_after, count_of, in_version, message_from, messages_of, numbers_from, posts_of, rest_of, rests_in_order, same_source, sources, stamp_at, taken_from, unstamped, unstamped_entry, IsLinked, IsLinkedActor}
 use Rattle.fair_semantics.specs.StampLaw.{arrivals_of}
 use Rattle.fair_semantics.proofs.FairLemmas.{after_all-append}
-use Rattle.fair_semantics.proofs.ListLemmas.{each_replicate}
-use Rattle.fair_semantics.proofs.StampLemmas.{Known, ZeroOr, came_known, place_in, stamp_of_entry}
+use Rattle.fair_semantics.proofs.ListLemmas.{each_replicate, each_in}
+use Rattle.fair_semantics.proofs.StampLemmas.{Known, ZeroOr, came_known, place_in, stamp_of_entry, found_in}
 use Rattle.join_base.specs.Stamps.{greatest_stamp}
-use Rattle.log_replay.specs.Expected.{bare, count_where, entries_in, expected_actor, expected_late, expected_posts, expected_run, may_be_late, posts_beyond, read_entries, read_late, restamped, settled, some_late, stepped}
+use Rattle.run_order.specs.Sorted.{entries_in}
+use Rattle.log_posts.specs.Lates.{count_where}
+use Rattle.log_replay.specs.Expected.{bare, expected_actor, expected_late, expected_posts, expected_run, may_be_late, posts_beyond, read_entries, read_late, restamped, settled, some_late, stepped}
 use Rattle.log_replay.specs.Feeds.{feed_shown, feeds_shown, first_copied, messages_shown}
 use Rattle.log_replay.proofs.BareLemmas.{bare_state, letters_bare}
 pub use Rattle.fair_semantics.proofs.NumberLemmas.{count_numbers, equal_at, zero_at}
 use Rattle.log_replay.proofs.TakenLemmas.{Taken, adding, bare_chain, ended, not_late, or_parts, restamped_is, spent_on}
 use Rattle.log_replay.proofs.LateLemmas.{actor_count, feed_count, none_late}
 use Rattle.log_replay.proofs.SizeLemmas.{Sized, none_counted, none_listed_of, sized, sized_opening, zero_where}
-use Rattle.fair_semantics.proofs.RestLemmas.{each_in, each_in_order, each_of_all, none_in}
+use Rattle.fair_semantics.proofs.RestLemmas.{each_in as each_rest, each_in_order, each_of_all, none_in}
 use Rattle.fair_semantics.proofs.CountedLemmas.{Among, counted, ended_late, occurs_behind, raised_by, spent_late}
-use Rattle.log_replay.proofs.ActorLemmas.{arrived_unsent, length_arrived}
-use Rattle.log_replay.proofs.BoundLemmas.{each_in_list, found, most}
-use Rattle.log_replay.proofs.ExpectedLemmas.{none_at, not_false, running_is, settled_as, settled_entries, settled_late}
+use Rattle.run_order.proofs.ArrivalLemmas.{length-arrived}
+use Rattle.log_replay.proofs.ActorLemmas.{arrived_unsent}
+use Rattle.log_replay.proofs.BoundLemmas.{most}
+use Rattle.log_replay.proofs.ExpectedLemmas.{none_at, not_false, running_is}
 use Rattle.log_replay.proofs.FeedLemmas.{among_sources, bare_fed, count_small, fed, feed_to, first_of, next_posts}
 use Rattle.log_replay.proofs.AcceptedLemmas.{SectionKeeps, each_mapped}
 use Rattle.log_replay.proofs.ReadLemmas.{bare_taken, came, expected_is, few, own_expected, stamped_came, stamped_chain, stamps_small}
+use Rattle.log_replay.proofs.EndingLemmas.{Ends, ends_behind, settled_as, settled_entries, settled_late}
 
 index_numbers : (f : ℕ → ℕ) (begin n k : ℕ) → k < n → slice_index (map f (numbers_from begin n)) k ≡ f (begin + k)
 index_numbers f begin zero k l = absurd (omega arith)
@@ -112,13 +117,13 @@ module _ (plan : Plan) (run : Run) (fit : RunFits plan run) (few_actors : length
 
     sent_taken : Taken setting first_state sent
     sent_taken =
-        let all = length_arrived posts [] own.entries in
+        let all = length-arrived posts [] own.entries in
         stamped_chain setting sent first_state first_state refl (omega arith) (arrived_bounded posts (carried_small actor) [] own.entries) (omega (arith, all, few_entries))
         (subst (Taken setting first_state) (sym (arrived_unsent posts [] own.entries)) (bare_taken plan feeds run fit few_actors same actor own there))
 
     same_state : bare_state at_arrivals ≡ bare_state replayed
     same_state =
-        let all = length_arrived posts [] own.entries in
+        let all = length-arrived posts [] own.entries in
         bare_chain setting sent first_state first_state refl refl (omega (arith, all, few_entries)) sent_taken
         ∙ ap (λ (xs : List Sent). bare_state (after_all setting first_state xs)) (arrived_unsent posts [] own.entries)
         ∙ sym (ap (λ (o : Option ActorRun). bare_state (after_all setting first_state (map bare (entries_in o)))) there)
@@ -181,7 +186,7 @@ module _ (plan : Plan) (run : Run) (fit : RunFits plan run) (few_actors : length
 
     late_ok : (source : Source) → Among run.feeds (length plan.actors) source → count_of source own.late ≡ min (length (rest_of posts own.entries source)) (2 ^ 64 - 1)
     late_ok (Feed feed) a =
-        let own_fits = each_in_list (ActorRunFits plan run.version run.feeds) run.actors own fit.each (found run.actors actor own there) in
+        let own_fits = each_in (ActorRunFits plan run.version run.feeds) run.actors fit.each own (found_in run.actors actor own there) in
         let bound = count_small plan run.feeds (Feed feed) own.late own_fits.late in
         let is : posts (Feed feed) ≡ fed (messages_shown feed own) = feed_to run feed actor own a.0 a.1 there in
         let all : length (posts (Feed feed)) ≡ length (messages_shown feed own) = ap length is ∙ length-map (messages_shown feed own) (λ m. record { message = m; stamp = 0 }) in
@@ -271,7 +276,7 @@ module _ (plan : Plan) (run : Run) (fit : RunFits plan run) (few_actors : length
     each_among : AllByRecursion (λ (s : Sent). Among run.feeds (length plan.actors) s.0) behind
     each_among =
         let P : Sent → Type 0 = λ (s : Sent). Among run.feeds (length plan.actors) s.0 in
-        each_in P (rests_in_order (kind_types plan.kinds) rests)
+        each_rest P (rests_in_order (kind_types plan.kinds) rests)
         (each_in_order (AllByRecursion P) (kind_types plan.kinds) rests
         (each_of_all (AllByRecursion P) (rest_of posts own.entries) (sources run.feeds (length plan.actors)) (λ source c.
         each_mapped P (λ post. (source, post)) (λ post. among_sources run.feeds (length plan.actors) source c) (drop (length (taken_from source own.entries)) (posts source)))))
@@ -312,52 +317,19 @@ module _ (plan : Plan) (run : Run) (fit : RunFits plan run) (few_actors : length
     abbrev end : State
     end = settled replayed late
 
-    pub record Ends : Type 0 where
-      pub live : end.live ≡ at_last.live
-      pub ending : end.ending ≡ at_last.ending
-
-    keeps_on : (is_running replayed.ending && some_late late) ≡ false → at_last.live ≡ at_arrivals.live → at_last.ending ≡ at_arrivals.ending → Ends
-    keeps_on e live ends =
-        let is = settled_as replayed late false e in
-        record {
-          live = ap (λ (s : State). s.live) is ∙ sym (ap (λ (s : State). s.live) same_state) ∙ sym live;
-          ending = ap (λ (s : State). s.ending) is ∙ sym (ap (λ (s : State). s.ending) same_state) ∙ sym ends;
-        }
-
-    and_false : (a b : Bool) → (a ≡ false) ⊎ (b ≡ false) → (a && b) ≡ false
-    and_false false b h = refl
-    and_false true b (inl e) = absurd cc
-    and_false true b (inr e) = e
-
-    ends_as : Ends
-    ends_as = by (is_running at_arrivals.ending) refl
+    ends_as : Ends setting at_arrivals replayed late behind
+    ends_as = ends_behind setting at_arrivals replayed late behind record {
+      same = same_state;
+      refused = refused;
+      nothing = λ e. none_behind (listed ∙ none_listed_of late e);
+      no_count = λ running none. none_late late (no_counts none);
+    }
       where
-        spends : (first : Sent) (more : List Sent) → behind ≡ first ∷ more → is_running at_arrivals.ending ≡ true → (b : Bool) → some_late late ≡ b → Ends
-        spends first more is running false e = let clash : first ∷ more ≡ [] = sym is ∙ none_behind (listed ∙ none_listed_of late e) in absurd cc
-        spends first more is running true e =
-            let o = spent_on setting first more at_arrivals running (refused first more is running) in
-            let last : at_last ≡ after_all setting at_arrivals (first ∷ more) = ap (after_all setting at_arrivals) is in
-            let both : (is_running replayed.ending && some_late late) ≡ true = λ i. (sym (ap (λ (s : State). is_running s.ending) same_state) ∙ running) i && e i in
-            let spent = settled_as replayed late true both in
-            record {
-              live = ap (λ (s : State). s.live) spent ∙ sym o.live ∙ sym (ap (λ (s : State). s.live) last);
-              ending = ap (λ (s : State). s.ending) spent ∙ sym o.ending ∙ sym (ap (λ (s : State). s.ending) last);
-            }
-
-        runs : is_running at_arrivals.ending ≡ true → (xs : List Sent) → behind ≡ xs → Ends
-        runs running [] none =
+        no_counts : behind ≡ [] → late_counts late ≡ []
+        no_counts none =
             let last : at_last ≡ at_arrivals = ap (after_all setting at_arrivals) none in
-            let zeros : late_counts first_state.late ≡ [] = none_counted first_state.late (each_replicate (λ n. n ≡ 0) run.feeds 0 refl) (each_replicate (λ n. n ≡ 0) (length plan.actors) 0 refl) in
-            let all : late_counts late ≡ [] = ap late_counts (late_equal ∙ ap (λ (s : State). s.late) last ∙ not_late setting sent first_state sent_taken) ∙ zeros in
-            keeps_on (and_false (is_running replayed.ending) (some_late late) (inr (none_late late all))) (ap (λ (s : State). s.live) last) (ap (λ (s : State). s.ending) last)
-        runs running (first ∷ more) is = spends first more is running (some_late late) refl
-
-        by : (b : Bool) → is_running at_arrivals.ending ≡ b → Ends
-        by false e =
-            let o = ended setting behind at_arrivals e in
-            let stopped : is_running replayed.ending ≡ false = sym (ap (λ (s : State). is_running s.ending) same_state) ∙ e in
-            keeps_on (and_false (is_running replayed.ending) (some_late late) (inl stopped)) o.live o.ending
-        by true e = runs e behind refl
+            ap late_counts (late_equal ∙ ap (λ (s : State). s.late) last ∙ not_late setting sent first_state sent_taken)
+            ∙ none_counted first_state.late (each_replicate (λ n. n ≡ 0) run.feeds 0 refl) (each_replicate (λ n. n ≡ 0) (length plan.actors) 0 refl)
 
     -- ---- the run of the actor
 
@@ -401,16 +373,13 @@ module _ (plan : Plan) (run : Run) (fit : RunFits plan run) (few_actors : length
     source_of : (from : ℕ) (e : Entry) → message_from (Actor from) e ≡ Some e.message → e.source ≡ Actor from
     source_of from e h = by e.source h
       where
-        same_number : (a b : ℕ) → (a == b) ≡ true → a ≡ b
-        same_number a b e = grind (arith, nat_tests)
-
         there_is : (b : Bool) → (if b then Some e.message else None) ≡ Some e.message → b ≡ true
         there_is true p = refl
         there_is false p = absurd cc
 
         by : (s : Source) → (if same_source s (Actor from) then Some e.message else None) ≡ Some e.message → s ≡ Actor from
         by (Feed k) p = absurd cc
-        by (Actor a) p = ap (λ (n : ℕ). Actor n) (same_number a from (there_is (a == from) p))
+        by (Actor a) p = ap (λ (n : ℕ). Actor n) (eqb-true a from (there_is (a == from) p))
 
     in_order : (source : Source) → Among run.feeds (length plan.actors) source → taken_from source own.entries ≡ take (length (taken_from source own.entries)) (messages_of (posts source))
     in_order (Feed feed) a =
@@ -435,7 +404,7 @@ module _ (plan : Plan) (run : Run) (fit : RunFits plan run) (few_actors : length
             let both : (is_running replayed.ending && some_late late) ≡ true = λ i. e i && f i in
             absurd (spent_runs_not (sym (ap (λ (s : State). s.ending) (settled_as replayed late true both)) ∙ sym ending_is ∙ running))
         by false e true f =
-            let stopped : is_running own.ending ≡ false = ap is_running (ending_is ∙ ap (λ (s : State). s.ending) (settled_as replayed late false (and_false (is_running replayed.ending) (some_late late) (inl e)))) ∙ e in
+            let stopped : is_running own.ending ≡ false = ap is_running (ending_is ∙ ap (λ (s : State). s.ending) (settled_as replayed late false (and_left (is_running replayed.ending) (some_late late) e))) ∙ e in
             let clash : false ≡ true = sym stopped ∙ ap is_running running in
             absurd cc
 

@@ -11,7 +11,8 @@ use Rattle.fair_semantics.specs.Fits.{EntryFits}
 use Rattle.fair_semantics.specs.Linked.{unstamped_entry}
 use Rattle.run_fits.specs.FitsLaw.{SentFits}
 use Rattle.run_fits.proofs.SoundLemmas.{EntrySound}
-use Rattle.log_replay.specs.Expected.{bare, next_stamp, restamped, stamped_in}
+use Rattle.log_posts.specs.Stamps.{next_stamp}
+use Rattle.log_replay.specs.Expected.{bare, restamped, stamped_in}
 
 module _ (plan : Plan) (version feeds : ℕ) where
   abbrev Sound : Entry → Type 0

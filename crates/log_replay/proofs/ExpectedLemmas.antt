@@ -1,6 +1,6 @@
 -- A linked run is its own expected run.
-use Rattle.std.proofs.Common.{◌≡◌, ◌∙◌, ◌⊎◌, inl, inr, ℕ, ◌+◌, ◌-◌, ◌^◌, ◌<◌, ◌≤◌, min, List, [], ◌∷◌, length, map, drop, Bool, true, false, Some, slice_get, refl, ap, sym, arith}
-use Rattle.std.specs.Prelude.{if◌then◌else◌, nat_le, not, ◌&&◌}
+use Rattle.std.proofs.Common.{◌≡◌, ◌∙◌, ℕ, ◌+◌, ◌-◌, ◌^◌, ◌<◌, ◌≤◌, min, List, [], ◌∷◌, length, map, drop, Bool, true, false, Some, slice_get, refl, ap, sym, arith}
+use Rattle.std.specs.Prelude.{nat_le, not}
 use Rattle.std.specs.List.{AllByRecursion}
 use Rattle.std.proofs.lemmas.List.{length-map, length-drop}
 use Rattle.join_base.specs.declared.message.Message.{Message}
@@ -20,14 +20,17 @@ use Rattle.join_base.specs.Late.{late_counts}
 use Rattle.fair_semantics.specs.Fair.{Sent, after_all, partials_of, setting_of}
 use Rattle.fair_semantics.specs.Fits.{PostFits}
 use Rattle.fair_semantics.specs.Linked.{arrived, count_of, numbers_from, posts_of, rest_of, rests_in_order, sources, taken_from, unstamped_entry, IsLinked}
-use Rattle.log_replay.specs.Expected.{count_where, entries_in, expected_actor, expected_late, expected_run, late_in, may_be_late, posts_beyond, read_entries, read_late, settled, some_late, stamped_in, stamps_sent, stepped}
+use Rattle.run_order.specs.Sorted.{entries_in}
+use Rattle.log_posts.specs.Lates.{count_where}
+use Rattle.log_replay.specs.Expected.{expected_actor, expected_late, expected_run, late_in, may_be_late, posts_beyond, read_entries, read_late, settled, some_late, stamped_in, stamps_sent, stepped}
 use Rattle.log_replay.proofs.BareLemmas.{bare_state, letters_bare}
-use Rattle.log_replay.proofs.TakenLemmas.{ended, or_parts, spent_on}
+use Rattle.log_replay.proofs.TakenLemmas.{or_parts}
 use Rattle.log_replay.proofs.LateLemmas.{actor_count, feed_count, map_numbers, none_late}
 use Rattle.log_replay.proofs.SizeLemmas.{contains_actor, map_to, none_counted, none_listed_of, sized, sized_opening, zero_where}
 use Rattle.fair_semantics.proofs.RestLemmas.{each_in_order, each_of_all, none_in}
 use Rattle.log_replay.proofs.ActorLemmas.{after, alike, before, came, entries_kept, expected_is, rest, shown, stamps_expected, start}
 use Rattle.log_replay.proofs.BoundLemmas.{full}
+use Rattle.log_replay.proofs.EndingLemmas.{Ends, ends_behind, settled_entries, settled_late}
 
 pub running_is : (e : Ending) → is_running e ≡ true → e ≡ ending.Running
 running_is ending.Running e = refl
@@ -42,26 +45,6 @@ not_false false e = absurd cc
 pub none_at : {X : Type 0} (xs : List X) → min (length xs) (2 ^ 64 - 1) ≡ 0 → xs ≡ []
 none_at [] e = refl
 none_at (x ∷ xs) e = absurd (omega arith)
-
--- ---- the state with its late counts
-
-pub settled_as : (state : State) (late : Late) (b : Bool) → (is_running state.ending && some_late late) ≡ b
-    → settled state late ≡ (if b then record { entries = state.entries; live = []; ending = ending.Spent; late = late } else record { entries = state.entries; live = state.live; ending = state.ending; late = late })
-settled_as state late b e = ap (λ (c : Bool). if c then record { entries = state.entries; live = []; ending = ending.Spent; late = late } else record { entries = state.entries; live = state.live; ending = state.ending; late = late }) e
-
-pub settled_entries : (state : State) (late : Late) → (settled state late).entries ≡ state.entries
-settled_entries state late = by (is_running state.ending && some_late late) refl
-  where
-    by : (b : Bool) → (is_running state.ending && some_late late) ≡ b → (settled state late).entries ≡ state.entries
-    by true e = ap (λ (s : State). s.entries) (settled_as state late true e)
-    by false e = ap (λ (s : State). s.entries) (settled_as state late false e)
-
-pub settled_late : (state : State) (late : Late) → (settled state late).late ≡ late
-settled_late state late = by (is_running state.ending && some_late late) refl
-  where
-    by : (b : Bool) → (is_running state.ending && some_late late) ≡ b → (settled state late).late ≡ late
-    by true e = ap (λ (s : State). s.late) (settled_as state late true e)
-    by false e = ap (λ (s : State). s.late) (settled_as state late false e)
 
 module _ (plan : Plan) (feeds : List (List (ℕ × Message))) (run : Run) (linked : IsLinked plan run.limits feeds run) (few_actors : length plan.actors ≤ 32) (fit : AllByRecursion (AllByRecursion (PostFits plan)) feeds) where
   module _ (actor : ℕ) (own : ActorRun) (there : slice_get run.actors actor ≡ Some own) where
@@ -160,65 +143,23 @@ module _ (plan : Plan) (feeds : List (List (ℕ × Message))) (run : Run) (linke
     abbrev end : State
     end = settled again (expected_late plan run actor)
 
-    -- where something is behind the arrivals, a count is above 0
-    some_behind : (first : Sent) (more : List Sent) → behind ≡ first ∷ more → some_late (expected_late plan run actor) ≡ false → ⊥
-    some_behind first more is e =
+    -- where no count is above 0, nothing is behind the arrivals
+    none_behind : some_late (expected_late plan run actor) ≡ false → behind ≡ []
+    none_behind e =
         let none : own.late ≡ [] = sym late_same ∙ none_listed_of (expected_late plan run actor) e in
         let rests : List (List Sent) = map (rest_of posts own.entries) (sources run.feeds (length plan.actors)) in
         let Empty : List Sent → Type 0 = λ (xs : List Sent). xs ≡ [] in
         let each = each_of_all Empty (rest_of posts own.entries) (sources run.feeds (length plan.actors)) (λ source c.
         none_at (rest_of posts own.entries source) (sym ((linked.each actor own there).late source c) ∙ ap (count_of source) none)) in
-        let all : behind ≡ [] = none_in (rests_in_order (kind_types plan.kinds) rests) (each_in_order Empty (kind_types plan.kinds) rests each) in
-        let clash : first ∷ more ≡ [] = sym is ∙ all in
-        absurd cc
+        none_in (rests_in_order (kind_types plan.kinds) rests) (each_in_order Empty (kind_types plan.kinds) rests each)
 
-    pub record Ends : Type 0 where
-      pub live : end.live ≡ at_last.live
-      pub ending : end.ending ≡ at_last.ending
-
-    -- nothing but late counts changed behind the arrivals
-    keeps_on : (is_running again.ending && some_late (expected_late plan run actor)) ≡ false → at_last.live ≡ at_arrivals.live → at_last.ending ≡ at_arrivals.ending → Ends
-    keeps_on e live ends =
-        let same = settled_as again (expected_late plan run actor) false e in
-        record {
-          live = ap (λ (s : State). s.live) same ∙ sym (ap (λ (s : State). s.live) same_state) ∙ sym live;
-          ending = ap (λ (s : State). s.ending) same ∙ sym (ap (λ (s : State). s.ending) same_state) ∙ sym ends;
-        }
-
-    and_false : (a b : Bool) → (a ≡ false) ⊎ (b ≡ false) → (a && b) ≡ false
-    and_false false b h = refl
-    and_false true b (inl e) = absurd cc
-    and_false true b (inr e) = e
-
-    ends_as : Ends
-    ends_as = by (is_running at_arrivals.ending) refl
-      where
-        spends : (first : Sent) (more : List Sent) → behind ≡ first ∷ more → is_running at_arrivals.ending ≡ true → (b : Bool) → some_late (expected_late plan run actor) ≡ b → Ends
-        spends first more is running false e = absurd (some_behind first more is e)
-        spends first more is running true e =
-            let refused = (full plan feeds run linked few_actors fit actor own there first more is running).1 in
-            let o = spent_on setting first more at_arrivals running refused in
-            let last : at_last ≡ after_all setting at_arrivals (first ∷ more) = ap (after_all setting at_arrivals) is in
-            let both : (is_running again.ending && some_late (expected_late plan run actor)) ≡ true = λ i. (sym (ap (λ (s : State). is_running s.ending) same_state) ∙ running) i && e i in
-            let same = settled_as again (expected_late plan run actor) true both in
-            record {
-              live = ap (λ (s : State). s.live) same ∙ sym o.live ∙ sym (ap (λ (s : State). s.live) last);
-              ending = ap (λ (s : State). s.ending) same ∙ sym o.ending ∙ sym (ap (λ (s : State). s.ending) last);
-            }
-
-        runs : is_running at_arrivals.ending ≡ true → (xs : List Sent) → behind ≡ xs → Ends
-        runs running [] none =
-            let last : at_last ≡ at_arrivals = ap (after_all setting at_arrivals) none in
-            let no_late = none_late (expected_late plan run actor) (late_same ∙ runs_on running none) in
-            keeps_on (and_false (is_running again.ending) (some_late (expected_late plan run actor)) (inr no_late)) (ap (λ (s : State). s.live) last) (ap (λ (s : State). s.ending) last)
-        runs running (first ∷ more) is = spends first more is running (some_late (expected_late plan run actor)) refl
-
-        by : (b : Bool) → is_running at_arrivals.ending ≡ b → Ends
-        by false e =
-            let o = ended setting behind at_arrivals e in
-            let stopped : is_running again.ending ≡ false = sym (ap (λ (s : State). is_running s.ending) same_state) ∙ e in
-            keeps_on (and_false (is_running again.ending) (some_late (expected_late plan run actor)) (inl stopped)) o.live o.ending
-        by true e = runs e behind refl
+    ends_as : Ends setting at_arrivals again (expected_late plan run actor) behind
+    ends_as = ends_behind setting at_arrivals again (expected_late plan run actor) behind record {
+      same = same_state;
+      refused = λ first more is running. (full plan feeds run linked few_actors fit actor own there first more is running).1;
+      nothing = none_behind;
+      no_count = λ running none. none_late (expected_late plan run actor) (late_same ∙ runs_on running none);
+    }
 
     letters_same : letters_of end.entries ≡ letters_of at_last.entries
     letters_same =

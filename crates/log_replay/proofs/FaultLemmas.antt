@@ -5,8 +5,9 @@ use Rattle.fair_semantics.specs.declared.run.Entry.{Entry}
 use Rattle.fair_semantics.specs.declared.run.ActorRun.{ActorRun}
 use Rattle.fair_semantics.specs.declared.run.Run.{Run}
 use Rattle.fair_semantics.specs.Linked.{numbers_from}
-use Rattle.log_replay.specs.Expected.{entries_in}
-use Rattle.log_replay.specs.Kept.{earlier, ends_running, link_fault, link_of, links_fault, posts_made}
+use Rattle.run_order.specs.Sorted.{entries_in}
+use Rattle.log_posts.specs.Posts.{posts_made}
+use Rattle.log_replay.specs.Kept.{earlier, ends_running, link_fault, link_of, links_fault}
 
 pub links_more : (run expected : Run) (to line : ℕ) (own : ActorRun) (first next whole : Option ℕ) (from n : ℕ) → from < n → next ≡ earlier first (link_of run expected to line own from)
     → links_fault run expected to line own first (numbers_from from (n - from)) ≡ whole → links_fault run expected to line own next (numbers_from (from + 1) (n - (from + 1))) ≡ whole

@@ -1,8 +1,8 @@
 -- A run that is handed over: what its actors record, section by section.
-use Rattle.std.proofs.Common.{◌≡◌, ◌∙◌, ◌⊎◌, inl, inr, ℕ, zero, suc, ◌+◌, ◌<◌, max, List, [], ◌∷◌, ◌++◌, length, length-append, map, Bool, true, false, Option, None, Some, append_assoc, append-nil, slice_get, refl, sym, ap, subst, arith}
-use Rattle.std.specs.Prelude.{◌&&◌, ◌==◌, nat_lt, replicate, if◌then◌else◌}
+use Rattle.std.proofs.Common.{◌≡◌, ◌∙◌, ◌⊎◌, inl, inr, ℕ, suc, ◌+◌, ◌<◌, max, List, [], ◌∷◌, ◌++◌, length, length-append, map, Bool, true, false, Option, None, Some, append_assoc, append-nil, slice_get, refl, sym, ap, subst, arith}
+use Rattle.std.specs.Prelude.{◌&&◌, ◌==◌, nat_lt, if◌then◌else◌}
 use Rattle.std.specs.List.{AllByRecursion}
-use Rattle.std.proofs.lemmas.Bool.{cases_lt, ltb-true}
+use Rattle.std.proofs.lemmas.Bool.{cases_lt, ltb-true, and_parts, eqb-true}
 use Rattle.join_base.specs.Late.{HasCount}
 use Rattle.join_base.specs.declared.message.Message.{Message}
 use Rattle.join_base.specs.declared.message.Source.{Source}
@@ -28,18 +28,20 @@ use Rattle.log_replay.specs.declared.handed.Made.{Made}
 use Rattle.log_replay.specs.declared.handed.Remade.{Remade}
 use Rattle.log_replay.specs.declared.shared.Replayed.{Replayed}
 use Rattle.log_replay.specs.declared.shared.Shared.{Shared}
-use Rattle.log_replay.specs.Expected.{bare, entries_in, read_entries, with_entries, with_stamp}
-use Rattle.log_replay.specs.Handed.{AreCounted, IsHanded, IsMade, IsRemade, fired_as, is_recorded, kept_from, kept_of, without_entries}
+use Rattle.run_order.specs.Sorted.{entries_in}
+use Rattle.log_posts.specs.Posts.{with_stamp}
+use Rattle.log_replay.specs.Expected.{bare, read_entries, with_entries}
+use Rattle.log_replay.specs.Handed.{AreCounted, IsHanded, IsMade, IsRemade, fired_as, is_recorded, kept_from, kept_of}
 use Rattle.log_reader.specs.Log.{IsLogOf}
 use Rattle.log_replay.specs.Law.{AllRulesFit}
 use Rattle.log_replay.specs.Replays.{IsReplayed}
-use Rattle.log_replay.specs.Same.{same_effect, same_effects, same_entries, same_entry, same_fired, same_numbers}
-use Rattle.log_replay.specs.Settling.{with_stamps}
-use Rattle.log_replay.specs.Shared.{kept, kept_runs}
-use Rattle.log_replay.proofs.KeepsLemmas.{both_parts, equal, itself, message_itself, value_itself}
-use Rattle.log_replay.proofs.SameLemmas.{fired_is}
+use Rattle.log_posts.specs.Same.{same_effect, same_effects, same_entries, same_entry, same_fired, same_numbers}
+use Rattle.log_posts.specs.Stamps.{with_stamps}
+use Rattle.log_replay.specs.Shared.{kept, kept_runs, without_entries}
+use Rattle.log_posts.proofs.SameLemmas.{fired_is, message_itself, value_itself, itself}
 use Rattle.log_replay.proofs.ReplayLemmas.{source_counted, texts_all}
 use Rattle.std.proofs.lemmas.Slice.Eq.{bytes_eq-Decides}
+use Rattle.std.proofs.lemmas.List.{length-replicate}
 
 -- ---- what a step records
 
@@ -72,10 +74,10 @@ pub as_read : (setting : Setting) (state next : State) (entry : Entry) (before :
     → next.entries ≡ state.entries ++ with_stamp entry (max (latest_stamp state.entries) 0 + 1) ∷ []
 as_read setting state next entry before same is count by_same good =
     let fired : Bool = fired_as (slice_get (map (λ (e : Entry). e.firing) next.entries) before) entry.firing in
-    let parts = both_parts (nat_lt before entry.number) (length next.entries == entry.number && fired) (sym by_same ∙ good) in
-    let more = both_parts (length next.entries == entry.number) fired parts.1 in
+    let parts = and_parts (nat_lt before entry.number) (length next.entries == entry.number && fired) (sym by_same ∙ good) in
+    let more = and_parts (length next.entries == entry.number) fired parts.1 in
     let above = ltb-true before entry.number parts.0 in
-    let long = equal (length next.entries) entry.number more.0 in
+    let long = eqb-true (length next.entries) entry.number more.0 in
     let arrival : Arrival = arrival_at state entry.source entry.message in
     elim (subst (λ (s : State). Recorded arrival s.entries) (sym is) (step_records setting state entry.source entry.message)) [
       | inl none ↦ absurd (omega (arith, ap length none, above, long, count))
@@ -106,17 +108,13 @@ pub record Walks (plan : Plan) (limits : Limits) (feeds index : ℕ) (actor : He
   pub back : with_stamps stamps actor.state.entries ++ rest ≡ whole
   pub many : length stamps ≡ length actor.state.entries
 
-replicated : {X : Type 0} (n : ℕ) (x : X) → length (replicate n x) ≡ n
-replicated zero x = refl
-replicated (suc n) x = ap suc (replicated n x)
-
 pub walks_first : (plan : Plan) (limits : Limits) (feeds index : ℕ) (actor : Held) (stamps : List ℕ) (rest whole : List Entry) → actor ≡ new_actor plan index limits feeds → stamps ≡ [] → rest ≡ whole → AreCounted plan feeds whole
     → Walks plan limits feeds index actor stamps rest whole
 walks_first plan limits feeds index actor stamps rest whole is none all counted =
     subst (λ (a : Held). Walks plan limits feeds index a stamps rest whole) (sym is)
     (subst (λ (ss : List ℕ). Walks plan limits feeds index (new_actor plan index limits feeds) ss rest whole) (sym none)
     (subst (λ (es : List Entry). Walks plan limits feeds index (new_actor plan index limits feeds) [] es whole) (sym all)
-    (record { left = refl; setting = refl; counted = counted; boxes = replicated (length plan.actors) []; back = refl; many = refl })))
+    (record { left = refl; setting = refl; counted = counted; boxes = length-replicate (length plan.actors) []; back = refl; many = refl })))
 
 pub walks_on : (plan : Plan) (limits : Limits) (feeds index : ℕ) (actor next : Held) (stamps more : List ℕ) (before rest whole : List Entry) (entry : Entry) → Walks plan limits feeds index actor stamps before whole → before ≡ entry ∷ rest
     → next.state ≡ (fair_step actor.setting actor.state entry.source entry.message 0).0 → next.setting ≡ actor.setting → ((other : Source) → HasCount actor.state.late other → HasCount next.state.late other) → length next.outbox ≡ length plan.actors

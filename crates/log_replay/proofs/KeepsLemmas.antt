@@ -1,16 +1,14 @@
 -- The first line of a run that does not hold of posts, against what its lines keep.
 use Rattle.std.proofs.Common.{◌≡◌, inl, ◌∙◌, ℕ, zero, suc, ◌+◌, ◌<◌, ◌≤◌, List, [], ◌∷◌, ◌++◌, length, length-append, map, Bool, true, false, Option, None, Some, append_assoc, append-nil, slice_get, refl, sym, ap, subst, arith}
-use Rattle.std.specs.Prelude.{◌&&◌, ◌==◌, nat_lt, if◌then◌else◌}
+use Rattle.std.specs.Prelude.{◌&&◌, nat_lt, if◌then◌else◌}
 use Rattle.std.specs.List.{AllByRecursion, cons_option}
-use Rattle.std.proofs.lemmas.Bool.Decides.{nat_tests, Decides-int_eq}
+use Rattle.std.proofs.lemmas.Bool.Decides.{nat_tests}
 use Rattle.std.proofs.lemmas.List.{length-map}
-use Rattle.std.proofs.lemmas.Slice.Eq.{bytes_eq-Decides}
+use Rattle.std.proofs.lemmas.Bool.{and_parts, eqb-true}
 use Rattle.join_base.specs.declared.message.Message.{Message}
 use Rattle.join_base.specs.declared.message.Source.{Source}
 use Rattle.join_base.specs.declared.message.Source.TheVariants.{Feed, Actor}
 use Rattle.join_base.specs.declared.message.Stamped.{Stamped}
-use Rattle.join_base.specs.declared.message.Value.{Value}
-use Rattle.join_base.specs.declared.message.Value.TheVariants.{Int, Words}
 use Rattle.script_types.specs.declared.plan.Plan.{Plan}
 use Rattle.fair_semantics.specs.declared.run.ActorRun.{ActorRun}
 use Rattle.fair_semantics.specs.declared.run.Ending.TheVariants as ending
@@ -22,64 +20,23 @@ use Rattle.fair_semantics.specs.Step.{is_running}
 use Rattle.arrival_log.specs.LogText.{effect_line, end_line, late_line}
 use Rattle.log_replay.specs.Expected.{expected_actor, expected_posts, read_entries}
 use Rattle.log_replay.specs.Fault.{Line, Mark, arrives, ends, entries_lines, entry_lines, firing_texts, other, other_line}
-use Rattle.log_replay.specs.Kept.{entry_size, firing_size, has_message, link_fault, same_message, same_value, same_values}
+use Rattle.log_posts.specs.Posts.{has_message}
+use Rattle.log_posts.specs.Same.{same_message}
+use Rattle.log_replay.specs.Kept.{entry_size, firing_size, link_fault}
 use Rattle.log_replay.proofs.AcceptedLemmas.{each_mapped, taken_with}
 use Rattle.log_replay.proofs.ExpectedLemmas.{running_is}
 use Rattle.log_replay.proofs.FirstLemmas.{First, first_behind}
+use Rattle.log_posts.proofs.SameLemmas.{message_itself, same_message_is, itself}
 
 -- ---- tests and facts
-
-pub both_parts : (a b : Bool) → (a && b) ≡ true → (a ≡ true) × (b ≡ true)
-both_parts true b e = (refl, e)
-both_parts false b e = absurd cc
-
-pub equal : (a b : ℕ) → (a == b) ≡ true → a ≡ b
-equal a b e = grind (arith, nat_tests)
-
-pub itself : (a : ℕ) → (a == a) ≡ true
-itself a = grind (arith, nat_tests)
 
 -- the source of a test
 from_of : (source : Source) (from : ℕ) → same_source source (Actor from) ≡ true → source ≡ Actor from
 from_of (Feed k) from e = absurd cc
-from_of (Actor a) from e = ap (λ (n : ℕ). Actor n) (equal a from e)
+from_of (Actor a) from e = ap (λ (n : ℕ). Actor n) (eqb-true a from e)
 
 from_is : (source : Source) (from : ℕ) → source ≡ Actor from → same_source source (Actor from) ≡ true
 from_is source from e = ap (λ (s : Source). same_source s (Actor from)) e ∙ itself from
-
-pub same_value_is : (v w : Value) → same_value v w ≡ true → v ≡ w
-same_value_is (Int a) (Int b) e = ap (λ z. Int z) ((Decides-int_eq a b).0 e)
-same_value_is (Int a) (Words text) e = absurd cc
-same_value_is (Words text) (Int b) e = absurd cc
-same_value_is (Words text) (Words second) e = ap (λ t. Words t) ((bytes_eq-Decides text second).0 e)
-
-pub value_itself : (v : Value) → same_value v v ≡ true
-value_itself (Int a) = (Decides-int_eq a a).1 refl
-value_itself (Words text) = (bytes_eq-Decides text text).1 refl
-
-same_values_are : (vs ws : List Value) → same_values vs ws ≡ true → vs ≡ ws
-same_values_are [] [] e = refl
-same_values_are [] (w ∷ ws) e = absurd cc
-same_values_are (v ∷ vs) [] e = absurd cc
-same_values_are (v ∷ vs) (w ∷ ws) e =
-    let h = both_parts (same_value v w) (same_values vs ws) e in
-    let first = same_value_is v w h.0 in
-    let later = same_values_are vs ws h.1 in
-    λ i. first i ∷ later i
-
-values_themselves : (vs : List Value) → same_values vs vs ≡ true
-values_themselves [] = refl
-values_themselves (v ∷ vs) = λ i. value_itself v i && values_themselves vs i
-
-pub same_message_is : (m k : Message) → same_message m k ≡ true → m ≡ k
-same_message_is m k e =
-    let h = both_parts (m.kind == k.kind) (same_values m.fields k.fields) e in
-    let kinds = equal m.kind k.kind h.0 in
-    let fields = same_values_are m.fields k.fields h.1 in
-    λ i. record { kind = kinds i; fields = fields i }
-
-pub message_itself : (m : Message) → same_message m m ≡ true
-message_itself m = λ i. itself m.kind i && values_themselves m.fields i
 
 -- the post at a place, and its message
 has_is : (posts : List Stamped) (k : ℕ) (m : Message) → has_message (slice_get posts k) m ≡ true → slice_get (messages_of posts) k ≡ Some m
@@ -146,7 +103,7 @@ module _ (plan : Plan) (run : Run) where
 
       end_fails : (taken : ℕ) → taken ≡ length (taken_from (Actor from) own.entries) → (runs && nat_lt taken (length posts)) ≡ true → LinkKeeps from (ends to) → ⊥
       end_fails taken count e keeps =
-          let h = both_parts runs (nat_lt taken (length posts)) e in
+          let h = and_parts runs (nat_lt taken (length posts)) e in
           let most = keeps (running_is (expected_actor plan run to).ending (sym runs_is ∙ h.0)) in
           let more = less taken (length posts) h.1 in
           omega (arith, most, more, count, ap length posts_are, ap (λ (es : List Entry). length (taken_from (Actor from) es)) read)

@@ -5,10 +5,8 @@ pub mod TextLemmas
 pub mod KeepsLemmas
 pub mod SectionLemmas
 pub mod FoundLemmas
-pub mod SettlingLemmas
 pub mod SettledLemmas
 pub mod ReplayLemmas
-pub mod PostsLemmas
 pub mod FaultLemmas
 pub mod Examples
 pub mod BareLemmas
@@ -17,6 +15,7 @@ pub mod LateLemmas
 pub mod ActorLemmas
 pub mod BoundLemmas
 pub mod SizeLemmas
+pub mod EndingLemmas
 pub mod ExpectedLemmas
 pub mod AcceptedLemmas
 pub mod ReadLemmas
@@ -26,7 +25,6 @@ pub mod BackLemmas
 pub mod ExpectedFitsLemmas
 pub mod MadeLemmas
 pub mod ProgressLemmas
-pub mod SameLemmas
 pub mod SharedLemmas
 pub mod SwapLemmas
 pub mod WrittenLemmas

@@ -30,14 +30,17 @@ use Rattle.fair_semantics.specs.declared.run.Run.{Run}
 use Rattle.join_base.specs.Late.{Late}
 use Rattle.join_base.specs.Late.{late_counts}
 use Rattle.fair_semantics.specs.Fits.{ActorRunFits, EntryFits, LateFits, RunFits, source_place}
+use Rattle.fair_semantics.proofs.ListLemmas.{each_in}
+use Rattle.fair_semantics.proofs.StampLemmas.{found_in}
 use Rattle.arrival_log.specs.LogText.{log_text}
 use Rattle.log_replay.proofs.BackLemmas.{accepted_has_one_text, expected_is_linked}
-use Rattle.log_replay.specs.Expected.{bare, count_where, entries_in, expected_actor, expected_late, expected_posts, expected_run, late_in, may_be_late, posts_beyond, read_entries, read_late, settled, some_late, stamps_sent, stepped}
+use Rattle.run_order.specs.Sorted.{entries_in}
+use Rattle.log_posts.specs.Lates.{count_where}
+use Rattle.log_replay.specs.Expected.{bare, expected_actor, expected_late, expected_posts, expected_run, late_in, may_be_late, posts_beyond, read_entries, read_late, settled, some_late, stamps_sent, stepped}
 use Rattle.log_replay.proofs.AcceptedLemmas.{each_mapped}
-use Rattle.log_replay.proofs.BoundLemmas.{each_in_list, found}
 use Rattle.log_replay.proofs.ConverseLemmas.{count_numbers}
-use Rattle.log_replay.proofs.ExpectedLemmas.{settled_as, settled_entries, settled_late}
 use Rattle.log_replay.proofs.FeedLemmas.{count_small}
+use Rattle.log_replay.proofs.EndingLemmas.{settled_as, settled_entries, settled_late}
 
 each_number : {X : Type 0} (P : X → Type 0) (f : ℕ → X) (begin n : ℕ) → ((k : ℕ) → begin ≤ k → k < begin + n → P (f k)) → AllByRecursion P (map f (numbers_from begin n))
 each_number P f begin zero h = tt
@@ -59,7 +62,7 @@ module _ (plan : Plan) (run : Run) (fit : RunFits plan run) (typed : IsTyped pla
     where
       by : (o : Option ActorRun) → slice_get run.actors actor ≡ o → AllByRecursion (EntryFits plan run.version feeds) (entries_in o) × AllByRecursion (LateFits plan feeds) (late_in o)
       by None e = (tt, tt)
-      by (Some own) e = let own_fits = each_in_list (ActorRunFits plan run.version feeds) run.actors own fit.each (found run.actors actor own e) in (own_fits.entries, own_fits.late)
+      by (Some own) e = let own_fits = each_in (ActorRunFits plan run.version feeds) run.actors fit.each own (found_in run.actors actor own e) in (own_fits.entries, own_fits.late)
 
   module _ (actor : ℕ) (texts : RulesFit plan run.limits actor) where
     abbrev late : Late

@@ -1,15 +1,15 @@
 -- A run that is its own expected run: each actor recorded each of its arrivals, with the stamps that the fair steps give.
-use Rattle.std.proofs.Common.{◌≡◌, ◌∙◌, inl, inr, ℕ, zero, suc, ◌+◌, ◌<◌, ◌≤◌, max, List, [], ◌∷◌, ◌++◌, length, length-append, map, Bool, true, false, Option, None, Some, slice_get, refl, ap, sym, subst, arith}
+use Rattle.std.proofs.Common.{◌≡◌, ◌∙◌, inl, inr, ℕ, suc, ◌+◌, ◌<◌, ◌≤◌, max, List, [], ◌∷◌, ◌++◌, length, length-append, map, Bool, true, false, Some, slice_get, refl, ap, sym, subst, arith}
 use Rattle.std.specs.Prelude.{if◌then◌else◌, nat_lt, nat_le, not, ◌||◌, ◌==◌}
-use Rattle.std.specs.List.{AllByRecursion, flat_map}
+use Rattle.std.specs.List.{AllByRecursion}
 use Rattle.std.proofs.lemmas.List.{length-map}
-use Rattle.std.proofs.lemmas.Option.{slice_get_within}
+use Rattle.std.proofs.lemmas.Option.{same_Some, slice_get_within}
 use Rattle.std.proofs.lemmas.Bool.Decides.{nat_tests}
 use Rattle.join_base.specs.Stamps.{greatest_stamp}
 use Rattle.join_base.specs.declared.message.Message.{Message}
 use Rattle.join_base.specs.declared.message.Stamped.{Stamped}
 use Rattle.join_base.specs.declared.message.Source.{Source}
-use Rattle.join_base.specs.declared.message.Source.TheVariants.{Feed, Actor}
+use Rattle.join_base.proofs.EachLemmas.{each_from_get}
 use Rattle.pattern_core.specs.Members.{IsIn}
 use Rattle.pattern_core.proofs.MembersLemmas.{IsIn-flat_map_from, IsIn-map_from}
 use Rattle.script_types.specs.declared.plan.Plan.{Plan}
@@ -17,25 +17,24 @@ use Rattle.fair_semantics.specs.declared.run.Entry.{Entry}
 use Rattle.fair_semantics.specs.declared.run.ActorRun.{ActorRun}
 use Rattle.fair_semantics.specs.declared.run.Run.{Run}
 use Rattle.fair_semantics.specs.Step.{Setting, State, entry_with, fits, is_refused, is_running, latest_stamp, opening}
-use Rattle.fair_semantics.specs.Fair.{Sent, after_all, fair, setting_of}
+use Rattle.fair_semantics.specs.Fair.{Sent, after_all, setting_of}
 use Rattle.fair_semantics.specs.Fits.{EntryFits, RunFits}
-use Rattle.fair_semantics.specs.Linked.{arrived, arrived_after, entry_posts, numbers_from, posts_in, posts_of, stamp_at, taken_from, unstamped_entry}
+use Rattle.fair_semantics.specs.Linked.{arrived, arrived_after, numbers_from, posts_in, posts_of, stamp_at, taken_from, unstamped_entry}
 use Rattle.fair_semantics.specs.StampLaw.{arrivals_of}
 use Rattle.fair_semantics.proofs.FairLemmas.{latest_stamp-more}
-use Rattle.fair_semantics.proofs.LinkedLemmas.{feed_unstamped}
-use Rattle.fair_semantics.proofs.StampLemmas.{Known, ZeroOr, came_known, count_from, count_to-length, entry_known, max_of, place_in, stamp_of_entry, stamps}
-use Rattle.log_replay.specs.Expected.{bare, entries_in, expected_actor, expected_late, expected_posts, expected_run, next_stamp, read_entries, restamped, stamped_as, stamped_in, stamps_sent, stepped}
+use Rattle.fair_semantics.proofs.ListLemmas.{each_in}
+use Rattle.fair_semantics.proofs.StampLemmas.{Known, ZeroOr, came_known, count_from, count_to-length, entry_known, found_in, max_of, place_in, stamp_of_entry, stamps}
+use Rattle.run_order.proofs.ArrivalLemmas.{length-arrived}
+use Rattle.run_order.specs.Sorted.{entries_in}
+use Rattle.log_posts.specs.Posts.{stamped_as}
+use Rattle.log_posts.specs.Stamps.{next_stamp}
+use Rattle.log_replay.specs.Expected.{bare, expected_actor, expected_late, expected_posts, expected_run, read_entries, restamped, stamped_in, stamps_sent, stepped}
 use Rattle.log_replay.proofs.BareLemmas.{bare_state, arrival_alike, next_of}
 pub use Rattle.fair_semantics.proofs.NumberLemmas.{get_numbers}
 use Rattle.log_replay.proofs.TakenLemmas.{Follow, Taken, arrival_is, arrival_of, or_none, or_parts, records, stamped_alike, taken_count, taken_or_fewer, unsent}
-use Rattle.log_replay.proofs.ActorLemmas.{arrived_same, length_arrived, taken_few}
-use Rattle.log_replay.proofs.BoundLemmas.{each_from_get, each_in_list, found, most, one_or_two, sum_at_most}
-use Rattle.log_replay.proofs.ExpectedLemmas.{settled_entries}
-
--- ---- lists
-
-same_Some : {X : Type 0} (x y : X) → Some x ≡ Some y → x ≡ y
-same_Some x y e = cc
+use Rattle.log_replay.proofs.ActorLemmas.{arrived_same, taken_few, unstamped_twice, posts_are, stamps_are}
+use Rattle.log_replay.proofs.BoundLemmas.{most, one_or_two, sum_at_most}
+use Rattle.log_replay.proofs.EndingLemmas.{settled_entries}
 
 -- ---- stamps
 
@@ -56,15 +55,11 @@ restamped_bare latest sent [] l = refl
 restamped_bare latest [] (e ∷ entries) l = absurd (omega arith)
 restamped_bare latest (s ∷ sent) (e ∷ entries) l = ap (λ (xs : List Entry). unstamped_entry e ∷ xs) (restamped_bare (next_stamp latest s.1.stamp) sent entries (omega arith))
 
-bare_twice : (entries : List Entry) → map unstamped_entry (map unstamped_entry entries) ≡ map unstamped_entry entries
-bare_twice [] = refl
-bare_twice (e ∷ entries) = ap (λ (xs : List Entry). unstamped_entry e ∷ xs) (bare_twice entries)
-
 pub stamped_bare : (version : ℕ) (sent : List Sent) (entries : List Entry) → length entries ≤ length sent → map unstamped_entry (stamped_in version sent entries) ≡ map unstamped_entry entries
 stamped_bare version sent entries l = by (version == 1)
   where
     by : (b : Bool) → map unstamped_entry (if b then map unstamped_entry entries else restamped 0 sent entries) ≡ map unstamped_entry entries
-    by true = bare_twice entries
+    by true = unstamped_twice entries
     by false = restamped_bare 0 sent entries l
 
 restamped_follow : (latest : ℕ) (sent : List Sent) (entries : List Entry) → length entries ≡ length sent → Follow latest sent (restamped latest sent entries)
@@ -171,7 +166,7 @@ module _ (plan : Plan) (feeds : List (List (ℕ × Message))) (run : Run) (fit :
     few = let sent_count : length (map bare own.entries) ≡ length own.entries = length-map own.entries bare in let l = taken_few setting (map bare own.entries) start bare_taken (omega arith) in omega (arith, l, sent_count)
 
     sent_count : length sent_so ≡ length own.entries
-    sent_count = length_arrived (stamps_sent plan run actor) [] (read_entries run actor) ∙ ap length read
+    sent_count = length-arrived (stamps_sent plan run actor) [] (read_entries run actor) ∙ ap length read
 
     pub entries_alike : map unstamped_entry again.entries ≡ map unstamped_entry own.entries
     entries_alike = sym (stamped_bare run.version sent_so again.entries (omega (arith, sent_count, again_count))) ∙ ap (map unstamped_entry) entries_are
@@ -181,16 +176,7 @@ module _ (plan : Plan) (feeds : List (List (ℕ × Message))) (run : Run) (fit :
 
   -- what an actor posts by its expected entries is what it posted
   pub expected_is : (from to : ℕ) → expected_posts plan run from to ≡ posts_in to (slice_get run.actors from)
-  expected_is from to = by (slice_get run.actors from) refl
-    where
-      by : (o : Option ActorRun) → slice_get run.actors from ≡ o → expected_posts plan run from to ≡ posts_in to (slice_get run.actors from)
-      by None e = ap (λ (es : List Entry). flat_map (entry_posts to) (stamped_as (fair plan from run.limits run.feeds (map bare es)).entries es)) (ap entries_in e) ∙ sym (ap (posts_in to) e)
-      by (Some own) e = ap (flat_map (entry_posts to)) (stamped_entries from own e) ∙ sym (ap (posts_in to) e)
-
-  stamps_are : (actor : ℕ) (source : Source) (k : ℕ) → stamp_at (slice_get (stamps_sent plan run actor source) k) ≡ stamp_at (slice_get (posts_of feeds run.actors source actor) k)
-  stamps_are actor (Feed zero) k = refl
-  stamps_are actor (Feed (suc n)) k = sym (feed_unstamped actor (slice_get feeds n) k)
-  stamps_are actor (Actor from) k = ap (λ (xs : List Stamped). stamp_at (slice_get xs k)) (expected_is from actor)
+  expected_is = posts_are plan run stamped_entries
 
   module _ (actor : ℕ) (own : ActorRun) (there : slice_get run.actors actor ≡ Some own) where
     -- its arrivals as they were sent
@@ -198,7 +184,7 @@ module _ (plan : Plan) (feeds : List (List (ℕ × Message))) (run : Run) (fit :
     came = arrived (posts actor own there) own.entries
 
     came_is : arrived (stamps_sent plan run actor) (read_entries run actor) ≡ came
-    came_is = ap (arrived (stamps_sent plan run actor)) (ap entries_in there) ∙ arrived_same (stamps_sent plan run actor) (posts actor own there) (stamps_are actor) [] own.entries
+    came_is = ap (arrived (stamps_sent plan run actor)) (ap entries_in there) ∙ arrived_same (stamps_sent plan run actor) (posts actor own there) (stamps_are plan feeds run stamped_entries actor) [] own.entries
 
     pub stamped_came : stamped_in run.version came (again actor own there).entries ≡ own.entries
     stamped_came = ap (λ (xs : List Sent). stamped_in run.version xs (again actor own there).entries) (sym came_is) ∙ entries_are actor own there
@@ -206,7 +192,7 @@ module _ (plan : Plan) (feeds : List (List (ℕ × Message))) (run : Run) (fit :
     follow : run.version ≡ 2 → Follow 0 came own.entries
     follow second =
         let is : restamped 0 came (again actor own there).entries ≡ own.entries = sym (ap (λ (v : ℕ). stamped_in v came (again actor own there).entries) second) ∙ stamped_came in
-        let all = length_arrived (posts actor own there) [] own.entries in
+        let all = length-arrived (posts actor own there) [] own.entries in
         subst (Follow 0 came) is (restamped_follow 0 came (again actor own there).entries (again_count actor own there ∙ sym all))
 
   -- no stamp is greater than the number of all arrivals
@@ -230,12 +216,12 @@ module _ (plan : Plan) (feeds : List (List (ℕ × Message))) (run : Run) (fit :
   stamps_small actor own there e h =
       elim (one_or_two run.version fit.version.0 fit.version.1) [
         | inl first ↦
-            let own_fits = each_in_list _ run.actors own fit.each (found run.actors actor own there) in
-            let f = each_in_list (EntryFits plan run.version run.feeds) own.entries e own_fits.entries h in
+            let own_fits = each_in _ run.actors fit.each own (found_in run.actors actor own there) in
+            let f = each_in (EntryFits plan run.version run.feeds) own.entries own_fits.entries e h in
             let none = f.stamp.first first in
             omega (arith, none)
         | inr second ↦
-            let known : Known run.actors e.stamp = entry_known run.actors own e (found run.actors actor own there) h in
+            let known : Known run.actors e.stamp = entry_known run.actors own e (found_in run.actors actor own there) h in
             let count = count_from (stamps run.actors) (down second) e.stamp (inr known) in
             let all = count_to-length e.stamp (stamps run.actors) in
             let many : length (stamps run.actors) ≡ length (arrivals_of run.actors) = length-map (arrivals_of run.actors) stamp_of_entry in

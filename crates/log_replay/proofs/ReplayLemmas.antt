@@ -3,7 +3,7 @@ use Rattle.std.proofs.Common.{◌≡◌, ◌∙◌, inl, inr, ℕ, zero, suc, �
 use Rattle.std.specs.List.{AllByRecursion}
 use Rattle.std.proofs.Math.ListN.{drop_of_length-le}
 use Rattle.std.proofs.lemmas.Bool.{cases_lt}
-use Rattle.std.proofs.lemmas.List.{drop_more, length-map}
+use Rattle.std.proofs.lemmas.List.{drop_more, length-map, length-replicate}
 use Rattle.std.proofs.lemmas.Option.{slice_get_past}
 use Rattle.join_base.specs.Late.{HasCount}
 use Rattle.join_base.specs.declared.message.Source.{Source}
@@ -24,7 +24,8 @@ use Rattle.fair_semantics.specs.Step.{State, Stepped, fair_step, opening}
 use Rattle.fair_semantics.proofs.ListLemmas.{each_from}
 use Rattle.actor_turn.specs.Held.{Held, new_actor}
 use Rattle.run_fits.specs.FitsLaw.{RulesFit}
-use Rattle.log_replay.specs.Expected.{bare, entries_in, expected_run, read_entries, stepped}
+use Rattle.run_order.specs.Sorted.{entries_in}
+use Rattle.log_replay.specs.Expected.{bare, expected_run, read_entries, stepped}
 use Rattle.log_replay.specs.Law.{AllRulesFit}
 use Rattle.log_replay.specs.declared.settling.Settlement.{Settlement}
 use Rattle.log_replay.specs.Kept.{entries_size, sections_size}
@@ -35,9 +36,9 @@ use Rattle.log_replay.proofs.SwapLemmas.{kept_shown, kept_stamps, settled_shown,
 use Rattle.std.specs.Prelude.{slice_set}
 use Rattle.std.proofs.lemmas.List.{length-set}
 use Rattle.join_base.specs.declared.message.Stamped.{Stamped}
-use Rattle.actor_turn.specs.Held.{first_of, posts_behind, posts_for, without_first}
+use Rattle.actor_turn.specs.Held.{first_of, posts_for, without_first}
 use Rattle.log_replay.proofs.MadeLemmas.{read_fit}
-use Rattle.log_replay.proofs.SettledLemmas.{length-replicate, replay_is, sources_counted}
+use Rattle.log_replay.proofs.SettledLemmas.{replay_is, sources_counted}
 use Rattle.log_replay.proofs.ConverseLemmas.{count_numbers}
 
 -- what is left of the walk of an actor
@@ -47,8 +48,8 @@ pub record Goes (plan : Plan) (run : Run) (index : ℕ) (actor : Held) (all : Li
   pub counted : AllByRecursion (λ entry. HasCount actor.state.late entry.source) all
 
 pub source_counted : (plan : Plan) (feeds : ℕ) (source : Source) → SourceFits plan feeds source → HasCount (opening feeds (length plan.actors)).late source
-source_counted plan feeds (Feed k) h = (h.0, omega (arith, h.1, length-replicate feeds))
-source_counted plan feeds (Actor a) h = omega (arith, h, length-replicate (length plan.actors))
+source_counted plan feeds (Feed k) h = (h.0, omega (arith, h.1, length-replicate {A = ℕ} feeds 0))
+source_counted plan feeds (Actor a) h = omega (arith, h, length-replicate {A = ℕ} (length plan.actors) 0)
 
 pub goes_first : (plan : Plan) (run : Run) (index : ℕ) (actor : Held) (read : List ActorRun) (all : List Entry) → IsTyped plan → RunFits plan run → actor ≡ new_actor plan index run.limits run.feeds → read ≡ run.actors → all ≡ entries_in (slice_get read index)
     → Goes plan run index actor all 0
@@ -83,10 +84,6 @@ goes_still plan run index actor next all place h state same = record {
 }
 
 -- ---- posts that nobody takes
-
-pub boxes_more : (target : ℕ) (entries : List Entry) (outbox : List (List Stamped)) → length (posts_behind target entries outbox) ≡ length outbox
-boxes_more target entries [] = refl
-boxes_more target entries (posts ∷ outbox) = ap suc (boxes_more (target + 1) entries outbox)
 
 pub less_state : (held : Held) (target : ℕ) (posts : List Stamped) → (without_first held target posts).state ≡ held.state
 less_state held target [] = refl

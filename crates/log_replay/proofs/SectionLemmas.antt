@@ -18,15 +18,18 @@ use Rattle.fair_semantics.proofs.ChainLemmas.{Records, adds}
 use Rattle.fair_semantics.proofs.ListLemmas.{each_append}
 use Rattle.guard_eval.proofs.ReadyLemmas.{each_at}
 use Rattle.arrival_log.specs.LogText.{end_line, head_line, late_line, line as text_line}
-use Rattle.log_replay.specs.Expected.{bare, entries_in, expected_actor, expected_late, expected_posts, expected_run, read_entries, stamped_as, stamped_in, stamps_sent, stepped, unstamped_actor, with_stamp}
+use Rattle.run_order.proofs.ArrivalLemmas.{length-arrived}
+use Rattle.run_order.specs.Sorted.{entries_in}
+use Rattle.log_posts.specs.Posts.{posts_made}
+use Rattle.log_replay.specs.Expected.{bare, expected_actor, expected_late, expected_posts, expected_run, read_entries, stamped_in, stamps_sent, stepped, unstamped_actor}
 use Rattle.log_replay.specs.Fault.{Keeps, Line, Mark, ends, entries_lines, entry_lines, firing_texts, lines_of, other_line, section_lines, sections_from}
-use Rattle.log_replay.specs.Kept.{earlier, ends_running, entries_size, link_of, links_fault, posts_fault, posts_made, section_fault, section_size, sections_fault}
+use Rattle.log_replay.specs.Kept.{earlier, ends_running, entries_size, link_of, links_fault, posts_fault, section_fault, section_size, sections_fault}
 use Rattle.log_replay.proofs.AcceptedLemmas.{each_mapped}
-use Rattle.log_replay.proofs.ActorLemmas.{length_arrived}
-use Rattle.log_replay.proofs.ExpectedLemmas.{settled_entries}
 use Rattle.log_replay.proofs.FirstLemmas.{First, first_all, first_both, first_else, first_pass, first_same}
 use Rattle.log_replay.proofs.KeepsLemmas.{LinkKeeps, entries_first, firing_count}
 use Rattle.log_replay.proofs.ReadLemmas.{get_numbers, stamped_bare, stamped_few}
+use Rattle.log_replay.proofs.SwapLemmas.{stamped_like}
+use Rattle.log_replay.proofs.EndingLemmas.{settled_entries}
 
 -- ---- the posts of the expected run
 
@@ -34,18 +37,6 @@ few_records : (latest : ℕ) (sent : List Sent) (new : List Entry) → Records l
 few_records latest sent [] h = omega arith
 few_records latest [] (e ∷ new) h = absurd h
 few_records latest (s ∷ sent) (e ∷ new) h = let later = few_records e.stamp sent new h.1 in omega arith
-
--- stamps that were read take the place of others
-stamped_too : (entries others lines : List Entry) → map unstamped_entry entries ≡ map unstamped_entry others → length entries ≤ length lines → stamped_as entries lines ≡ stamped_as others lines
-stamped_too [] [] lines same few = refl
-stamped_too [] (o ∷ others) lines same few = absurd cc
-stamped_too (e ∷ entries) [] lines same few = absurd cc
-stamped_too (e ∷ entries) (o ∷ others) [] same few = absurd (omega arith)
-stamped_too (e ∷ entries) (o ∷ others) (l ∷ lines) same few =
-    let first : unstamped_entry e ≡ unstamped_entry o = cc in
-    let rest : map unstamped_entry entries ≡ map unstamped_entry others = cc in
-    let later = stamped_too entries others lines rest (omega arith) in
-    λ i. with_stamp (first i) l.stamp ∷ later i
 
 module _ (plan : Plan) (run : Run) where
   pub few_stepped : (actor : ℕ) → length (stepped plan run actor).entries ≤ length (read_entries run actor)
@@ -59,11 +50,11 @@ module _ (plan : Plan) (run : Run) where
       let own : List Entry = (unstamped_actor plan run from).entries in
       let sent : List Sent = arrived (stamps_sent plan run from) (read_entries run from) in
       let same : own ≡ (stepped plan run from).entries = settled_entries (stepped plan run from) (expected_late plan run from) in
-      let all = length_arrived (stamps_sent plan run from) [] (read_entries run from) in
+      let all = length-arrived (stamps_sent plan run from) [] (read_entries run from) in
       let few : length own ≤ length (read_entries run from) = omega (arith, ap length same, few_stepped from) in
       let unstamped = stamped_bare run.version sent own (omega (arith, few, all)) ∙ ap (map unstamped_entry) same in
       let least = stamped_few run.version sent own in
-      ap (λ (es : List Entry). flat_map (entry_posts to) es) (stamped_too (stamped_in run.version sent own) (stepped plan run from).entries (read_entries run from) unstamped (omega (arith, least, few)))
+      ap (λ (es : List Entry). flat_map (entry_posts to) es) (stamped_like (stamped_in run.version sent own) (stepped plan run from).entries (read_entries run from) unstamped (omega (arith, least, few)))
 
   entries_of_actors : (from : ℕ) → from < length plan.actors → entries_in (slice_get (expected_run plan run).actors from) ≡ (expected_actor plan run from).entries
   entries_of_actors from l =

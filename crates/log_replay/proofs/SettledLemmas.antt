@@ -3,7 +3,8 @@ use Rattle.std.proofs.Common.{◌≡◌, ◌∙◌, ℕ, zero, suc, ◌+◌, ◌
 use Rattle.std.specs.Prelude.{if◌then◌else◌, nat_lt, not, replicate, slice_index, slice_set, ◌&&◌, ◌||◌, ◌==◌}
 use Rattle.std.specs.List.{AllByRecursion, list_any}
 use Rattle.std.proofs.lemmas.Bool.Decides.{nat_tests}
-use Rattle.std.proofs.lemmas.List.{length-map, length-set}
+use Rattle.std.proofs.lemmas.List.{length-map, length-replicate, length-set}
+use Rattle.std.proofs.lemmas.Bool.{eqb-true}
 use Rattle.join_base.specs.Late.{Late, late_counts, late_list}
 use Rattle.join_base.specs.declared.message.Source.{Source}
 use Rattle.join_base.specs.declared.message.Source.TheVariants.{Feed, Actor}
@@ -24,16 +25,25 @@ use Rattle.log_replay.specs.Law.{AllRulesFit}
 use Rattle.fair_semantics.specs.Fair.{Sent, run_of, setting_of}
 use Rattle.fair_semantics.specs.Linked.{arrived, arrived_after, numbers_from, same_source, stamp_at, taken_from, unstamped_entry}
 use Rattle.fair_semantics.specs.Step.{State, definitions_of, is_running, letters_of}
-use Rattle.log_replay.specs.Expected.{count_where, entries_in, expected_actor, expected_late, expected_posts, expected_run, late_in, may_be_late, next_stamp, posts_beyond, read_entries, read_late, restamped, settled, some_late, stamped_in, stamps_sent, stepped, with_entries, with_stamp}
-use Rattle.log_replay.specs.Kept.{posts_made}
+use Rattle.run_order.proofs.ArrivalLemmas.{length-arrived}
+use Rattle.run_order.specs.Sorted.{entries_in}
+use Rattle.log_posts.specs.Lates.{actor_counts, count_where, lates_made}
+use Rattle.log_posts.specs.Posts.{posts_made, with_stamp}
+use Rattle.log_posts.specs.Stamps.{carried_by, IsCounted, link_at, next_stamp, stamps_in, stamps_made, taken_after, with_stamps}
+use Rattle.log_posts.proofs.SameLemmas.{itself}
+use Rattle.log_replay.specs.Expected.{expected_actor, expected_late, expected_posts, expected_run, late_in, may_be_late, posts_beyond, read_entries, read_late, restamped, settled, some_late, stamped_in, stamps_sent, stepped, with_entries}
 use Rattle.log_replay.specs.Settling as made
-use Rattle.log_replay.specs.Settling.{IsCounted, actor_counts, carried_by, definition_count, lates_made, link_at, links_to, made_run, made_runs, stamps_made, taken_after, with_stamps}
-use Rattle.log_replay.proofs.ActorLemmas.{length_arrived}
+use Rattle.log_replay.specs.Settling.{definition_count, links_to, made_run, made_runs}
+use Rattle.log_replay.proofs.ConverseLemmas.{count_numbers}
 use Rattle.log_replay.proofs.KeepsLemmas.{taken_more, taken_same}
-use Rattle.log_replay.proofs.ExpectedLemmas.{settled_entries}
 use Rattle.log_replay.proofs.ReadLemmas.{get_numbers}
 use Rattle.log_replay.proofs.SectionLemmas.{few_stepped}
-use Rattle.log_replay.proofs.SettlingLemmas.{links_count}
+use Rattle.log_replay.proofs.EndingLemmas.{settled_entries}
+
+-- ---- links
+
+pub links_count : (made : List ActorRun) (run : Run) (to from n : ℕ) → length (links_to made run to from n) ≡ n
+links_count made run to from n = length-map (numbers_from from n) (λ k. posts_made to (entries_in (slice_get made k)) (entries_in (slice_get run.actors k))) ∙ count_numbers from n
 
 -- ---- stamps
 
@@ -66,12 +76,6 @@ set_other (y ∷ xs) zero (suc q) x apart = refl
 set_other (y ∷ xs) (suc p) zero x apart = refl
 set_other (y ∷ xs) (suc p) (suc q) x apart = set_other xs p q x (λ e. apart (ap suc e))
 
-equal : (a b : ℕ) → (a == b) ≡ true → a ≡ b
-equal a b e = grind (arith, nat_tests)
-
-itself : (a : ℕ) → (a == a) ≡ true
-itself a = grind (arith, nat_tests)
-
 not_equal : (a b : ℕ) → (a == b) ≡ false → a ≡ b → ⊥
 not_equal a b e p = absurd (grind (arith, nat_tests))
 
@@ -96,7 +100,7 @@ module _ (n : ℕ) (links : List (List Stamped)) (sends : Source → List Stampe
         where
           one : (a : ℕ) → a < n → (t : Bool) → (b == a) ≡ t → slice_index (slice_set taken b (slice_index taken b + 1)) a ≡ length (taken_from (Actor a) (before ++ e ∷ []))
           one a l true same =
-              let at : b ≡ a = equal b a same in
+              let at : b ≡ a = eqb-true b a same in
               subst (λ (c : ℕ). slice_index (slice_set taken b (slice_index taken b + 1)) c ≡ length (taken_from (Actor c) (before ++ e ∷ []))) at
               (set_here taken b (slice_index taken b + 1) (omega (arith, counted, h.many)) ∙ ap (λ (m : ℕ). m + 1) (h.each b counted)
               ∙ sym (taken_more b before e (ap (λ (s : Source). same_source s (Actor b)) is ∙ itself b)))
@@ -119,10 +123,6 @@ none_yet : (n a : ℕ) → slice_index (replicate n 0) a ≡ 0
 none_yet zero a = refl
 none_yet (suc n) zero = refl
 none_yet (suc n) (suc a) = none_yet n a
-
-pub length-replicate : (n : ℕ) → length (replicate n zero) ≡ n
-length-replicate zero = refl
-length-replicate (suc n) = ap suc (length-replicate n)
 
 -- ---- late counts
 
@@ -220,14 +220,14 @@ module _ (plan : Plan) (run : Run) (runs : List ActorRun) (many : length run.act
         let n : ℕ = length run.actors in
         let count = links_count runs run to 0 n in
         ap (λ (m : ℕ). stamps_made links (replicate m 0) 0 read.entries) count
-        ∙ stamps_are n links (stamps_sent plan run to) (λ k. refl) (λ a l. link_is to a (omega (arith, l, many))) (replicate n 0) 0 [] read.entries (record { many = length-replicate n; each = λ a l. none_yet n a }) counted
+        ∙ stamps_are n links (stamps_sent plan run to) (λ k. refl) (λ a l. link_is to a (omega (arith, l, many))) (replicate n 0) 0 [] read.entries (record { many = length-replicate n 0; each = λ a l. none_yet n a }) counted
 
-    stamped_is : (entries : List Entry) → length entries ≤ length read.entries → with_stamps (made.stamps_in run.version links read.entries) entries ≡ stamped_in run.version sent entries
+    stamped_is : (entries : List Entry) → length entries ≤ length read.entries → with_stamps (stamps_in run.version links read.entries) entries ≡ stamped_in run.version sent entries
     stamped_is entries few = by (run.version == 1)
       where
         by : (b : Bool) → with_stamps (if b then replicate (length read.entries) 0 else stamps_made links (replicate (length links) 0) 0 read.entries) entries ≡ (if b then map unstamped_entry entries else restamped 0 sent entries)
         by true = unstamped_by (length read.entries) entries few
-        by false = ap (λ (ns : List ℕ). with_stamps ns entries) stamps_follow ∙ restamped_by 0 sent entries (omega (arith, few, length_arrived (stamps_sent plan run to) [] read.entries))
+        by false = ap (λ (ns : List ℕ). with_stamps ns entries) stamps_follow ∙ restamped_by 0 sent entries (omega (arith, few, length-arrived (stamps_sent plan run to) [] read.entries))
 
     -- settled, the run is the expected run of the actor
     pub finished_is : (definitions : ℕ) → definitions ≡ partial_count (letters_of (stepped plan run to).entries) [] (definitions_of (setting_of plan to run.limits).rules)
@@ -241,7 +241,7 @@ module _ (plan : Plan) (run : Run) (runs : List ActorRun) (many : length run.act
         let own : ActorRun = run_of rules (settled state late) in
         let settled_too = ap (λ (ls : List (Source × ℕ)). made.settled_run (run_of rules state) ls definitions) lates ∙ settled_is to rules state late definitions count in
         let few : length own.entries ≤ length read.entries = omega (arith, ap length (settled_entries state late), few_stepped plan run to, ap length lines_are) in
-        (λ i. with_entries (settled_too i) (with_stamps (made.stamps_in run.version links read.entries) (settled_too i).entries))
+        (λ i. with_entries (settled_too i) (with_stamps (stamps_in run.version links read.entries) (settled_too i).entries))
         ∙ ap (with_entries own) (stamped_is own.entries few)
         ∙ (λ i. with_entries own (stamped_in run.version (arrived (stamps_sent plan run to) (sym lines_are i)) own.entries))
 

@@ -9,12 +9,15 @@ use Rattle.fair_semantics.specs.declared.run.ActorRun.{ActorRun}
 use Rattle.fair_semantics.specs.declared.run.Entry.{Entry}
 use Rattle.fair_semantics.specs.Linked.{entry_posts}
 use Rattle.log_replay.specs.declared.shared.Shared.{Shared}
-use Rattle.log_replay.specs.Expected.{entries_in, stamped_as, with_entries, with_stamp}
+use Rattle.run_order.specs.Sorted.{entries_in}
+use Rattle.log_posts.specs.Posts.{posts_made, stamped_as, with_stamp}
+use Rattle.log_replay.specs.Expected.{with_entries}
 use Rattle.fair_semantics.specs.declared.run.Limits.{Limits}
 use Rattle.fair_semantics.specs.declared.run.Run.{Run}
 use Rattle.fair_semantics.specs.Step.{is_running}
-use Rattle.log_replay.specs.Kept.{ends_running, link_fault, link_of, posts_made}
-use Rattle.log_replay.specs.Settling.{links_to, may_be_late, with_stamps}
+use Rattle.log_replay.specs.Kept.{ends_running, link_fault, link_of}
+use Rattle.log_posts.specs.Stamps.{with_stamps}
+use Rattle.log_replay.specs.Settling.{links_to, may_be_late}
 use Rattle.log_replay.specs.Shared.{plain, plain_at, runs_at, shown, shown_all, shown_run, stamp_or}
 
 -- ---- stamps that are written over

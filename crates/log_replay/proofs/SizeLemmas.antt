@@ -7,7 +7,8 @@ use Rattle.join_base.specs.declared.message.Source.TheVariants.{Feed, Actor}
 use Rattle.join_base.specs.Late.{Late}
 use Rattle.join_base.specs.Late.{late_counts}
 use Rattle.fair_semantics.specs.Linked.{numbers_from, sources}
-use Rattle.log_replay.specs.Expected.{count_where, some_late}
+use Rattle.log_posts.specs.Lates.{count_where}
+use Rattle.log_replay.specs.Expected.{some_late}
 use Rattle.log_replay.proofs.TakenLemmas.{or_parts}
 pub use Rattle.fair_semantics.proofs.SizeLemmas.{Sized, none_counted, sized, sized_more, sized_opening}
 

@@ -14,19 +14,22 @@ use Rattle.fair_semantics.specs.Linked.{entry_posts, numbers_from, unstamped_ent
 use Rattle.fair_semantics.specs.Step.{is_running}
 use Rattle.log_replay.specs.declared.settling.Settlement.{Settlement}
 use Rattle.log_replay.specs.declared.shared.Shared.{Shared}
-use Rattle.log_replay.specs.Expected.{entries_in, next_stamp, stamped_as, with_entries, with_stamp}
-use Rattle.log_replay.specs.Kept.{posts_made}
-use Rattle.log_replay.specs.Same.{same_entries}
-use Rattle.log_replay.specs.Settling.{carried_by, definition_count, finished, finished_runs, lates_made, links_to, may_be_late, settled_run, settlement_of, settlements_of, stamps_in, stamps_made, taken_after, with_stamps}
+use Rattle.run_order.specs.Sorted.{entries_in}
+use Rattle.log_posts.specs.Posts.{posts_made, stamped_as, with_stamp}
+use Rattle.log_posts.specs.Stamps.{carried_by, next_stamp, stamps_in, stamps_made, taken_after, with_stamps}
+use Rattle.log_replay.specs.Expected.{with_entries}
+use Rattle.log_posts.specs.Same.{same_entries}
+use Rattle.log_posts.specs.Lates.{lates_made}
+use Rattle.log_replay.specs.Settling.{definition_count, finished, finished_runs, links_to, may_be_late, settled_run, settlement_of, settlements_of}
 use Rattle.log_replay.specs.Shared.{finished_all, finished_shared, kept, settlements_shown, shown, shown_all}
-use Rattle.log_replay.proofs.SameLemmas.{entries_are}
+use Rattle.log_posts.proofs.SameLemmas.{entries_are}
 
 -- ---- entries that are equal but for stamps
 
 same_many : (es fs : List Entry) → map unstamped_entry es ≡ map unstamped_entry fs → length es ≡ length fs
 same_many es fs same = sym (length-map es unstamped_entry) ∙ ap length same ∙ length-map fs unstamped_entry
 
-stamped_like : (es fs lines : List Entry) → map unstamped_entry es ≡ map unstamped_entry fs → length es ≤ length lines → stamped_as es lines ≡ stamped_as fs lines
+pub stamped_like : (es fs lines : List Entry) → map unstamped_entry es ≡ map unstamped_entry fs → length es ≤ length lines → stamped_as es lines ≡ stamped_as fs lines
 stamped_like [] [] lines same few = refl
 stamped_like [] (f ∷ fs) lines same few = absurd cc
 stamped_like (e ∷ es) [] lines same few = absurd cc

@@ -9,7 +9,9 @@ use Rattle.fair_semantics.specs.Step.{Setting, State, entry_with, fits, is_refus
 use Rattle.fair_semantics.specs.Fair.{Sent, after_all}
 use Rattle.fair_semantics.specs.Linked.{unstamped_entry}
 use Rattle.fair_semantics.proofs.FairLemmas.{latest_stamp-more}
-use Rattle.log_replay.specs.Expected.{next_stamp, restamped, stamped_as, with_stamp}
+use Rattle.log_posts.specs.Posts.{stamped_as, with_stamp}
+use Rattle.log_posts.specs.Stamps.{next_stamp}
+use Rattle.log_replay.specs.Expected.{restamped}
 use Rattle.log_replay.proofs.BareLemmas.{arrival_alike, bare_state}
 pub use Rattle.fair_semantics.proofs.TakenLemmas.{OnlyLate, Taken, arrival_is, arrival_of, ended, late_is, next_of, not_late, one_more, or_none, or_parts, records, spent_is, spent_on, taken_count, taken_or_fewer}
 

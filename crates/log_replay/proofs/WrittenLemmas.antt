@@ -13,7 +13,7 @@ use Rattle.log_replay.specs.declared.apart.Progress.{Progress}
 use Rattle.log_replay.specs.declared.shared.Shared.{Shared}
 use Rattle.log_replay.specs.Apart.{behind, lines_before, parted}
 use Rattle.log_replay.specs.declared.apart.Progress.TheVariants.{Along}
-use Rattle.log_replay.specs.Settling.{with_stamps}
+use Rattle.log_posts.specs.Stamps.{with_stamps}
 use Rattle.log_replay.specs.Shared.{shown, shown_all, stamp_or}
 use Rattle.log_replay.proofs.ProgressLemmas.{behind_both, parts_where}
 use Rattle.log_replay.proofs.SharedLemmas.{stamp_here}

@@ -1,7 +1,6 @@
 -- The expected run of a run that was read: what its actors do, by the fair step, with the arrivals that it shows.
-use Rattle.std.specs.Prelude.{ℕ, ◌+◌, ◌-◌, ◌^◌, min, max, List, [], ◌∷◌, Bool, not, ◌&&◌, ◌||◌, ◌==◌, nat_lt, nat_le, Option, None, Some, map, length, slice_get, if◌then◌else◌}
+use Rattle.std.specs.Prelude.{ℕ, ◌-◌, ◌^◌, min, List, [], ◌∷◌, Bool, not, ◌&&◌, ◌||◌, ◌==◌, nat_le, Option, None, Some, map, length, slice_get, if◌then◌else◌}
 use Rattle.std.specs.List.{flat_map, list_any}
-use Rattle.join_base.specs.Stamps.{greatest_stamp}
 use Rattle.join_base.specs.declared.message.Stamped.{Stamped}
 use Rattle.join_base.specs.declared.message.Source.{Source}
 use Rattle.join_base.specs.declared.message.Source.TheVariants.{Feed, Actor}
@@ -15,12 +14,12 @@ use Rattle.join_base.specs.Late.{Late}
 use Rattle.fair_semantics.specs.Step.{State, is_running}
 use Rattle.fair_semantics.specs.Fair.{Sent, fair, run_of, setting_of}
 use Rattle.fair_semantics.specs.Linked.{arrived, count_of, entry_posts, numbers_from, taken_from, unstamped_entry}
+use Rattle.run_order.specs.Sorted.{entries_in}
+use Rattle.log_posts.specs.Lates.{count_where}
+use Rattle.log_posts.specs.Posts.{stamped_as, with_stamp}
+use Rattle.log_posts.specs.Stamps.{next_stamp}
 
 -- ---- the section of an actor, as it was read
-
-abbrev pub entries_in : Option ActorRun → List Entry
-entries_in None = []
-entries_in (Some own) = own.entries
 
 abbrev pub late_in : Option ActorRun → List (Source × ℕ)
 late_in None = []
@@ -42,15 +41,6 @@ bare entry = (entry.source, record { message = entry.message; stamp = 0 })
 abbrev pub stepped : Plan → Run → ℕ → State
 stepped plan run actor = fair plan actor run.limits run.feeds (map bare (read_entries run actor))
 
-abbrev pub with_stamp : Entry → ℕ → Entry
-with_stamp entry stamp = record entry { stamp = stamp }
-
--- the entries with the stamps of the arrival lines at their places
-abbrev pub stamped_as : List Entry → List Entry → List Entry
-stamped_as [] lines = []
-stamped_as (entry ∷ more) [] = entry ∷ more
-stamped_as (entry ∷ more) (line ∷ lines) = with_stamp entry line.stamp ∷ stamped_as more lines
-
 -- the posts from one actor to another by its expected entries, each with the stamp that was read at the entry that makes it
 abbrev pub expected_posts : Plan → Run → ℕ → ℕ → List Stamped
 expected_posts plan run from to = flat_map (entry_posts to) (stamped_as (stepped plan run from).entries (read_entries run from))
@@ -64,9 +54,6 @@ posts_beyond plan run from to = min (length (expected_posts plan run from to) - 
 -- no message can be late at an actor that runs and is not full
 abbrev pub may_be_late : Limits → State → Bool
 may_be_late limits state = not (is_running state.ending) || nat_le limits.arrivals (length state.entries)
-
-abbrev pub count_where : Bool → ℕ → ℕ
-count_where late count = if late then count else 0
 
 -- of the feeds the counts that were read, and of the actors their posts beyond
 abbrev pub expected_late : Plan → Run → ℕ → Late
@@ -92,10 +79,6 @@ settled state late =
 abbrev pub stamps_sent : Plan → Run → ℕ → Source → List Stamped
 stamps_sent plan run actor (Feed k) = []
 stamps_sent plan run actor (Actor from) = expected_posts plan run from actor
-
--- 1 more than the greater of the stamp before and the one that the arrival carries, or 1 where no stamp is left
-abbrev pub next_stamp : ℕ → ℕ → ℕ
-next_stamp before carried = if nat_lt (max before carried) greatest_stamp then max before carried + 1 else 1
 
 -- the entries of these arrivals, where this was the stamp before them
 abbrev pub restamped : ℕ → List Sent → List Entry → List Entry

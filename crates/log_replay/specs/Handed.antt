@@ -1,5 +1,5 @@
 -- The replay of a run that is handed over.
-use Rattle.std.specs.Prelude.{◌≡◌, ℕ, ◌+◌, List, [], ◌∷◌, Bool, true, false, ◌&&◌, ◌==◌, nat_lt, Option, None, Some, length, map, slice_get}
+use Rattle.std.specs.Prelude.{◌≡◌, ℕ, ◌+◌, List, [], ◌∷◌, Bool, false, ◌&&◌, ◌==◌, nat_lt, Option, None, Some, length, map, slice_get}
 use Rattle.std.specs.List.{AllByRecursion}
 use Rattle.join_base.specs.Late.{HasCount}
 use Rattle.script_types.specs.declared.plan.Plan.{Plan}
@@ -14,10 +14,10 @@ use Rattle.log_replay.specs.declared.handed.Made.{Made}
 use Rattle.log_replay.specs.declared.handed.Remade.{Remade}
 use Rattle.log_replay.specs.declared.shared.Replayed.{Replayed}
 use Rattle.log_replay.specs.declared.shared.Shared.{Shared}
-use Rattle.log_replay.specs.Expected.{bare, with_entries}
+use Rattle.log_replay.specs.Expected.{bare}
 use Rattle.log_replay.specs.Law.{AllRulesFit}
-use Rattle.log_replay.specs.Same.{same_fired}
-use Rattle.log_replay.specs.Settling.{with_stamps}
+use Rattle.log_posts.specs.Same.{same_fired}
+use Rattle.log_posts.specs.Stamps.{with_stamps}
 use Rattle.log_replay.specs.Shared.{kept, kept_runs}
 
 -- what an arrival fired, where there is one
@@ -41,9 +41,6 @@ made_of plan limits feeds index entries = fair_run plan index limits feeds (map 
 pub record IsMade (plan : Plan) (limits : Limits) (feeds index : ℕ) (entries : List Entry) (made : Made) : Type 0 where
   pub own : made.own ≡ made_of plan limits feeds index entries
   pub back : with_stamps made.stamps made.own.entries ≡ entries
-
-abbrev pub without_entries : ActorRun → Shared
-without_entries own = record { as_read = true; stamps = []; own = with_entries own [] }
 
 abbrev pub kept_of : Plan → Limits → ℕ → ℕ → List Entry → Shared
 kept_of plan limits feeds index entries = kept entries (made_of plan limits feeds index entries)

@@ -1,51 +1,15 @@
 -- What the lines of a run say of posts, beside its expected run: the first that does not hold. Lines are counted from 0.
-use Rattle.std.specs.Prelude.{ℕ, ◌+◌, min, List, [], ◌∷◌, Bool, false, true, ◌&&◌, ◌==◌, nat_lt, Option, None, Some, length, slice_get, if◌then◌else◌}
-use Rattle.std.specs.List.{flat_map}
-use Rattle.std.specs.Ordering.{int_eq}
-use Rattle.std.specs.Str.{bytes_eq}
-use Rattle.join_base.specs.declared.message.Message.{Message}
+use Rattle.std.specs.Prelude.{ℕ, ◌+◌, min, List, [], ◌∷◌, Bool, false, ◌&&◌, nat_lt, Option, None, Some, length, slice_get, if◌then◌else◌}
 use Rattle.join_base.specs.declared.message.Source.TheVariants.{Actor}
 use Rattle.join_base.specs.declared.message.Stamped.{Stamped}
-use Rattle.join_base.specs.declared.message.Value.{Value}
-use Rattle.join_base.specs.declared.message.Value.TheVariants.{Int, Words}
 use Rattle.fair_semantics.specs.declared.run.ActorRun.{ActorRun}
 use Rattle.fair_semantics.specs.declared.run.Entry.{Entry}
 use Rattle.fair_semantics.specs.declared.run.Firing.{Firing}
 use Rattle.fair_semantics.specs.declared.run.Run.{Run}
-use Rattle.fair_semantics.specs.Linked.{entry_posts, numbers_from, same_source}
+use Rattle.fair_semantics.specs.Linked.{numbers_from, same_source}
 use Rattle.fair_semantics.specs.Step.{is_running}
-use Rattle.log_replay.specs.Expected.{entries_in, stamped_as}
-
--- ---- equality of messages
-
-abbrev pub same_value : Value → Value → Bool
-same_value (Int a) (Int b) = int_eq a b
-same_value (Int a) (Words text) = false
-same_value (Words text) (Int b) = false
-same_value (Words text) (Words other) = bytes_eq text other
-
-abbrev pub same_values : List Value → List Value → Bool
-same_values [] [] = true
-same_values [] (w ∷ others) = false
-same_values (v ∷ values) [] = false
-same_values (v ∷ values) (w ∷ others) = same_value v w && same_values values others
-
-abbrev pub same_message : Message → Message → Bool
-same_message a b = (a.kind == b.kind) && same_values a.fields b.fields
-
--- ---- the posts of a link
-
-abbrev pub line_stamp : Option Entry → ℕ → ℕ
-line_stamp None stamp = stamp
-line_stamp (Some line) stamp = line.stamp
-
--- the posts to an actor by the entries that were made, each with the stamp of the line that was read at its place
-abbrev pub posts_made : ℕ → List Entry → List Entry → List Stamped
-posts_made to made lines = flat_map (entry_posts to) (stamped_as made lines)
-
-abbrev pub has_message : Option Stamped → Message → Bool
-has_message None message = false
-has_message (Some post) message = same_message post.message message
+use Rattle.run_order.specs.Sorted.{entries_in}
+use Rattle.log_posts.specs.Posts.{has_message, posts_made}
 
 -- ---- the first line that does not hold
 

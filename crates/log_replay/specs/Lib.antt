@@ -9,6 +9,5 @@ pub mod Apart
 pub mod Handed
 pub mod Kept
 pub mod Replays
-pub mod Same
 pub mod Settling
 pub mod Shared

@@ -7,8 +7,9 @@ use Rattle.log_replay.specs.declared.shared.Shared.{Shared}
 use Rattle.fair_semantics.specs.Linked.{numbers_from}
 use Rattle.fair_semantics.specs.Step.{is_running}
 use Rattle.log_replay.specs.Expected.{read_entries, with_entries}
-use Rattle.log_replay.specs.Same.{same_entries}
-use Rattle.log_replay.specs.Settling.{definition_count, made_run, settled_run, settlement_of, with_stamps}
+use Rattle.log_posts.specs.Same.{same_entries}
+use Rattle.log_posts.specs.Stamps.{with_stamps}
+use Rattle.log_replay.specs.Settling.{definition_count, made_run, settled_run, settlement_of}
 use Rattle.log_replay.specs.declared.settling.Settlement.{Settlement}
 use Rattle.script_types.specs.declared.plan.Plan.{Plan}
 
@@ -22,10 +23,14 @@ shown_all [] runs = []
 shown_all (read ∷ reads) [] = []
 shown_all (read ∷ reads) (shared ∷ runs) = shown read shared ∷ shown_all reads runs
 
+-- a run whose entries are the read ones but for their stamps, and are let go of
+abbrev pub without_entries : ActorRun → Shared
+without_entries own = record { as_read = true; stamps = []; own = with_entries own [] }
+
 -- a run with the entries let go of where they are the read ones but for their stamps
 abbrev pub kept : List Entry → ActorRun → Shared
 kept read own =
-    if same_entries own.entries read then record { as_read = true; stamps = []; own = with_entries own [] }
+    if same_entries own.entries read then without_entries own
     else record { as_read = false; stamps = []; own = own }
 
 -- the entries but for their stamps

@@ -7,17 +7,17 @@ ghost use Rattle.fair_semantics.specs.Fits.{RunFits};
 ghost use Rattle.fair_semantics.specs.Step.{fair_step, latest_stamp};
 ghost use Rattle.actor_turn.specs.Held.{AreLimits};
 ghost use Rattle.run_fits.specs.FitsLaw.{RulesFit};
-ghost use Rattle.log_replay.specs.Expected.{with_stamp};
-ghost use Rattle.log_replay.specs.Handed.{AreCounted, IsHanded, IsMade, IsRemade, is_recorded, without_entries};
-ghost use Rattle.log_replay.specs.Settling.{with_stamps};
+ghost use Rattle.log_posts.specs.Posts.{with_stamp};
+ghost use Rattle.log_replay.specs.Handed.{AreCounted, IsHanded, IsMade, IsRemade, is_recorded};
+ghost use Rattle.log_posts.specs.Stamps.{with_stamps};
+ghost use Rattle.log_replay.specs.Shared.{without_entries};
 
 use crate::replaying::forget_fired;
-use crate::same::same_fired;
-use crate::settling::with_stamps;
-use crate::shared::{Replayed, Shared};
+use crate::shared::{Replayed, Shared, without_entries};
 use actor_turn::Actor;
 use fair_semantics::{ActorRun, Entry, Firing, Limits, Run};
 use join_base::{Items, NoMemory, Steps};
+use log_posts::{same_fired, with_stamps};
 use script_types::Plan;
 use std::alloc::Global;
 use std::sync::ledger::Ledger;
@@ -177,27 +177,8 @@ fn shared(alloc: Global, made: Made) -> (Items<Entry>, Shared)
     ensures own { result.1 ≡ without_entries made.own }
 {
     let Made { own, stamps } = made;
-    let ActorRun {
-        entries,
-        late,
-        ending,
-        left,
-        partials,
-    } = own;
-    let entries = with_stamps(entries, stamps.as_slice());
-    let own = ActorRun {
-        entries: Items::new(alloc),
-        late,
-        ending,
-        left,
-        partials,
-    };
-    let shared = Shared {
-        as_read: true,
-        stamps: Items::new(alloc),
-        own,
-    };
-    (entries, shared)
+    let (entries, shared) = without_entries(alloc, own);
+    (with_stamps(entries, stamps.as_slice()), shared)
 }
 
 /// What the actors of a run make of its arrivals, where each records them as they were read but for their stamps. `None` where some

@@ -1,27 +1,15 @@
 //! What the lines of a run say of posts, beside its expected run. Lines are counted from 0.
 ghost use Rattle.std.specs.Prelude.{◌≡◌, ℕ, ◌+◌, ◌^◌, ◌<◌, ◌≤◌, length, slice_get, IfOk};
-ghost use Rattle.fair_semantics.specs.Linked.{same_source};
 ghost use Rattle.fair_semantics.specs.Step.{is_running};
-ghost use Rattle.join_base.specs.declared.message.Source.TheVariants.{Actor};
-ghost use Rattle.log_replay.specs.Expected.{entries_in};
+ghost use Rattle.run_order.specs.Sorted.{entries_in};
 ghost use Rattle.log_replay.specs.Kept.{earlier, entries_size, entry_size, link_fault, posts_fault, section_fault, section_size, sections_size};
 ghost use Rattle.log_replay.specs.Shared.{runs_at, shown_run};
 
-use crate::posts::has_message;
 use crate::shared::{Shared, posts_shown};
 use fair_semantics::{ActorRun, Ending, Entry, Run};
-use join_base::{NoMemory, Source, Stamped};
+use join_base::{NoMemory, Stamped};
+use log_posts::{has_message, is_from};
 use std::alloc::Global;
-
-// Whether the source is this actor.
-pub(crate) fn is_from(source: Source, from: u32) -> bool
-    ensures { result ≡ same_source source (Actor from) }
-{
-    match source {
-        Source::Feed(_) => false,
-        Source::Actor(actor) => actor == from,
-    }
-}
 
 // How many lines an entry takes.
 fn entry_size(entry: &Entry) -> u64

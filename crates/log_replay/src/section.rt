@@ -4,7 +4,7 @@ ghost use Rattle.std.specs.List.{flat_map};
 ghost use Rattle.arrival_log.specs.LogText.{actor_lines, entry_lines, head_line, log_text};
 ghost use Rattle.log_replay.specs.Apart.{IsWithin, behind, lines_before};
 ghost use Rattle.log_replay.specs.Expected.{with_entries};
-ghost use Rattle.log_replay.specs.Settling.{with_stamps};
+ghost use Rattle.log_posts.specs.Stamps.{with_stamps};
 ghost use Rattle.log_replay.specs.Shared.{shown, shown_run, stamp_or};
 
 use crate::apart::{Progress, behind, parted};

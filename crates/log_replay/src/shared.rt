@@ -1,14 +1,13 @@
 //! The runs of actors beside those that were read: what is the same is kept once.
 ghost use Rattle.std.specs.Prelude.{◌≡◌, slice_get, IfOk};
-ghost use Rattle.log_replay.specs.Expected.{entries_in};
-ghost use Rattle.log_replay.specs.Kept.{posts_made};
-ghost use Rattle.log_replay.specs.Shared.{kept, plain, plain_at, shown_all};
+ghost use Rattle.run_order.specs.Sorted.{entries_in};
+ghost use Rattle.log_posts.specs.Posts.{posts_made};
+ghost use Rattle.log_replay.specs.Shared.{kept, plain, plain_at, shown_all, without_entries};
 
 use crate::kept::entries_at;
-use crate::posts::posts_made;
-use crate::same::same_entries;
 use fair_semantics::{ActorRun, Entry, Run};
 use join_base::{Items, NoMemory, Stamped};
+use log_posts::{posts_made, same_entries};
 use std::alloc::Global;
 
 // The run of an actor beside the one that was read.
@@ -28,35 +27,45 @@ pub(crate) struct Replayed {
     pub(crate) made: Items<Shared>,
 }
 
-// Lets go of the entries where they are the read ones but for their stamps.
-pub(crate) fn kept(alloc: Global, own: ActorRun, read: &[Entry]) -> Shared
-    ensures { result ≡ kept read.now own }
+// The entries of a run, and what is kept of it where they are the read ones but for their stamps.
+pub(crate) fn without_entries(alloc: Global, own: ActorRun) -> (Items<Entry>, Shared)
+    ensures entries { result.0 ≡ own.entries }
+    ensures own { result.1 ≡ without_entries own }
 {
-    let stamps = Items::new(alloc);
-    if !same_entries(own.entries.as_slice(), read) {
-        return Shared {
-            as_read: false,
-            stamps,
-            own,
-        };
-    }
     let ActorRun {
-        entries: _,
+        entries,
         late,
         ending,
         left,
         partials,
     } = own;
-    Shared {
+    let own = ActorRun {
+        entries: Items::new(alloc),
+        late,
+        ending,
+        left,
+        partials,
+    };
+    let shared = Shared {
         as_read: true,
-        stamps,
-        own: ActorRun {
-            entries: Items::new(alloc),
-            late,
-            ending,
-            left,
-            partials,
-        },
+        stamps: Items::new(alloc),
+        own,
+    };
+    (entries, shared)
+}
+
+// Lets go of the entries where they are the read ones but for their stamps.
+pub(crate) fn kept(alloc: Global, own: ActorRun, read: &[Entry]) -> Shared
+    ensures { result ≡ kept read.now own }
+{
+    if same_entries(own.entries.as_slice(), read) {
+        let (_, shared) = without_entries(alloc, own);
+        return shared;
+    }
+    Shared {
+        as_read: false,
+        stamps: Items::new(alloc),
+        own,
     }
 }
 

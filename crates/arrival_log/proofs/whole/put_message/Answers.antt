@@ -1,9 +1,8 @@
-use Rattle.std.proofs.Common.{◌≡◌, ◌∙◌, ◌++◌, ◌∷◌, [], List, ℕ, ap, arith, drop, map}
-use Rattle.std.proofs.lemmas.List.{drop_all}
+use Rattle.std.proofs.Common.{◌∙◌, ◌++◌, ◌∷◌, List, ℕ, ap, drop, map}
 use Rattle.join_base.specs.declared.message.Value.{Value}
 use Rattle.script_types.specs.Names.{name_of_kind}
 use Rattle.arrival_log.specs.LogText.{comma_joined, value_text}
-use Rattle.arrival_log.proofs.HeadLemmas.{message_whole}
+use Rattle.arrival_log.proofs.HeadLemmas.{message_before}
 use Rattle.arrival_log.proofs.whole.put_message.Goals as goal
 
 abbrev joined : List Value → List ℕ
@@ -13,14 +12,12 @@ pub returns-clause-written : goal.returns-clause-written
 returns-clause-written c =
     let message = c.args.message.now in
     let name : List ℕ = name_of_kind c.args.plan.now message.kind in
-    let nothing : drop 512 c.args.room.now ≡ [] = drop_all 512 c.args.room.now (omega arith) in
-    let end = c.put_words-end.ensures.written ∙ ap (λ (rest : List ℕ). 41 ∷ 10 ∷ rest) nothing in
     let values =
     c.in_ok-end.ensures.written
     ∙ ap (λ (fields : List Value). joined fields ++ drop c.put_words-end.result c.put_words-end.new.room) c.as_slice.ensures.same
-    ∙ ap (λ (rest : List ℕ). joined message.fields ++ rest) end in
+    ∙ ap (λ (rest : List ℕ). joined message.fields ++ rest) c.put_words-end.ensures.written in
     let bracket = c.put_words-end-2.ensures.written ∙ ap (λ (rest : List ℕ). 40 ∷ rest) values in
     c.put_words.ensures.written
     ∙ ap (λ (word : List ℕ). word ++ drop c.put_words-end-2.result c.put_words-end-2.new.room) c.kind_name.ensures.name
     ∙ ap (λ (rest : List ℕ). name ++ rest) bracket
-    ∙ message_whole name (joined message.fields)
+    ∙ message_before name (joined message.fields) (drop c.args.end c.args.room.now)

@@ -1,7 +1,8 @@
 use Rattle.std.proofs.Common.{◌∙◌, ◌+◌, [], length, ap, sym}
 use Rattle.std.proofs.lemmas.List.{length-replicate}
 use Rattle.actor_turn.specs.Held.{Held, new_entries}
-use Rattle.log_replay.proofs.ReplayLemmas.{boxes_more, goes_first, goes_on, goes_still}
+use Rattle.actor_turn.proofs.PostsLemmas.{length-posts_behind}
+use Rattle.log_replay.proofs.ReplayLemmas.{goes_first, goes_on, goes_still}
 use Rattle.log_replay.proofs.replaying.made_run.Goals as goal
 
 pub loop-entry-init : goal.loop-entry-init
@@ -24,4 +25,4 @@ loop-entry-preserved g c =
 
 pub forget_fired-requires-clause-many : goal.forget_fired-requires-clause-many
 forget_fired-requires-clause-many g c =
-    ap length c.in_ok-outcome.ensures.outbox ∙ boxes_more 0 (new_entries c.loop-entry.actor.state c.arrive.new.self.state) c.loop-entry.actor.outbox ∙ c.loop-entry.invariant.boxes ∙ sym c.len.ensures.count
+    ap length c.in_ok-outcome.ensures.outbox ∙ length-posts_behind 0 (new_entries c.loop-entry.actor.state c.arrive.new.self.state) c.loop-entry.actor.outbox ∙ c.loop-entry.invariant.boxes ∙ sym c.len.ensures.count

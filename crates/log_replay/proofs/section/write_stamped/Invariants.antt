@@ -1,7 +1,7 @@
 use Rattle.std.proofs.Common.{◌≡◌, ◌++◌, drop}
 use Rattle.std.specs.List.{flat_map}
 use Rattle.arrival_log.specs.LogText.{entry_lines}
-use Rattle.log_replay.specs.Settling.{with_stamps}
+use Rattle.log_posts.specs.Stamps.{with_stamps}
 use Rattle.log_replay.proofs.section.write_stamped.Given as goal
 
 abbrev pub invariant-loop-place : goal.invariant-loop-place

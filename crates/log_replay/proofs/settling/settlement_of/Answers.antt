@@ -1,9 +1,9 @@
 use Rattle.std.proofs.Common.{◌∙◌, ℕ, List, length, ap, subst, sym, arith}
 use Rattle.std.specs.List.{AllByRecursion}
 use Rattle.fair_semantics.specs.declared.run.Entry.{Entry}
-use Rattle.log_replay.specs.Settling.{IsCounted}
+use Rattle.log_posts.specs.Stamps.{IsCounted}
 use Rattle.log_replay.specs.Shared.{shown_all}
-use Rattle.log_replay.proofs.SettlingLemmas.{links_count}
+use Rattle.log_replay.proofs.SettledLemmas.{links_count}
 use Rattle.log_replay.proofs.settling.settlement_of.Goals as goal
 
 pub lates_made-requires-clause-actors : goal.lates_made-requires-clause-actors

@@ -1,6 +1,6 @@
 use Rattle.std.proofs.Common.{◌∙◌}
 use Rattle.std.proofs.lemmas.Result.{IfOk-weaker}
-use Rattle.log_replay.specs.Kept.{posts_made}
+use Rattle.log_posts.specs.Posts.{posts_made}
 use Rattle.log_replay.proofs.SharedLemmas.{posts_at}
 use Rattle.log_replay.proofs.shared.posts_shown.Goals as goal
 

@@ -1,0 +1,28 @@
+-- The late count of one feed more.
+use Rattle.std.proofs.Common.{◌≡◌, ◌∙◌, ℕ, suc, ◌+◌, ◌-◌, ◌≤◌, List, [], ◌∷◌, ◌++◌, Bool, true, false, append_assoc, refl, sym, ap, arith}
+use Rattle.std.specs.Prelude.{if◌then◌else◌, ◌==◌}
+use Rattle.join_base.specs.Late.{late_list, late_one}
+use Rattle.join_base.specs.declared.message.Source.{Source}
+use Rattle.join_base.specs.declared.message.Source.TheVariants.{Feed}
+use Rattle.fair_semantics.specs.Linked.{count_of}
+use Rattle.log_posts.specs.Lates.{count_where, feed_counts}
+
+late_first : (source : Source) (count : ℕ) (rest : List (Source × ℕ)) → (if count == 0 then rest else (source, count) ∷ rest) ≡ late_one source count ++ rest
+late_first source count rest = by (count == 0)
+  where
+    by : (b : Bool) → (if b then rest else (source, count) ∷ rest) ≡ (if b then [] else (source, count) ∷ []) ++ rest
+    by true = refl
+    by false = refl
+
+pub feed_next : (may : Bool) (read : List (Source × ℕ)) (feed feeds count got : ℕ) (old new whole : List (Source × ℕ)) → feed ≤ feeds → got ≡ count_of (Feed feed) read → count ≡ count_where may got → new ≡ old ++ late_one (Feed feed) count
+    → old ++ late_list (λ k. Feed k) feed (feed_counts may read feed (feeds + 1 - feed)) ≡ whole → new ++ late_list (λ k. Feed k) (feed + 1) (feed_counts may read (feed + 1) (feeds + 1 - (feed + 1))) ≡ whole
+feed_next may read feed feeds count got old new whole l by_got by_count more left =
+    let rest : List (Source × ℕ) = late_list (λ k. Feed k) (feed + 1) (feed_counts may read (feed + 1) (feeds + 1 - (feed + 1))) in
+    let count_is = by_count ∙ ap (count_where may) by_got in
+    let one_more : suc (feeds + 1 - (feed + 1)) ≡ feeds + 1 - feed = omega arith in
+    ap (λ (ls : List (Source × ℕ)). ls ++ rest) more
+    ∙ append_assoc old (late_one (Feed feed) count) rest
+    ∙ ap (λ (ls : List (Source × ℕ)). old ++ ls) (sym (late_first (Feed feed) count rest))
+    ∙ ap (λ (n : ℕ). old ++ (if n == 0 then rest else (Feed feed, n) ∷ rest)) count_is
+    ∙ ap (λ (n : ℕ). old ++ late_list (λ k. Feed k) feed (feed_counts may read feed n)) one_more
+    ∙ left

@@ -1,0 +1,4 @@
+pub mod SameLemmas
+pub mod PostsLemmas
+pub mod LatesLemmas
+pub mod StampsLemmas

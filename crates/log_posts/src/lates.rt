@@ -1,0 +1,121 @@
+//! The late counts of an actor, by the posts of each link to it.
+ghost use Rattle.std.specs.Prelude.{◌≡◌, ◌+◌, ◌-◌, ◌++◌, ◌≤◌, ◌^◌, length, OnOk, IfOk};
+ghost use Rattle.join_base.specs.Late.{late_list, late_one};
+ghost use Rattle.join_base.specs.declared.message.Source.TheVariants.{Actor, Feed};
+ghost use Rattle.fair_semantics.specs.Linked.{count_of, same_source, taken_from};
+ghost use Rattle.log_posts.specs.Lates.{actor_counts, count_where, feed_counts, lates_made};
+
+use crate::same::same_source;
+use fair_semantics::Entry;
+use join_base::{Items, NoMemory, Source, Stamped};
+use std::alloc::Global;
+
+/// Whether the source is this actor.
+pub fn is_from(source: Source, from: u32) -> bool
+    ensures { result ≡ same_source source (Actor from) }
+{
+    match source {
+        Source::Feed(_) => false,
+        Source::Actor(actor) => actor == from,
+    }
+}
+
+// The late count of a source among those that were read, or 0.
+fn read_count(late: &[(Source, u64)], source: Source) -> u64
+    ensures { result ≡ count_of source late.now }
+{
+    for (of, count) in late {
+        if same_source(*of, source) {
+            return *count;
+        }
+    }
+    0
+}
+
+// How many of the entries are from an actor.
+fn count_from(entries: &[Entry], from: u32) -> usize
+    ensures { result ≡ length (taken_from (Actor from) entries.now) }
+{
+    let mut count: usize = 0;
+    for entry in entries {
+        if is_from(entry.source, from) {
+            count += 1;
+        }
+    }
+    count
+}
+
+fn count_where(may: bool, count: u64) -> u64
+    ensures { result ≡ count_where may count }
+{
+    if may { count } else { 0 }
+}
+
+// Appends the count, if it is above 0.
+fn push_late(late: &mut Items<(Source, u64)>, source: Source, count: u64) -> Result<(), NoMemory>
+    ensures { OnOk result (late.new ≡ late.old ++ late_one source count) }
+{
+    if count == 0 {
+        return Ok(());
+    }
+    late.push((source, count))
+}
+
+fn push_feeds(
+    late: &mut Items<(Source, u64)>,
+    may: bool,
+    read: &[(Source, u64)],
+    feeds: u32,
+) -> Result<(), NoMemory>
+    requires few { feeds ≤ 16 }
+    ensures { OnOk result (late.new ≡ late.old ++ late_list (λ k. Feed k) 1 (feed_counts may read.now 1 feeds)) }
+{
+    let mut feed: u32 = 1;
+    while feed <= feeds {
+        let count = count_where(may, read_count(read, Source::Feed(feed)));
+        push_late(late, Source::Feed(feed), count)?;
+        feed += 1;
+    }
+    Ok(())
+}
+
+fn push_actors(
+    late: &mut Items<(Source, u64)>,
+    may: bool,
+    entries: &[Entry],
+    links: &[Items<Stamped>],
+) -> Result<(), NoMemory>
+    requires few { length links.now ≤ 32 }
+    ensures { OnOk result (late.new ≡ late.old ++ late_list (λ a. Actor a) 0 (actor_counts may entries.now 0 links.now)) }
+{
+    for (from, posts) in links.iter().enumerate() {
+        let taken = count_from(entries, from as u32);
+        let beyond = posts.len().saturating_sub(taken);
+        push_late(
+            late,
+            Source::Actor(from as u32),
+            count_where(may, beyond as u64),
+        )?;
+    }
+    Ok(())
+}
+
+/// The late counts above 0 of an actor, where there may be some: of the feeds those that were read, and of the actors their posts
+/// beyond those that arrived. The entries are those of the actor, and the links the posts to it from each actor.
+pub fn lates_made(
+    alloc: Global,
+    may: bool,
+    read: &[(Source, u64)],
+    feeds: u32,
+    entries: &[Entry],
+    links: &[Items<Stamped>],
+) -> Result<Items<(Source, u64)>, NoMemory>
+    requires few { feeds ≤ 16 }
+    requires actors { length links.now ≤ 32 }
+    ensures { IfOk result (λ late. late ≡ lates_made may read.now feeds entries.now links.now) }
+{
+    let mut late = Items::new(alloc);
+    push_feeds(&mut late, may, read, feeds)?;
+    push_actors(&mut late, may, entries, links)?;
+    Ok(late)
+}

@@ -1,8 +1,0 @@
-use Rattle.std.proofs.Common.{◌≡◌, ◌++◌, drop}
-use Rattle.join_base.specs.Late.{late_list}
-use Rattle.join_base.specs.declared.message.Source.TheVariants.{Actor}
-use Rattle.log_replay.specs.Settling.{actor_counts}
-use Rattle.log_replay.proofs.settling.push_actors.Given as goal
-
-abbrev pub invariant-loop-from : goal.invariant-loop-from
-invariant-loop-from l = l.late ++ late_list (λ a. Actor a) l.from (actor_counts l.fn.may l.entries l.from (drop l.from l.links)) ≡ l.initial.late ++ late_list (λ a. Actor a) 0 (actor_counts l.fn.may l.entries 0 l.links)
