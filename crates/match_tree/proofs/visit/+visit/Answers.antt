@@ -516,7 +516,6 @@ visit_rows-begin-requires g t c =
     let e = c.visit_each.ensures in
     let routes : List (VecDeque Node Global) → List Route = λ xs. rows_routes 0 (rows_of xs) in
     let few = mid (λ xs. length xs ≤ 8) (omega (arith, c.visit_each.auto.rows, c.deref_mut.ensures.len, c.requires.few, ap (λ (xs : List (VecDeque Node Global)). length xs) same)) in
-    let tries = ap (λ (xs : List (VecDeque Node Global)). tries_behind o a.slots.now (routes xs)) same in
     record {
       can = c.requires.can;
       able = c.takers-able.ensures.answer ∙ c.requires.wanted;
@@ -539,7 +538,6 @@ visit_rows-returns-then-not-begin g t c =
     let routes : List (VecDeque Node Global) → List Route = λ xs. rows_routes 0 (rows_of xs) in
     let lasting = mid (λ xs. Lasts o.number (routes a.rows.now.items) (routes xs)) (old (λ xs. Lasts o.number (routes xs) (routes after)) e.lasting) in
     let counted = mid (λ xs. c.visit_each.new.count + length (routes a.rows.now.items) ≡ a.count.now + length (routes xs)) (old (λ xs. c.visit_each.new.count + length (routes xs) ≡ a.count.now + length (routes after)) e.counted) in
-    let few = mid (λ xs. length xs ≤ 8) (omega (arith, c.visit_each.auto.rows, c.deref_mut.ensures.len, c.requires.few, ap (λ (xs : List (VecDeque Node Global)). length xs) same)) in
     let tries = ap (λ (xs : List (VecDeque Node Global)). tries_behind o a.slots.now (routes xs)) same in
     let b = c.begin.ensures in
     record {
@@ -566,7 +564,6 @@ visit_rows-returns g t c =
     let routes : List (VecDeque Node Global) → List Route = λ xs. rows_routes 0 (rows_of xs) in
     let lasting = mid (λ xs. Lasts o.number (routes a.rows.now.items) (routes xs)) (old (λ xs. Lasts o.number (routes xs) (routes after)) e.lasting) in
     let counted = mid (λ xs. c.visit_each.new.count + length (routes a.rows.now.items) ≡ a.count.now + length (routes xs)) (old (λ xs. c.visit_each.new.count + length (routes xs) ≡ a.count.now + length (routes after)) e.counted) in
-    let few = mid (λ xs. length xs ≤ 8) (omega (arith, c.visit_each.auto.rows, c.deref_mut.ensures.len, c.requires.few, ap (λ (xs : List (VecDeque Node Global)). length xs) same)) in
     let tries = ap (λ (xs : List (VecDeque Node Global)). tries_behind o a.slots.now (routes xs)) same in
     let best = old (λ xs. c.in_ok-best.best ≡ least (new_matches o a.slots.now ([] ∷ seen o (routes xs)))) c.in_ok-best.ensures.best in
     let b = c.begin.ensures in

@@ -31,8 +31,7 @@ drop_unseen-gone-requires-clause-short c =
 
 pub overflow_sub-self : goal.overflow_sub-self
 overflow_sub-self c =
-    let s = c.self.inside in
-    let before : length (rows_routes 0 (rows_of c.deref_mut.result.now)) ≡ length (rows_routes 0 (rows_of s.rows.items)) = ap (λ (xs : List (VecDeque Node Global)). length (rows_routes 0 (rows_of xs))) c.deref_mut.ensures.value in
+    let before = ap (λ (xs : List (VecDeque Node Global)). length (rows_routes 0 (rows_of xs))) c.deref_mut.ensures.value in
     omega (arith, c.self.invariant.counted, c.drop_unseen-gone.ensures.gone)
 
 pub invariant_of-self : goal.invariant_of-self

@@ -29,14 +29,7 @@ prune_rows-gone-requires-clause-short c =
 
 pub overflow_sub-self : goal.overflow_sub-self
 overflow_sub-self c =
-    let s = c.self.inside in
-    let after = c.prune_rows-gone.new.rows in
-    let numbers = c.args.numbers.now in
-    let old : List Route = rows_routes 0 (rows_of s.rows.items) in
-    let long : length after ≡ s.rows.len = omega (arith, c.prune_rows-gone.auto.rows, c.deref_mut.ensures.len) in
-    let is = take_at after (drop (length after) s.rows.items) s.rows.len long in
-    let routes : rows_routes 0 (rows_of after) ≡ filter (lacks numbers) old = c.prune_rows-gone.ensures.left ∙ (λ j. filter (lacks numbers) (rows_routes 0 (rows_of (c.deref_mut.ensures.value j)))) in
-    let before : length (rows_routes 0 (rows_of c.deref_mut.result.now)) ≡ length old = ap (λ (xs : List (VecDeque Node Global)). length (rows_routes 0 (rows_of xs))) c.deref_mut.ensures.value in
+    let before = ap (λ (xs : List (VecDeque Node Global)). length (rows_routes 0 (rows_of xs))) c.deref_mut.ensures.value in
     omega (arith, c.self.invariant.counted, c.prune_rows-gone.ensures.gone)
 
 pub invariant_of-self : goal.invariant_of-self
@@ -66,6 +59,5 @@ returns c =
     let long : length after ≡ s.rows.len = omega (arith, c.prune_rows-gone.auto.rows, c.deref_mut.ensures.len) in
     let is = take_at after (drop (length after) s.rows.items) s.rows.len long in
     let routes : rows_routes 0 (rows_of after) ≡ filter (lacks numbers) old = c.prune_rows-gone.ensures.left ∙ (λ j. filter (lacks numbers) (rows_routes 0 (rows_of (c.deref_mut.ensures.value j)))) in
-    let before : length (rows_routes 0 (rows_of c.deref_mut.result.now)) ≡ length old = ap (λ (xs : List (VecDeque Node Global)). length (rows_routes 0 (rows_of xs))) c.deref_mut.ensures.value in
     let finally = ap (λ (xs : List (VecDeque Node Global)). rows_routes 0 (rows_of xs)) is ∙ routes in
     pruned_tree s.definition s.rule s.pending old (rows_routes 0 (rows_of (take s.rows.len (after ++ drop (length after) s.rows.items)))) numbers c.args.self.now c.self.view_is c.requires.settled c.self.invariant.free_left finally
