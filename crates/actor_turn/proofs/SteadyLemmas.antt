@@ -9,7 +9,7 @@ use Rattle.pattern_core.specs.declared.candidate.Candidate.{Candidate}
 use Rattle.pattern_core.specs.Choice.{choice}
 use Rattle.pattern_core.specs.Matches.{partial_count}
 use Rattle.pattern_core.proofs.MembersLemmas.{IsIn-append_cases, IsIn-filter_from}
-use Rattle.join_base.specs.Taken.{contains_number as is_one_of}
+use Rattle.join_base.specs.Taken.{contains_number, without}
 use Rattle.match_tree.specs.Tree.{Tree, AreOnce}
 use Rattle.tree_law.specs.Partials.{AreLive, number_more, live_more, left_of}
 use Rattle.tree_law.specs.Trees.{HoldAll, AreTreesOf, AreReservedFor, AreKept, AreSettled, best_of, path_count, fired_tree, cleared_tree}
@@ -20,7 +20,6 @@ use Rattle.fair_semantics.specs.declared.run.Entry.{Entry}
 use Rattle.fair_semantics.specs.declared.run.Firing.{Firing}
 use Rattle.fair_semantics.specs.declared.run.Ending.{Ending}
 use Rattle.fair_semantics.specs.declared.run.Ending.TheVariants as ending
-use Rattle.join_base.specs.Taken.{without}
 use Rattle.fair_semantics.specs.Step.{Setting, State, Arrival, letters_of, letters_with, live_with, entry_with, recorded, definitions_of, is_running, is_refused, by_choice, fair_step, spent_step, late_step}
 use Rattle.actor_turn.specs.Steady.{IsSteady}
 
@@ -117,7 +116,7 @@ module _ (setting : Setting) (state : State) (source : Source) (message : Messag
       let all = all_fired letters message state.live h.live chosen.taken takes reserved hold in
       record {
         live = subst (λ (ls : List Message). AreLive ls (without (live_with arrival) chosen.taken)) (sym (entry_letters firing))
-            (λ k m. live_recorded h.live k (IsIn-filter_from (λ n. not (is_one_of chosen.taken n)) k (live_with arrival) m).0);
+            (λ k m. live_recorded h.live k (IsIn-filter_from (λ n. not (contains_number chosen.taken n)) k (live_with arrival) m).0);
         of_rules = fired_of letters message chosen.taken 1 (definitions_of setting.rules) reserved of_rules;
         hold =
             subst (λ (ls : List Message). HoldAll ls (without (live_with arrival) chosen.taken) (map (fired_tree letters message chosen.taken) reserved)) (sym (entry_letters firing))

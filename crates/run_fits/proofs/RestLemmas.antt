@@ -11,7 +11,7 @@ use Rattle.pattern_core.specs.Matches.{complete_matches, partial_count, partial_
 use Rattle.pattern_core.specs.Members.{IsIn}
 use Rattle.pattern_core.specs.Window.{SeesLatest}
 use Rattle.pattern_core.proofs.MembersLemmas.{IsIn-append_left, IsIn-append_right, IsIn-filter_from, IsIn-map}
-use Rattle.join_base.specs.Taken.{contains_number as is_one_of}
+use Rattle.join_base.specs.Taken.{contains_number}
 use Rattle.match_tree.specs.Offers.{Offered}
 use Rattle.match_tree.specs.Tree.{Tree, completions, empty_of, extensions, is_path_without, seen_paths}
 use Rattle.tree_law.specs.Partials.{AreLive, NoneWaits, left_of, letters_more, live_more, number_more, offer_more}
@@ -74,11 +74,11 @@ module _ (letters : List Message) (message : Message) (live : List ℕ) (are_liv
   reserved_all rule (d ∷ ds) = ((refl, refl, λ e. record { to = λ x m. m; back = λ x m. m }), reserved_all (rule + 1) ds)
 
   -- the choice takes the newest number
-  pub takes_newest : (ds : List Definition) (c : Candidate) → AllByRecursion (IsResting letters live) ds → choice (letters_more letters message) (live_more letters live) ds ≡ Some c → is_one_of c.taken (number_more letters) ≡ true
+  pub takes_newest : (ds : List Definition) (c : Candidate) → AllByRecursion (IsResting letters live) ds → choice (letters_more letters message) (live_more letters live) ds ≡ Some c → contains_number c.taken (number_more letters) ≡ true
   takes_newest ds c h e =
       best_takes letters message (trees_from 1 ds) c (reserved_all 1 ds) (best_is_choice letters message live are_live ds (trees_from 1 ds) (are_trees 1 ds) (hold_all 1 ds h) (reserved_all 1 ds) ∙ e)
 
-  module _ (taken : List ℕ) (takes : is_one_of taken (number_more letters) ≡ true) where
+  module _ (taken : List ℕ) (takes : contains_number taken (number_more letters) ≡ true) where
     abbrev left : List ℕ
     left = left_of (live_more letters live) taken
 

@@ -2,7 +2,7 @@
 use Rattle.std.proofs.Common.{◌≡◌, ◌∙◌, ℕ, ◌+◌, List, [], ◌∷◌, map, true, None, refl}
 use Rattle.join_base.specs.declared.message.Message.{Message}
 use Rattle.pattern_core.specs.declared.definition.Definition.{Definition}
-use Rattle.join_base.specs.Taken.{contains_number as is_one_of}
+use Rattle.join_base.specs.Taken.{contains_number}
 use Rattle.match_tree.specs.Tree.{Tree}
 use Rattle.tree_law.specs.Partials.{AreLive, letters_more, number_more, live_more, left_of}
 use Rattle.tree_law.specs.Trees.{HoldAll, AreTreesOf, AreReservedFor, reserve_best, best_of, AreKept, AreSettled, fired_tree, cleared_tree}
@@ -18,7 +18,7 @@ module _ (letters : List Message) (message : Message) (live : List ℕ) (are_liv
       let parts = none_first (reserve_best t.reserve) (best_of before) none in
       (kept_holds letters message live are_live t u h.0 reserved.0 parts.0 kept.0, all_kept before after h.1 reserved.1 parts.1 kept.1)
 
-  pub all_fired : (taken : List ℕ) → is_one_of taken (number_more letters) ≡ true → (trees : List Tree) → HoldAll letters live trees
+  pub all_fired : (taken : List ℕ) → contains_number taken (number_more letters) ≡ true → (trees : List Tree) → HoldAll letters live trees
       → HoldAll (letters_more letters message) (left_of (live_more letters live) taken) (map (fired_tree letters message taken) trees)
   all_fired taken takes [] h = tt
   all_fired taken takes (t ∷ trees) h = (fired_holds letters message live are_live t taken takes h.0, all_fired taken takes trees h.1)

@@ -22,7 +22,7 @@ use Rattle.pattern_core.proofs.ChoiceLemmas.{least-IsChoice, least_from_IsChoice
 use Rattle.pattern_core.proofs.MembersLemmas.{IsIn-append_left, IsIn-append_right, IsIn-append_cases, IsIn-map, IsIn-map_from, IsIn-filter, IsIn-filter_from, IsIn-flat_map, IsIn-flat_map_from}
 use Rattle.pattern_core.proofs.SeenLemmas.{seen_from_oldest}
 use Rattle.match_tree.specs.Routes.{with_number}
-use Rattle.join_base.specs.Taken.{contains_number as is_one_of}
+use Rattle.join_base.specs.Taken.{contains_number}
 use Rattle.match_tree.specs.Offers.{Offered, places, is_free, may_take, takers, growing, completes, leaves_one_free, matches_at}
 use Rattle.match_tree.specs.Tree.{SameMembers, is_slot_seen, is_path_seen, is_slot_without, is_path_without, seen_paths, extensions, completions}
 use Rattle.match_tree.proofs.SlotsLemmas.{agreeable_below, extends_one}
@@ -299,9 +299,9 @@ module _ (letters : List Message) (message : Message) (live : List ℕ) (d : Def
 
     -- ---- a firing takes the new number
 
-    module _ (taken : List ℕ) (takes : is_one_of taken next ≡ true) where
+    module _ (taken : List ℕ) (takes : contains_number taken next ≡ true) where
       abbrev stays : ℕ → Bool
-      stays k = not (is_one_of taken k)
+      stays k = not (contains_number taken k)
 
       left_more : seen_of d (length more) (left_of (live_more letters live) taken) ≡ filter (is_seen d.window next) (filter stays live)
       left_more =

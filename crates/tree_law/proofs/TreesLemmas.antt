@@ -20,7 +20,7 @@ use Rattle.pattern_core.proofs.BestLemmas.{least-append}
 use Rattle.pattern_core.proofs.ChoiceLemmas.{least-IsChoice}
 use Rattle.pattern_core.proofs.MembersLemmas.{IsIn-append_left, IsIn-append_right, IsIn-append_cases, IsIn-map_from, IsIn-filter_from, IsIn-flat_map_from}
 use Rattle.match_tree.specs.Routes.{with_number}
-use Rattle.join_base.specs.Taken.{contains_number as is_one_of}
+use Rattle.join_base.specs.Taken.{contains_number}
 use Rattle.match_tree.specs.Offers.{Offered, is_free, may_take, takers, completes, matches_at, places}
 use Rattle.match_tree.specs.Tree.{Tree, Reserve, SameMembers, IsReserved, seen_paths, extensions, completions, empty_of}
 use Rattle.tree_law.specs.Partials.{ArePartial, NoneWaits, AreLive, letters_more, number_more, live_more, offer_more, left_of}
@@ -77,21 +77,21 @@ none_first (Some x) (Some y) e = by (is_le (key_cmp x y)) e
 itself : (n : ℕ) → (n == n) ≡ true
 itself n = grind (arith, nat_tests)
 
-taken_with : (slots : Assignment) (p n : ℕ) → is_free slots p ≡ true → is_one_of (taken_of (with_number slots p n)) n ≡ true
+taken_with : (slots : Assignment) (p n : ℕ) → is_free slots p ≡ true → contains_number (taken_of (with_number slots p n)) n ≡ true
 taken_with [] p n free = absurd cc
-taken_with (None ∷ slots) zero n free = λ i. itself n i || is_one_of (taken_of slots) n
+taken_with (None ∷ slots) zero n free = λ i. itself n i || contains_number (taken_of slots) n
 taken_with (Some k ∷ slots) zero n free = absurd cc
 taken_with (None ∷ slots) (suc p) n free = taken_with slots p n free
 taken_with (Some k ∷ slots) (suc p) n free = ap (λ (b : Bool). (n == k) || b) (taken_with slots p n free) ∙ or-true (n == k)
 
 -- each match that a number completes takes it
-completion_takes : (o : Offered) (paths : List Assignment) (c : Candidate) → IsIn c (completions o paths) → is_one_of c.taken o.number ≡ true
+completion_takes : (o : Offered) (paths : List Assignment) (c : Candidate) → IsIn c (completions o paths) → contains_number c.taken o.number ≡ true
 completion_takes o paths c m =
     let from = IsIn-flat_map_from (matches_at o) c paths m in
     let at = IsIn-map_from (λ (p : ℕ). candidate_of o.rule (with_number from.0 p o.number)) c (filter (completes o from.0) (takers o from.0)) from.2 in
     let taker = IsIn-filter_from (completes o from.0) at.0 (takers o from.0) at.1 in
     let may = (IsIn-filter_from (may_take o from.0) at.0 (places 0 o.definition.patterns) taker.0).1 in
-    subst (λ (x : Candidate). is_one_of x.taken o.number ≡ true) at.2 (taken_with from.0 at.0 o.number (both_true (is_free from.0 at.0) _ may).0)
+    subst (λ (x : Candidate). contains_number x.taken o.number ≡ true) at.2 (taken_with from.0 at.0 o.number (both_true (is_free from.0 at.0) _ may).0)
 
 least_member : (cs : List Candidate) (c : Candidate) → least cs ≡ Some c → IsIn c cs
 least_member cs c e = by (least cs) (least-IsChoice cs) e
@@ -117,7 +117,7 @@ module _ (letters : List Message) (message : Message) where
   reserved_aside tree (Some x) r h e none = let same : x ≡ r = cc in subst (λ (y : Reserve). SameMembers y.aside (extensions (offer_of tree) (seen_paths (offer_of tree) tree.paths))) same (h.2 none)
 
   -- the match that is chosen takes the new number
-  pub best_takes : (trees : List Tree) (c : Candidate) → AreReservedFor letters message trees → best_of trees ≡ Some c → is_one_of c.taken (number_more letters) ≡ true
+  pub best_takes : (trees : List Tree) (c : Candidate) → AreReservedFor letters message trees → best_of trees ≡ Some c → contains_number c.taken (number_more letters) ≡ true
   best_takes [] c h e = absurd cc
   best_takes (tree ∷ trees) c h e =
       elim (lesser_cases (reserve_best tree.reserve) (best_of trees) c e) [
@@ -161,7 +161,7 @@ module _ (letters : List Message) (message : Message) where
         record { some = all_four.0; sees = all_four.1; partial = all_four.2; none = all_four.3 }
 
     -- a tree without the numbers of a firing holds again
-    pub fired_holds : (tree : Tree) (taken : List ℕ) → is_one_of taken (number_more letters) ≡ true → Holds letters live tree
+    pub fired_holds : (tree : Tree) (taken : List ℕ) → contains_number taken (number_more letters) ≡ true → Holds letters live tree
         → Holds (letters_more letters message) (left_of (live_more letters live) taken) (fired_tree letters message taken tree)
     fired_holds tree taken takes h = record {
       some = h.some;

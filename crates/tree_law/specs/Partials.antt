@@ -8,7 +8,7 @@ use Rattle.pattern_core.specs.Members.{IsIn}
 use Rattle.pattern_core.specs.Suits.{IsRecorded}
 use Rattle.pattern_core.specs.Window.{oldest_seen}
 use Rattle.std.specs.List.{filter}
-use Rattle.join_base.specs.Taken.{contains_number as is_one_of}
+use Rattle.join_base.specs.Taken.{contains_number}
 use Rattle.match_tree.specs.Offers.{Offered}
 use Rattle.match_tree.specs.Tree.{SameMembers}
 
@@ -46,4 +46,4 @@ offer_more letters message definition rule = record {
 
 -- the live numbers without those that a firing takes
 abbrev pub left_of : List ℕ → List ℕ → List ℕ
-left_of live taken = filter (λ n. not (is_one_of taken n)) live
+left_of live taken = filter (λ n. not (contains_number taken n)) live
