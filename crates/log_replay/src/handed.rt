@@ -14,7 +14,7 @@ ghost use Rattle.log_replay.specs.Shared.{without_entries};
 
 use crate::replaying::forget_fired;
 use crate::shared::{Replayed, Shared, without_entries};
-use actor_turn::Actor;
+use actor_turn::{Actor, give_room_back};
 use fair_semantics::{ActorRun, Entry, Firing, Limits, Run};
 use join_base::{Items, NoMemory, Steps};
 use log_posts::{same_fired, with_stamps};
@@ -67,15 +67,6 @@ fn arrives_as_read<L: Ledger>(
             Ok(same)
         }
         Err(_) => Err(NoMemory),
-    }
-}
-
-// Gives back the room of what was taken, now and then.
-fn give_room_back(rest: &mut Vec<Entry>)
-    ensures { rest.new.items ≡ rest.old.items }
-{
-    if rest.len() % 4096 == 0 {
-        rest.shrink_to_fit();
     }
 }
 

@@ -15,7 +15,7 @@ loop-entry-preserved g c =
     let same : c.in_ok-arrives_as_read.field-0 ≡ true = c.if-not-branch.false in
     let e = c.in_ok-arrives_as_read.ensures in
     let left = c.pop.new.self.items in
-    let here : reverse c.loop-entry.rest.items ≡ c.in-Some.entry ∷ reverse c.give_room_back.new.rest.items =
-    ap reverse c.in-Some.ensures.items ∙ reverse-append left (c.in-Some.entry ∷ []) ∙ ap (λ (es : List Entry). c.in-Some.entry ∷ reverse es) (sym c.give_room_back.ensures) in
-    walks_on c.args.plan.now c.args.limits c.args.feeds c.args.index c.loop-entry.actor c.arrives_as_read.new.actor c.loop-entry.stamps c.push.new.self (reverse c.loop-entry.rest.items) (reverse c.give_room_back.new.rest.items) c.args.entries c.in-Some.entry c.loop-entry.invariant here
+    let here : reverse c.loop-entry.rest.items ≡ c.in-Some.entry ∷ reverse c.give_room_back.new.items.items =
+    ap reverse c.in-Some.ensures.items ∙ reverse-append left (c.in-Some.entry ∷ []) ∙ ap (λ (es : List Entry). c.in-Some.entry ∷ reverse es) (sym c.give_room_back.ensures.same) in
+    walks_on c.args.plan.now c.args.limits c.args.feeds c.args.index c.loop-entry.actor c.arrives_as_read.new.actor c.loop-entry.stamps c.push.new.self (reverse c.loop-entry.rest.items) (reverse c.give_room_back.new.items.items) c.args.entries c.in-Some.entry c.loop-entry.invariant here
     e.step e.setting e.sources (e.many ∙ c.len-in-Some.ensures.count) (e.as_read same) c.in_ok-push.ensures.ok
