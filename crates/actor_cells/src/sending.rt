@@ -97,7 +97,9 @@ impl Cell {
         self.note(moved, held);
     }
 
-    /// Moves posts where the outboxes may hold some: those that a firing has just made, or those that were left before.
+    /// Moves posts where the outboxes may hold some: those that a firing has just made, or those that were left before. For most
+    /// arrivals there are none.
+    #[inline(always)]
     pub(crate) fn send_rest(&mut self, fired: bool)
         requires lawful { IsLawful self.old }
         ensures kept { IsKept self.old self.new }
