@@ -81,8 +81,8 @@ fn line_stamp(lines: &[Entry], place: usize, entry: &Entry) -> u64
     }
 }
 
-/// The posts to an actor by the entries that were made, in order, each with the stamp of the line that was read at its place. Where
-/// there is no such line, it has the stamp of its entry.
+/// The posts to an actor by the entries that were made, in order, each with the stamp of the line that was read at its
+/// place. Where there is no such line, it has the stamp of its entry.
 pub fn posts_made(
     alloc: Global,
     to: u32,
