@@ -23,5 +23,5 @@ returns-clause-summary g c = record {
       c.in_ok-summary.ensures.ok
       ∙ ap (λ (bytes : List ℕ). bytes ++ summary_text c.args.rows c.in_ok-plan.plan c.in_ok-run.run') c.new-bytes.ensures.empty
       ∙ ap (λ (plan : Plan). summary_text c.args.rows plan c.in_ok-run.run') c.in_ok-plan.ensures.plan;
-  told = c.run_status.ensures.status;
+  told = c.run_status-status.ensures.status;
 }
