@@ -1,5 +1,5 @@
 -- The lines of a section, one entry more, and the sections of a log, one more.
-use Rattle.std.proofs.Common.{◌≡◌, ◌∙◌, ℕ, suc, ◌+◌, ◌<◌, ◌≤◌, List, [], ◌∷◌, ◌++◌, length, drop, get_or, Option, Some, append_assoc, append-nil, slice_get, sym, ap, arith}
+use Rattle.std.proofs.Common.{◌≡◌, ◌∙◌, ℕ, suc, ◌+◌, ◌<◌, ◌≤◌, List, [], ◌∷◌, ◌++◌, length, drop, get_or, Option, Some, append_assoc, append-nil, slice_get, refl, sym, ap, arith}
 use Rattle.std.specs.List.{flat_map}
 use Rattle.std.proofs.Math.ListN.{drop_of_length-le}
 use Rattle.std.proofs.lemmas.List.{drop_more}
@@ -62,10 +62,10 @@ module _ (plan : Plan) (version : ℕ) where
     all_behind place progress whole past left = sym (ap (λ (named : List ActorPlan). behind bytes progress (sections plan version named (shown_all (drop place reads) (drop place runs)))) (drop_of_length-le plan.actors past)) ∙ left
 
     -- the whole log at once
-    pub parted_is : (head : List ℕ) (place : ℕ) (first progress : Progress) (found : Option ℕ) → length plan.actors ≤ place → first ≡ behind bytes (Along 0 0) head → behind bytes progress (rest_from place) ≡ behind bytes first (sections plan version plan.actors (shown_all reads runs)) → found ≡ parted bytes progress
+    pub parted_is : (head : List ℕ) (place : ℕ) (first progress : Progress) (found : Option ℕ) → length plan.actors ≤ place → first ≡ behind bytes (Along 0) head → behind bytes progress (rest_from place) ≡ behind bytes first (sections plan version plan.actors (shown_all reads runs)) → found ≡ parted bytes progress
         → found ≡ lines_before 0 bytes (head ++ sections plan version plan.actors (shown_all reads runs))
     parted_is head place first progress found past by_first left is =
         let all : List ℕ = sections plan version plan.actors (shown_all reads runs) in
         is
-        ∙ ap (parted bytes) (all_behind place progress (behind bytes first all) past left ∙ ap (λ (p : Progress). behind bytes p all) by_first ∙ behind_both bytes (Along 0 0) head all)
-        ∙ parts_where bytes 0 0 (head ++ all) (omega arith)
+        ∙ ap (parted bytes) (all_behind place progress (behind bytes first all) past left ∙ ap (λ (p : Progress). behind bytes p all) by_first ∙ behind_both bytes (Along 0) head all)
+        ∙ parts_where bytes 0 0 (head ++ all) (omega arith) refl

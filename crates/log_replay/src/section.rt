@@ -80,12 +80,12 @@ fn write_section(
 
 // How far the bytes are the first line.
 fn behind_head(alloc: Global, bytes: &[u8], run: &Run) -> Result<Progress, NoMemory>
-    ensures progress { IfOk result (λ p. p ≡ behind bytes.now (Progress.Along 0 0) (head_line run.now)) }
+    ensures progress { IfOk result (λ p. p ≡ behind bytes.now (Progress.Along 0) (head_line run.now)) }
     ensures within { IfOk result (IsWithin bytes.now) }
 {
     let mut text = Bytes::new(alloc);
     write_head(&mut text, run)?;
-    let start = Progress::Along { place: 0, ended: 0 };
+    let start = Progress::Along { place: 0 };
     Ok(behind(bytes, start, text.bytes()))
 }
 

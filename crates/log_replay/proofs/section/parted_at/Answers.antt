@@ -23,4 +23,4 @@ pub returns-clause-lines : goal.returns-clause-lines
 returns-clause-lines c =
     let many = ap length c.as_slice-read-items.ensures.same in
     parted_is c.args.plan.now c.args.run.now.version c.args.bytes.now c.args.run.now.actors c.args.expected.now (head_line c.args.run.now) c.loop-place.place c.in_ok-progress.progress c.loop-place.progress c.parted.result
-    (omega (arith, c.loop-place-test.false, many, c.requires.reads)) c.in_ok-progress.ensures.progress c.loop-place.invariant.left c.parted.ensures
+    (omega (arith, c.loop-place-test.false, many, c.requires.reads)) c.in_ok-progress.ensures.progress c.loop-place.invariant.left c.parted.ensures.lines
