@@ -7,6 +7,7 @@ use Rattle.std.proofs.lemmas.List.{drop_more}
 use Rattle.std.proofs.lemmas.List.Sums.{count_by_more_no, count_by_more_yes}
 use Rattle.log_replay.specs.declared.apart.Progress.{Progress}
 use Rattle.log_replay.specs.declared.apart.Progress.TheVariants.{Along, Parted}
+use Rattle.log_replay.proofs.ApartLemmas.{itself}
 use Rattle.log_replay.specs.Apart.{behind, ended_before, ended_with, ends_line, lines_before, one_more, parted, with_byte}
 
 -- one piece behind another
@@ -27,9 +28,6 @@ past : (bytes : List ℕ) (place : ℕ) → length bytes ≤ place → slice_get
 past [] place l = refl
 past (x ∷ bytes) zero l = absurd (omega arith)
 past (x ∷ bytes) (suc place) l = past bytes place (omega (arith, l))
-
-itself : (a : ℕ) → (a == a) ≡ true
-itself a = grind (arith, nat_tests)
 
 -- a piece that stands there as a whole
 pub piece_stands : (bytes : List ℕ) (place : ℕ) (piece rest : List ℕ) → place ≤ length bytes → drop place bytes ≡ piece ++ rest → behind bytes (Along place) piece ≡ Along (place + length piece)
