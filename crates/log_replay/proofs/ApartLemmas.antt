@@ -29,7 +29,7 @@ pub record IsLine (text : List ℕ) : Type 0 where
   pub is : body ++ 10 ∷ [] ≡ text
   pub none : lacks 10 body ≡ true
 
-itself : (a : ℕ) → (a == a) ≡ true
+pub itself : (a : ℕ) → (a == a) ≡ true
 itself a = grind (arith, nat_tests)
 
 turned : (a b : ℕ) → (a == b) ≡ false → (b == a) ≡ false

@@ -1,5 +1,5 @@
 -- Where bytes and a text part, in lines.
-use Rattle.std.specs.Prelude.{ℕ, ◌+◌, ◌≤◌, nat_lt, List, [], ◌∷◌, length, ◌==◌, Option, None, Some, slice_get, if◌then◌else◌}
+use Rattle.std.specs.Prelude.{ℕ, ◌+◌, ◌≤◌, nat_lt, List, [], ◌∷◌, length, take, count_by, Bool, ◌==◌, Option, None, Some, slice_get, if◌then◌else◌}
 use Rattle.log_replay.specs.declared.apart.Progress.{Progress}
 use Rattle.log_replay.specs.declared.apart.Progress.TheVariants.{Along, Parted}
 
@@ -17,25 +17,32 @@ lines_before ended (b ∷ own) (c ∷ other) = if b == c then lines_before (ende
 -- ---- a text that comes piece by piece
 
 -- with a byte more of the text, where they are one up to this place and this byte stands there
-abbrev pub one_more : ℕ → ℕ → ℕ → Option ℕ → Progress
-one_more place ended byte None = Parted ended
-one_more place ended byte (Some own) = if own == byte then Along (place + 1) (ended_with byte ended) else Parted ended
+abbrev pub one_more : ℕ → ℕ → Option ℕ → Progress
+one_more place byte None = Parted place
+one_more place byte (Some own) = if own == byte then Along (place + 1) else Parted place
 
 abbrev pub with_byte : List ℕ → Progress → ℕ → Progress
-with_byte bytes (Along place ended) byte = one_more place ended byte (slice_get bytes place)
-with_byte bytes (Parted ended) byte = Parted ended
+with_byte bytes (Along place) byte = one_more place byte (slice_get bytes place)
+with_byte bytes (Parted place) byte = Parted place
 
 -- with a piece more
 abbrev pub behind : List ℕ → Progress → List ℕ → Progress
 behind bytes progress [] = progress
 behind bytes progress (byte ∷ piece) = behind bytes (with_byte bytes progress byte) piece
 
--- no more lines ended than there are bytes before, and the place is one of the bytes or behind the last
+-- the place is one of the bytes or behind the last
 abbrev pub IsWithin : List ℕ → Progress → Type 0
-IsWithin bytes (Along place ended) = (ended ≤ place) × (place ≤ length bytes)
-IsWithin bytes (Parted ended) = ended ≤ length bytes
+IsWithin bytes (Along place) = place ≤ length bytes
+IsWithin bytes (Parted place) = place ≤ length bytes
+
+abbrev pub ends_line : ℕ → Bool
+ends_line byte = byte == 10
+
+-- how many lines end in front of a place
+abbrev pub ended_before : List ℕ → ℕ → ℕ
+ended_before bytes place = count_by ends_line (take place bytes)
 
 -- how many lines ended in front of the first difference, where no more of the text comes
 abbrev pub parted : List ℕ → Progress → Option ℕ
-parted bytes (Along place ended) = if nat_lt place (length bytes) then Some ended else None
-parted bytes (Parted ended) = Some ended
+parted bytes (Along place) = if nat_lt place (length bytes) then Some (ended_before bytes place) else None
+parted bytes (Parted place) = Some (ended_before bytes place)

@@ -17,6 +17,10 @@ use Rattle.script_types.specs.declared.plan.Plan.{Plan}
 abbrev pub shown : ActorRun → Shared → ActorRun
 shown read shared = if shared.as_read then with_entries shared.own (with_stamps shared.stamps read.entries) else shared.own
 
+-- the stamps that the entries but for their stamps are shown with, as far as these are not their own
+abbrev pub shown_stamps : Shared → List ℕ
+shown_stamps shared = if shared.as_read then shared.stamps else []
+
 -- those of all actors
 abbrev pub shown_all : List ActorRun → List Shared → List ActorRun
 shown_all [] runs = []

@@ -8,10 +8,10 @@
 //!
 //! A contract says by `Checks` (specs/Check) what an answer means, by `expected_run` (specs/Expected) what is expected,
 //! and by `IsAccepted` and `IsFirstInFault` (specs/Fault) which lines are in fault. Steps are counted as in
-//! `actor_turn`. Beside the bytes and the run that was read, the memory is that of one actor at a time, of one section as
-//! text, and of what differs. Where each actor records its arrivals as they were read, an actor and its section share
-//! their messages and effects. There are no tests here: those of `join_command` replay whole logs, and the program
-//! `log_tests` changed ones.
+//! `actor_turn`. Beside the bytes and the run that was read, the memory is that of one actor at a time, of what differs,
+//! and, as text, of one entry or of the lines behind an actor's entries. Where each actor records its arrivals as they
+//! were read, an actor and its section share their messages and effects. There are no tests here: those of
+//! `join_command` replay whole logs, and the program `log_tests` changed ones.
 #![tactic(auto)]
 
 mod apart;

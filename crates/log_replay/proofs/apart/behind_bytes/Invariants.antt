@@ -1,6 +1,6 @@
 use Rattle.std.proofs.Common.{◌≡◌, drop}
 use Rattle.log_replay.specs.Apart.{IsWithin, behind}
-use Rattle.log_replay.proofs.apart.behind.Given as goal
+use Rattle.log_replay.proofs.apart.behind_bytes.Given as goal
 
 abbrev pub invariant-loop-byte : goal.invariant-loop-byte
 invariant-loop-byte l = record {
