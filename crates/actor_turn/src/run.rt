@@ -9,6 +9,10 @@ use join_base::{Items, Message, NoMemory};
 use mailbox_core::Mark;
 use std::alloc::Global;
 
+// From so many arrivals on, room for entries is grown. Less is made anew, since an empty vector has nothing to move. A large block
+// moves without its bytes, and where it were let go of, the allocator would no longer give later blocks of its size back.
+const GROWN: usize = 1024;
+
 /// Makes room for what one more arrival fires, and for the entries of all of them. It may leave room where there is no memory.
 pub fn reserve_entry(
     alloc: Global,
@@ -26,9 +30,13 @@ pub fn reserve_entry(
     ensures kept { vec_capacity entries.old ≤ vec_capacity entries.new }
 {
     firings.reserve(1)?;
-    // An empty vector has nothing to move, so a new one takes its place.
-    if entries.capacity() <= arrivals {
+    if entries.capacity() > arrivals {
+        return Ok(());
+    }
+    if arrivals < GROWN {
         *entries = Vec::with_capacity(alloc, 2 * arrivals + 4)?;
+    } else {
+        entries.reserve(2 * arrivals)?;
     }
     Ok(())
 }
