@@ -1,10 +1,11 @@
 //! What actors send each other.
-ghost use Rattle.std.specs.Prelude.{◌≡◌, ◌∷◌, [], ◌++◌, ◌-◌, ◌<◌, ◌≤◌, length, IfOk, OnOk, OnErr, Err, slice_get, Some};
+ghost use Rattle.std.specs.Prelude.{◌≡◌, ◌∷◌, [], ◌++◌, ◌-◌, ◌<◌, ◌≤◌, length, IfOk, IfErr, OnOk, OnErr, Err, slice_get, Some};
 
 use crate::items::{Items, NoMemory};
 use crate::text::Text;
 use std::alloc::Global;
 use std::marker::Model;
+use std::{mem, slice};
 
 /// A field of a message.
 #[derive(Drop)]
@@ -32,21 +33,98 @@ pub enum PushFault {
     NoMemory(Value),
 }
 
-/// At most 8 values.
+// The values of a message.
+#[derive(Drop)]
+enum Values {
+    Empty,
+    // In place.
+    One(Value),
+    // In a list, which may have fewer than two and room for more.
+    Many(Vec<Value>),
+}
+
+impl Values {
+    ghost use Rattle.join_base.specs.Fields.{values_in};
+
+    #[inline]
+    fn as_slice(&self) -> &[Value]
+        ensures same { result.now ≡ values_in self.now }
+    {
+        match self {
+            Values::Empty => &[],
+            Values::One(value) => slice::from_ref(value),
+            Values::Many(values) => values.as_slice(),
+        }
+    }
+
+    // Appends a value. Without memory it is handed back, and nothing changes.
+    #[inline]
+    fn push(&mut self, alloc: Global, value: Value) -> Result<(), Value>
+        ensures ok { OnOk result (values_in self.new ≡ values_in self.old ++ value ∷ []) }
+        ensures err { OnErr result (values_in self.new ≡ values_in self.old) }
+        ensures back { IfErr result (λ back. back ≡ value) }
+    {
+        match self {
+            Values::Empty => {
+                *self = Values::One(value);
+                Ok(())
+            }
+            Values::One(first) => {
+                let Ok(mut both) = Vec::with_capacity(alloc, 2) else {
+                    return Err(value);
+                };
+                both.push_reserved(mem::replace(first, Value::Int(0)));
+                both.push_reserved(value);
+                *self = Values::Many(both);
+                Ok(())
+            }
+            Values::Many(values) => match values.push(value) {
+                Ok(()) => Ok(()),
+                Err(refused) => Err(refused.value),
+            },
+        }
+    }
+
+    // The same values, with room for exactly these.
+    fn copy(&self, alloc: Global) -> Result<Values, NoMemory>
+        ensures equal { IfOk result (λ v. values_in v ≡ values_in self.now) }
+    {
+        match self {
+            Values::Empty => Ok(Values::Empty),
+            Values::One(value) => Ok(Values::One(value.copy(alloc)?)),
+            Values::Many(values) => Ok(Values::Many(copy_values(alloc, values.as_slice())?)),
+        }
+    }
+}
+
+fn copy_values(alloc: Global, values: &[Value]) -> Result<Vec<Value>, NoMemory>
+    ensures equal { IfOk result (λ v. v.items ≡ values.now) }
+{
+    let mut copies = Vec::with_capacity(alloc, values.len())?;
+    for value in values {
+        let copied = value.copy(alloc)?;
+        copies.push(copied)?;
+    }
+    Ok(copies)
+}
+
+/// At most 8 values. One stands in place, and more stand in a list of their own.
 #[derive(Drop)]
 pub struct Fields {
-    values: Vec<Value>,
+    values: Values,
+    alloc: Global,
 }
 
 impl Model for Fields {
     ghost use Rattle.std.specs.Prelude.{List, length, ◌≤◌};
     ghost use Rattle.join_base.specs.declared.message.Value.{Value as OneValue};
+    ghost use Rattle.join_base.specs.Fields.{values_in};
 
     ghost Value = { List OneValue };
 
-    ghost view = { λ a. a.values.items };
+    ghost view = { λ a. values_in a.values };
 
-    ghost invariant = { λ a. length a.values.items ≤ 8 };
+    ghost invariant = { λ a. length (values_in a.values) ≤ 8 };
 }
 
 impl Fields {
@@ -59,7 +137,8 @@ impl Fields {
         ensures empty { result ≡ [] }
     {
         Fields {
-            values: Vec::new(alloc),
+            values: Values::Empty,
+            alloc,
         }
     }
 
@@ -67,17 +146,25 @@ impl Fields {
     pub fn with_room(alloc: Global, count: usize) -> Result<Fields, NoMemory>
         ensures empty { IfOk result (λ f. f ≡ []) }
     {
+        if count <= 1 {
+            return Ok(Fields::new(alloc));
+        }
         let values = Vec::with_capacity(alloc, count.min(Fields::MAX))?;
-        Ok(Fields { values })
+        Ok(Fields {
+            values: Values::Many(values),
+            alloc,
+        })
     }
 
+    #[inline]
     pub fn len(&self) -> usize
         ensures count { result ≡ length self.now }
         ensures few { length self.now ≤ 8 }
     {
-        self.values.len()
+        self.as_slice().len()
     }
 
+    #[inline]
     pub fn as_slice(&self) -> &[Value]
         ensures same { result.now ≡ self.now }
         ensures few { length self.now ≤ 8 }
@@ -85,24 +172,26 @@ impl Fields {
         self.values.as_slice()
     }
 
+    #[inline]
     pub fn at(&self, place: usize) -> &Value
         requires within { place < length self.now }
         ensures item { slice_get self.now place ≡ Some result.now }
     {
-        let values = &self.values;
+        let values = self.as_slice();
         &values[place]
     }
 
     /// Appends a value. `Full` exactly where 8 are held, and nothing changes at a fault.
+    #[inline]
     pub fn push(&mut self, value: Value) -> Result<(), PushFault>
         ensures pushed { IsPushed self.old self.new value result }
     {
-        if self.values.len() >= 8 {
+        if self.len() >= 8 {
             return Err(PushFault::Full(value));
         }
-        match self.values.push(value) {
+        match self.values.push(self.alloc, value) {
             Ok(()) => Ok(()),
-            Err(refused) => Err(PushFault::NoMemory(refused.value)),
+            Err(value) => Err(PushFault::NoMemory(value)),
         }
     }
 
@@ -110,12 +199,8 @@ impl Fields {
     pub fn copy(&self, alloc: Global) -> Result<Fields, NoMemory>
         ensures equal { IfOk result (λ f. f ≡ self.now) }
     {
-        let mut values = Vec::with_capacity(alloc, self.values.len())?;
-        for value in &self.values {
-            let copied = value.copy(alloc)?;
-            values.push(copied)?;
-        }
-        Ok(Fields { values })
+        let values = self.values.copy(alloc)?;
+        Ok(Fields { values, alloc })
     }
 }
 

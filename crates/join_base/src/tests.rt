@@ -185,6 +185,19 @@ fn messages_have_at_most_eight_values(rt: HostRuntime) {
 }
 
 #[test]
+fn fields_grow_and_are_copied_from_none_to_three(rt: HostRuntime) {
+    let mut fields = Fields::new(rt.alloc());
+    for count in 0..3 {
+        match fields.copy(rt.alloc()) {
+            Ok(copy) => assert_eq!(rt; copy.len(), count),
+            Err(_) => assert!(rt; false),
+        }
+        assert!(rt; fields.push(Value::Int(7)).is_ok());
+    }
+    assert_eq!(rt; fields.as_slice().len(), 3);
+}
+
+#[test]
 fn a_copy_of_a_stamped_message_has_its_stamp(rt: HostRuntime) {
     let message = Message {
         kind: 2,
