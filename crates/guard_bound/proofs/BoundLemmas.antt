@@ -8,8 +8,9 @@ use Rattle.join_base.specs.declared.message.Message.{Message}
 use Rattle.join_base.specs.declared.message.Relation.{Relation}
 use Rattle.join_base.specs.declared.message.Relation.TheVariants.{Equal, NotEqual, Less, LessEqual, Greater, GreaterEqual}
 use Rattle.guard_eval.specs.declared.term.Signed.{Signed}
-use Rattle.guard_eval.specs.Meaning.{Assignment, int_relation, signed_value, term_value}
-use Rattle.guard_bound.specs.Bound.{AddsLeaf, BoundsSplits, IsPair, IsSplit, int_at, own_value, split_value, turned}
+use Rattle.guard_eval.specs.Meaning.{Assignment, int_relation, signed_value, term_value, turned}
+use Rattle.guard_eval.proofs.RelationLemmas.{turn}
+use Rattle.guard_bound.specs.Bound.{AddsLeaf, BoundsSplits, IsPair, IsSplit, int_at, own_value, split_value}
 use Rattle.guard_bound.specs.declared.bound.Bound.{Bound}
 use Rattle.guard_bound.specs.declared.bound.Own.{Own}
 use Rattle.guard_bound.specs.declared.bound.Split.{Split}
@@ -52,17 +53,6 @@ shift Less a b x v e = lt_shift a b x v e
 shift LessEqual a b x v e = le_shift a b x v e
 shift Greater a b x v e = lt_shift b a v x (omega (arith, ints))
 shift GreaterEqual a b x v e = le_shift b a v x (omega (arith, ints))
-
-eq_turn : (a b : ℤ) → int_eq a b ≡ int_eq b a
-eq_turn a b = same_tests (int_eq a b) (int_eq b a) (λ h. (Decides-int_eq b a).1 (sym ((Decides-int_eq a b).0 h))) (λ h. (Decides-int_eq a b).1 (sym ((Decides-int_eq b a).0 h)))
-
-pub turn : (r : Relation) (a b : ℤ) → int_relation (turned r) a b ≡ int_relation r b a
-turn Equal a b = eq_turn a b
-turn NotEqual a b = ap not (eq_turn a b)
-turn Less a b = refl
-turn LessEqual a b = refl
-turn Greater a b = refl
-turn GreaterEqual a b = refl
 
 module _ (left right : Split) (own : Own) (r : Relation) (v : ℤ) (has : left.own ≡ Some own) (lacks : right.own ≡ None) where
   -- the row's leaf is added on the left

@@ -2,7 +2,6 @@
 use Rattle.std.specs.Prelude.{◌≡◌, ℕ, ℤ, pos, neg_ℤ, ◌+ℤ◌, List, Bool, Option, Some, None, if◌then◌else◌}
 use Rattle.join_base.specs.declared.message.Message.{Message}
 use Rattle.join_base.specs.declared.message.Relation.{Relation}
-use Rattle.join_base.specs.declared.message.Relation.TheVariants.{Equal, NotEqual, Less, LessEqual, Greater, GreaterEqual}
 use Rattle.guard_eval.specs.declared.term.Signed.{Signed}
 use Rattle.guard_eval.specs.Condition.{Condition}
 use Rattle.guard_eval.specs.Meaning.{Assignment, letter_at, field_of, int_of, int_relation, is_true, number_at, signed_value, term_value}
@@ -13,15 +12,6 @@ use Rattle.guard_bound.specs.declared.bound.Split.{Split}
 -- the integer at a field of a recorded message, and 0 where there is none
 abbrev pub int_at : List Message → ℕ → ℕ → ℤ
 int_at letters number field = int_of (field_of (letter_at letters number) field)
-
--- the relation with its sides exchanged
-abbrev pub turned : Relation → Relation
-turned Equal = Equal
-turned NotEqual = NotEqual
-turned Less = Greater
-turned LessEqual = GreaterEqual
-turned Greater = Less
-turned GreaterEqual = LessEqual
 
 -- the pattern has the number, and the wanted one the known number
 pub record IsPair (known pattern wanted number : ℕ) (whole : Assignment) : Type 0 where

@@ -1,11 +1,10 @@
 //! Comparisons of sums, solved for one integer field: how that field compares with a value.
 ghost use Rattle.std.specs.Prelude.{◌≡◌, ◌++◌, ◌∷◌, [], ◌<◌, length, IfSome, Some, None, neg_ℤ, ◌+ℤ◌, if◌then◌else◌};
 ghost use Rattle.std.specs.List.{list_all};
-ghost use Rattle.guard_eval.specs.Meaning.{int_relation};
 ghost use Rattle.guard_eval.specs.Shape.{conjunct_condition};
-ghost use Rattle.guard_bound.specs.Bound.{AddsLeaf, BoundsSplits, IsSplit, Says, int_at, meets, turned};
+ghost use Rattle.guard_bound.specs.Bound.{AddsLeaf, BoundsSplits, IsSplit, Says, int_at, meets};
 
-use guard_eval::{Atom, Conjunct, Leaf, Operand, Signed, Term};
+use guard_eval::{Atom, Conjunct, Leaf, Operand, Signed, Term, int_relation, turned};
 use join_base::{Message, Relation, Value};
 use std::marker::Model;
 
@@ -99,34 +98,6 @@ pub fn int_at(letters: &[Message], number: u32, field: u32) -> i64
     match message.fields.as_slice().get(field as usize) {
         Some(Value::Int(n)) => *n,
         _ => 0,
-    }
-}
-
-// How a comparison comes out.
-fn compares(relation: Relation, left: i128, right: i128) -> bool
-    ensures { result ≡ int_relation relation left right }
-{
-    match relation {
-        Relation::Equal => left == right,
-        Relation::NotEqual => left != right,
-        Relation::Less => left < right,
-        Relation::LessEqual => left <= right,
-        Relation::Greater => left > right,
-        Relation::GreaterEqual => left >= right,
-    }
-}
-
-// The relation with its sides exchanged.
-fn turned(relation: Relation) -> Relation
-    ensures { result ≡ turned relation }
-{
-    match relation {
-        Relation::Equal => Relation::Equal,
-        Relation::NotEqual => Relation::NotEqual,
-        Relation::Less => Relation::Greater,
-        Relation::LessEqual => Relation::GreaterEqual,
-        Relation::Greater => Relation::Less,
-        Relation::GreaterEqual => Relation::LessEqual,
     }
 }
 
@@ -263,7 +234,7 @@ pub fn bound_of(
 fn meets(letters: &[Message], bound: Bound, number: u32) -> bool
     ensures { result ≡ meets letters.now bound number }
 {
-    compares(
+    int_relation(
         bound.relation,
         int_at(letters, number, bound.field) as i128,
         bound.value,

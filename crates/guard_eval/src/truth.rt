@@ -2,27 +2,15 @@
 ghost use Rattle.std.specs.Prelude.{◌≡◌, ◌++◌, ◌<◌, Some, length};
 ghost use Rattle.std.specs.List.{AllByRecursion};
 ghost use Rattle.join_base.specs.Text.{IsText};
-ghost use Rattle.guard_eval.specs.Meaning.{compares, int_relation, is_true, needs_of, operand_needs, words_needs, words_of, words_relation, words_value, value_at};
+ghost use Rattle.guard_eval.specs.Meaning.{compares, is_true, needs_of, operand_needs, words_needs, words_of, words_relation, words_value, value_at};
 ghost use Rattle.guard_eval.specs.Ready.{AreReady, IsWordsReady};
 ghost use Rattle.guard_eval.specs.Shape.{atom_condition, conjunct_condition};
 
 use crate::conjunct::{Atom, Conjunct};
+use crate::relation::int_relation;
 use crate::sums::sum;
 use crate::term::{Operand, Place, WordsLeaf};
 use join_base::{Message, Relation, Slots, Value, letter};
-
-fn int_relation(relation: Relation, left: i128, right: i128) -> bool
-    ensures { result ≡ int_relation relation left right }
-{
-    match relation {
-        Relation::Equal => left == right,
-        Relation::NotEqual => left != right,
-        Relation::Less => left < right,
-        Relation::LessEqual => left <= right,
-        Relation::Greater => left > right,
-        Relation::GreaterEqual => left >= right,
-    }
-}
 
 // Texts are compared for equality alone.
 fn words_relation(relation: Relation, text: &[u8], other: &[u8]) -> bool

@@ -3,9 +3,8 @@ use Rattle.std.proofs.Common.{◌≡◌, ◌∙◌, ℕ, zero, suc, not, List, [
 use Rattle.std.specs.Prelude.{IfSome, FitsSigned, int_lt, int_le, if◌then◌else◌, ◌<ℤ◌, ◌==◌}
 use Rattle.std.specs.Int.{w64}
 use Rattle.std.specs.Option.{option_and_then, option_or}
-use Rattle.std.specs.Ordering.{int_eq}
 use Rattle.std.specs.List.{AllByRecursion}
-use Rattle.std.proofs.lemmas.Bool.Decides.{Decides-int_eq, Decides-like, nat_tests, same_from_decides}
+use Rattle.std.proofs.lemmas.Bool.Decides.{Decides-int_eq, nat_tests}
 use Rattle.std.proofs.lemmas.Int.{ints}
 use Rattle.std.proofs.lemmas.Bool.{or_parts}
 use Rattle.join_base.specs.declared.message.Value.{Value}
@@ -22,13 +21,14 @@ use Rattle.guard_eval.specs.declared.term.WordsLeaf.{WordsLeaf}
 use Rattle.guard_eval.specs.declared.term.WordsLeaf.TheVariants as words
 use Rattle.guard_eval.specs.declared.term.Operand.{Operand}
 use Rattle.guard_eval.specs.declared.term.Operand.TheVariants as operand
-use Rattle.guard_eval.specs.Meaning.{Assignment, Need, compares, field_of, has_some, int_of, int_relation, is_true, leaf_needs, leaf_value, letter_at, letter_of, needs_of, number_at, operand_needs, signed_value, term_needs, term_value, value_at, words_needs, words_relation, words_value}
+use Rattle.guard_eval.specs.Meaning.{Assignment, Need, compares, field_of, has_some, int_of, int_relation, is_true, leaf_needs, leaf_value, letter_at, letter_of, needs_of, number_at, operand_needs, signed_value, term_needs, term_value, turned, value_at, words_needs, words_relation, words_value}
 use Rattle.guard_eval.proofs.ExtendLemmas.{both_true}
+use Rattle.guard_eval.proofs.RelationLemmas.{turn}
 use Rattle.pattern_core.specs.Matches.{makes_all_true}
 use Rattle.fair_semantics.proofs.CountedLemmas.{same_number}
 use Rattle.script_lint.specs.declared.bounds.Bound.{Bound}
 use Rattle.script_lint.specs.declared.bounds.Interval.{Interval}
-use Rattle.script_lint.specs.Bounds.{bound_between, bound_by, bound_of, bound_of_atom, cut, cut_by, cut_by_all, field_of_leaf, fixed_sum, holds_throughout, interval_of, is_bounding, is_empty, is_same_place, lone_field, mirrored, only_atom, over, under, whole}
+use Rattle.script_lint.specs.Bounds.{bound_between, bound_by, bound_of, bound_of_atom, cut, cut_by, cut_by_all, field_of_leaf, fixed_sum, holds_throughout, interval_of, is_bounding, is_empty, is_same_place, lone_field, only_atom, over, under, whole}
 use Rattle.script_lint.specs.Law.{HasValuesInRange, InRange}
 use Rattle.script_lint.proofs.ListLemmas.{or_false, some_at}
 
@@ -225,17 +225,6 @@ module _ (letters : List Message) (slots : Assignment) where
   bounds_by (Some p) r None bound e = absurd cc
   bounds_by None r n bound e = absurd cc
 
-  equal_back : (a b : ℤ) → int_eq a b ≡ int_eq b a
-  equal_back a b = same_from_decides (int_eq a b) (int_eq b a) (Decides-int_eq a b) (Decides-like (int_eq b a) (λ e. sym e) (λ e. sym e) (Decides-int_eq b a))
-
-  mirrored_is : (r : Relation) (a b : ℤ) → int_relation r a b ≡ int_relation (mirrored r) b a
-  mirrored_is Equal a b = equal_back a b
-  mirrored_is NotEqual a b = ap not (equal_back a b)
-  mirrored_is Less a b = refl
-  mirrored_is LessEqual a b = refl
-  mirrored_is Greater a b = refl
-  mirrored_is GreaterEqual a b = refl
-
   -- a bound says of the value of its place what the comparison says
   abbrev Says : Bound → List Signed → Relation → List Signed → Type 0
   Says bound left r right = int_relation r (term_value letters slots left) (term_value letters slots right) ≡ int_relation bound.relation (int_of (value_at letters slots bound.place)) bound.number
@@ -250,13 +239,13 @@ module _ (letters : List Message) (slots : Assignment) where
   between_says : (left : List Signed) (r : Relation) (right : List Signed) (bound : Bound) → bound_between left r right ≡ Some bound → Says bound left r right
   between_says left r right bound e = by (is_bounding r) e
     where
-      either : (o : Option Bound) → bound_by (lone_field left) r (fixed_sum right) ≡ o → option_or o (bound_by (lone_field right) (mirrored r) (fixed_sum left)) ≡ Some bound → Says bound left r right
+      either : (o : Option Bound) → bound_by (lone_field left) r (fixed_sum right) ≡ o → option_or o (bound_by (lone_field right) (turned r) (fixed_sum left)) ≡ Some bound → Says bound left r right
       either None f e =
-          let back = forward right (mirrored r) left bound (bounds_by (lone_field right) (mirrored r) (fixed_sum left) bound e) in
-          mirrored_is r (term_value letters slots left) (term_value letters slots right) ∙ back
+          let back = forward right (turned r) left bound (bounds_by (lone_field right) (turned r) (fixed_sum left) bound e) in
+          sym (turn r (term_value letters slots right) (term_value letters slots left)) ∙ back
       either (Some b) f e = forward left r right bound (bounds_by (lone_field left) r (fixed_sum right) bound (f ∙ e))
 
-      by : (b : Bool) → (if b then option_or (bound_by (lone_field left) r (fixed_sum right)) (bound_by (lone_field right) (mirrored r) (fixed_sum left)) else None) ≡ Some bound → Says bound left r right
+      by : (b : Bool) → (if b then option_or (bound_by (lone_field left) r (fixed_sum right)) (bound_by (lone_field right) (turned r) (fixed_sum left)) else None) ≡ Some bound → Says bound left r right
       by false e = absurd cc
       by true e = either (bound_by (lone_field left) r (fixed_sum right)) refl e
 

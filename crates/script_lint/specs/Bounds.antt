@@ -9,7 +9,7 @@ use Rattle.guard_eval.specs.declared.term.Leaf.{Leaf}
 use Rattle.guard_eval.specs.declared.term.Leaf.TheVariants as leaf
 use Rattle.guard_eval.specs.declared.term.Signed.{Signed}
 use Rattle.guard_eval.specs.declared.term.Operand.TheVariants as operand
-use Rattle.guard_eval.specs.Meaning.{has_some, term_needs, term_value}
+use Rattle.guard_eval.specs.Meaning.{has_some, term_needs, term_value, turned}
 use Rattle.script_lint.specs.declared.bounds.Bound.{Bound}
 use Rattle.script_lint.specs.declared.bounds.Interval.{Interval}
 
@@ -32,15 +32,6 @@ lone_field (signed ∷ next ∷ more) = None
 abbrev pub fixed_sum : List Signed → Option ℤ
 fixed_sum leaves = if has_some (term_needs leaves) then None else Some (term_value [] [] leaves)
 
--- the relation with its sides exchanged
-abbrev pub mirrored : Relation → Relation
-mirrored Equal = Equal
-mirrored NotEqual = NotEqual
-mirrored Less = Greater
-mirrored LessEqual = GreaterEqual
-mirrored Greater = Less
-mirrored GreaterEqual = LessEqual
-
 -- a field compared with a number
 abbrev pub bound_by : Option Place → Relation → Option ℤ → Option Bound
 bound_by (Some place) relation (Some number) = Some record { place = place; relation = relation; number = number }
@@ -54,7 +45,7 @@ is_bounding _ = true
 -- a field and a number, on either side of a relation other than `!=`
 abbrev pub bound_between : List Signed → Relation → List Signed → Option Bound
 bound_between left relation right =
-    if is_bounding relation then option_or (bound_by (lone_field left) relation (fixed_sum right)) (bound_by (lone_field right) (mirrored relation) (fixed_sum left)) else None
+    if is_bounding relation then option_or (bound_by (lone_field left) relation (fixed_sum right)) (bound_by (lone_field right) (turned relation) (fixed_sum left)) else None
 
 abbrev pub bound_of_atom : Condition → Option Bound
 bound_of_atom (Compares (operand.Sum left) relation (operand.Sum right)) = bound_between left relation right

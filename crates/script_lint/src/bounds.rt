@@ -3,9 +3,9 @@ ghost use Rattle.std.specs.Prelude.{◌≡◌, ◌+ℤ◌, ◌-ℤ◌, pos, None
 ghost use Rattle.join_base.specs.declared.message.Relation.TheVariants.{LessEqual, GreaterEqual};
 ghost use Rattle.guard_eval.specs.Meaning.{has_some, term_needs};
 ghost use Rattle.guard_eval.specs.Shape.{atom_condition, conjunct_condition};
-ghost use Rattle.script_lint.specs.Bounds.{bound_between, bound_by, bound_of, bound_of_atom, cut, cut_by, fixed_sum, holds_throughout, interval_of, is_empty, is_same_place, lone_field, mirrored, only_atom, over, under, whole};
+ghost use Rattle.script_lint.specs.Bounds.{bound_between, bound_by, bound_of, bound_of_atom, cut, cut_by, fixed_sum, holds_throughout, interval_of, is_empty, is_same_place, lone_field, only_atom, over, under, whole};
 
-use guard_eval::{Atom, Conjunct, ConjunctList, Leaf, Operand, Place, Signed, Term, sum};
+use guard_eval::{Atom, Conjunct, ConjunctList, Leaf, Operand, Place, Signed, Term, sum, turned};
 use join_base::{Message, Numbers, Relation, Slots};
 
 /// A field that is compared with a number.
@@ -69,19 +69,6 @@ fn fixed_sum(term: &Term) -> Option<i128>
     Some(sum(term, &Slots::of(&Numbers::new()), none))
 }
 
-fn mirrored(relation: Relation) -> Relation
-    ensures { result ≡ mirrored relation }
-{
-    match relation {
-        Relation::Equal => Relation::Equal,
-        Relation::NotEqual => Relation::NotEqual,
-        Relation::Less => Relation::Greater,
-        Relation::LessEqual => Relation::GreaterEqual,
-        Relation::Greater => Relation::Less,
-        Relation::GreaterEqual => Relation::LessEqual,
-    }
-}
-
 fn bound_by(place: Option<Place>, relation: Relation, number: Option<i128>) -> Option<Bound>
     ensures { result ≡ bound_by place relation number }
 {
@@ -105,7 +92,7 @@ fn bound_between(left: &Term, relation: Relation, right: &Term) -> Option<Bound>
         Some(bound) => Some(bound),
         None => bound_by(
             lone_field(right.leaves()),
-            mirrored(relation),
+            turned(relation),
             fixed_sum(left),
         ),
     }
