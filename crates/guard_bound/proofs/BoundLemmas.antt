@@ -3,7 +3,7 @@ use Rattle.std.proofs.Common.{◌≡◌, ◌∙◌, ℕ, Bool, true, false, not,
 use Rattle.std.proofs.lemmas.Int.{ints}
 use Rattle.std.specs.Prelude.{ℤ, int_lt, int_le, if◌then◌else◌}
 use Rattle.std.specs.Ordering.{int_eq}
-use Rattle.std.proofs.lemmas.Bool.Decides.{Decides-int_eq}
+use Rattle.std.proofs.lemmas.Bool.Decides.{Decides-int_eq, Decides-like, same_from_decides}
 use Rattle.join_base.specs.declared.message.Message.{Message}
 use Rattle.join_base.specs.declared.message.Relation.{Relation}
 use Rattle.join_base.specs.declared.message.Relation.TheVariants.{Equal, NotEqual, Less, LessEqual, Greater, GreaterEqual}
@@ -15,35 +15,19 @@ use Rattle.guard_bound.specs.declared.bound.Bound.{Bound}
 use Rattle.guard_bound.specs.declared.bound.Own.{Own}
 use Rattle.guard_bound.specs.declared.bound.Split.{Split}
 
-pub same_tests : (p q : Bool) → (p ≡ true → q ≡ true) → (q ≡ true → p ≡ true) → p ≡ q
-same_tests true true f g = refl
-same_tests false false f g = refl
-same_tests true false f g = sym (f refl)
+same_tests : (p q : Bool) → (p ≡ true → q ≡ true) → (q ≡ true → p ≡ true) → p ≡ q
+same_tests true q f g = sym (f refl)
 same_tests false true f g = g refl
+same_tests false false f g = refl
 
 eq_shift : (a b x v : ℤ) → a +ℤ v ≡ x +ℤ b → int_eq a b ≡ int_eq x v
-eq_shift a b x v e =
-    same_tests (int_eq a b) (int_eq x v)
-    (λ h. (Decides-int_eq x v).1 (let same = (Decides-int_eq a b).0 h in omega (arith, ints)))
-    (λ h. (Decides-int_eq a b).1 (let same = (Decides-int_eq x v).0 h in omega (arith, ints)))
+eq_shift a b x v e = same_from_decides (int_eq a b) (int_eq x v) (Decides-int_eq a b) (Decides-like (int_eq x v) (λ h. omega (arith, ints)) (λ h. omega (arith, ints)) (Decides-int_eq x v))
 
 lt_shift : (a b x v : ℤ) → a +ℤ v ≡ x +ℤ b → int_lt a b ≡ int_lt x v
-lt_shift a b x v e = by (int_lt a b) (int_lt x v) refl refl
-  where
-    by : (p q : Bool) → int_lt a b ≡ p → int_lt x v ≡ q → p ≡ q
-    by true true f g = refl
-    by false false f g = refl
-    by true false f g = absurd (omega (arith, ints))
-    by false true f g = absurd (omega (arith, ints))
+lt_shift a b x v e = same_tests (int_lt a b) (int_lt x v) (λ h. grind (arith, ints)) (λ h. grind (arith, ints))
 
 le_shift : (a b x v : ℤ) → a +ℤ v ≡ x +ℤ b → int_le a b ≡ int_le x v
-le_shift a b x v e = by (int_le a b) (int_le x v) refl refl
-  where
-    by : (p q : Bool) → int_le a b ≡ p → int_le x v ≡ q → p ≡ q
-    by true true f g = refl
-    by false false f g = refl
-    by true false f g = absurd (omega (arith, ints))
-    by false true f g = absurd (omega (arith, ints))
+le_shift a b x v e = same_tests (int_le a b) (int_le x v) (λ h. grind (arith, ints)) (λ h. grind (arith, ints))
 
 -- what is the same apart compares the same
 pub shift : (r : Relation) (a b x v : ℤ) → a +ℤ v ≡ x +ℤ b → int_relation r a b ≡ int_relation r x v

@@ -1,6 +1,7 @@
 -- A conjunct that says that two texts are equal, as a test of one number.
 use Rattle.std.proofs.Common.{◌≡◌, ◌∙◌, ℕ, Bool, true, false, ◌||◌, inl, inr, List, Some, refl, sym, ap}
 use Rattle.std.specs.Str.{bytes_eq}
+use Rattle.std.proofs.lemmas.Bool.Decides.{Decides-like, same_from_decides}
 use Rattle.std.proofs.lemmas.Slice.Eq.{bytes_eq-Decides}
 use Rattle.join_base.specs.declared.message.Message.{Message}
 use Rattle.guard_eval.specs.declared.term.Place.{Place}
@@ -9,15 +10,13 @@ use Rattle.guard_eval.specs.Meaning.{Assignment, field_of, is_true, letter_of, n
 use Rattle.guard_bound.specs.declared.same.Same.{Same}
 use Rattle.guard_bound.specs.Bound.{IsPair}
 use Rattle.guard_bound.specs.Same.{SaysSame, are_same, is_same, words_at}
-use Rattle.guard_bound.proofs.BoundLemmas.{same_tests}
 
 or_false : (b : Bool) → (b || false) ≡ b
 or_false true = refl
 or_false false = refl
 
 bytes_turn : (xs ys : List ℕ) → bytes_eq xs ys ≡ bytes_eq ys xs
-bytes_turn xs ys =
-    same_tests (bytes_eq xs ys) (bytes_eq ys xs) (λ h. (bytes_eq-Decides ys xs).1 (sym ((bytes_eq-Decides xs ys).0 h))) (λ h. (bytes_eq-Decides xs ys).1 (sym ((bytes_eq-Decides ys xs).0 h)))
+bytes_turn xs ys = same_from_decides (bytes_eq xs ys) (bytes_eq ys xs) (bytes_eq-Decides xs ys) (Decides-like (bytes_eq ys xs) (λ e. sym e) (λ e. sym e) (bytes_eq-Decides ys xs))
 
 equal_words : (letters : List Message) (whole : Assignment) (a b : Place) (m n : ℕ) → number_at whole a.pattern ≡ Some m → number_at whole b.pattern ≡ Some n → is_true letters whole (are_same a b) ≡ bytes_eq (words_at letters m a.field) (words_at letters n b.field)
 equal_words letters whole a b m n ea eb =
