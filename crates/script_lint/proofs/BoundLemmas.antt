@@ -4,7 +4,7 @@ use Rattle.std.specs.Prelude.{IfSome, FitsSigned, int_lt, int_le, if◌then◌el
 use Rattle.std.specs.Int.{w64}
 use Rattle.std.specs.Option.{option_and_then, option_or}
 use Rattle.std.specs.List.{AllByRecursion}
-use Rattle.std.proofs.lemmas.Bool.Decides.{Decides-int_eq, nat_tests}
+use Rattle.std.proofs.lemmas.Bool.Decides.{Decides-int_eq}
 use Rattle.std.proofs.lemmas.Int.{ints}
 use Rattle.std.proofs.lemmas.Bool.{or_parts}
 use Rattle.join_base.specs.declared.message.Value.{Value}
