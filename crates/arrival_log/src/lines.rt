@@ -32,10 +32,18 @@ fn push_line(text: &mut Bytes, room: &[u8; ROOM], start: usize) -> Result<(), No
     text.push_all(&room[start..])
 }
 
-// The line of an effect, piece by piece.
-fn write_effect_parts(text: &mut Bytes, plan: &Plan, effect: &Effect) -> Result<(), NoMemory>
+// The line of an effect, in one piece where the room takes it.
+fn write_effect(
+    text: &mut Bytes,
+    room: &mut [u8; ROOM],
+    plan: &Plan,
+    effect: &Effect,
+) -> Result<(), NoMemory>
     ensures { OnOk result (text.new ≡ text.old ++ effect_line plan.now effect.now) }
 {
+    if let Some(start) = put_effect(room, ROOM, plan, effect) {
+        return push_line(text, room, start);
+    }
     match effect {
         Effect::Print(printed) => {
             text.push_all(b"print ")?;
@@ -54,20 +62,6 @@ fn write_effect_parts(text: &mut Bytes, plan: &Plan, effect: &Effect) -> Result<
             write_value(text, value)?;
             text.push_all(b"\n")
         }
-    }
-}
-
-fn write_effect(
-    text: &mut Bytes,
-    room: &mut [u8; ROOM],
-    plan: &Plan,
-    effect: &Effect,
-) -> Result<(), NoMemory>
-    ensures { OnOk result (text.new ≡ text.old ++ effect_line plan.now effect.now) }
-{
-    match put_effect(room, ROOM, plan, effect) {
-        Some(start) => push_line(text, room, start),
-        None => write_effect_parts(text, plan, effect),
     }
 }
 
@@ -110,23 +104,7 @@ fn write_firing(
     }
 }
 
-// The line of an arrival, with this stamp in place of its own, piece by piece.
-fn write_arrival_parts(
-    text: &mut Bytes,
-    room: &mut [u8; ROOM],
-    plan: &Plan,
-    version: u32,
-    entry: &Entry,
-    stamp: u64,
-) -> Result<(), NoMemory>
-    ensures { OnOk result (text.new ≡ text.old ++ arrival_line plan.now version (stamped entry.now stamp)) }
-{
-    let start = put_front(room, ROOM, plan, version, entry, stamp);
-    push_line(text, room, start)?;
-    write_message(text, plan, &entry.message)
-}
-
-// The line of an arrival, with this stamp in place of its own.
+// The line of an arrival, with this stamp in place of its own, in one piece where the room takes it.
 fn write_arrival(
     text: &mut Bytes,
     room: &mut [u8; ROOM],
@@ -137,28 +115,15 @@ fn write_arrival(
 ) -> Result<(), NoMemory>
     ensures { OnOk result (text.new ≡ text.old ++ arrival_line plan.now version (stamped entry.now stamp)) }
 {
-    match put_arrival(room, ROOM, plan, version, entry, stamp) {
-        Some(start) => push_line(text, room, start),
-        None => write_arrival_parts(text, room, plan, version, entry, stamp),
+    if let Some(start) = put_arrival(room, ROOM, plan, version, entry, stamp) {
+        return push_line(text, room, start);
     }
+    let start = put_front(room, ROOM, plan, version, entry, stamp);
+    push_line(text, room, start)?;
+    write_message(text, plan, &entry.message)
 }
 
-// The lines of an arrival with this stamp in place of its own, and of what it fired, line by line.
-fn write_entry_lines(
-    text: &mut Bytes,
-    room: &mut [u8; ROOM],
-    plan: &Plan,
-    version: u32,
-    entry: &Entry,
-    stamp: u64,
-) -> Result<(), NoMemory>
-    ensures { OnOk result (text.new ≡ text.old ++ entry_lines plan.now version (stamped entry.now stamp)) }
-{
-    write_arrival(text, room, plan, version, entry, stamp)?;
-    write_firing(text, room, plan, &entry.firing)
-}
-
-// The same, in one piece where the room takes them.
+// The lines of an arrival with this stamp in place of its own, and of what it fired, in one piece where the room takes them.
 fn write_entry_in(
     text: &mut Bytes,
     room: &mut [u8; ROOM],
@@ -169,10 +134,11 @@ fn write_entry_in(
 ) -> Result<(), NoMemory>
     ensures { OnOk result (text.new ≡ text.old ++ entry_lines plan.now version (stamped entry.now stamp)) }
 {
-    match put_entry(room, plan, version, entry, stamp) {
-        Some(start) => push_line(text, room, start),
-        None => write_entry_lines(text, room, plan, version, entry, stamp),
+    if let Some(start) = put_entry(room, plan, version, entry, stamp) {
+        return push_line(text, room, start);
     }
+    write_arrival(text, room, plan, version, entry, stamp)?;
+    write_firing(text, room, plan, &entry.firing)
 }
 
 /// Appends the lines of an arrival with this stamp in place of its own, and of what it fired.
