@@ -1,4 +1,4 @@
-use Rattle.std.proofs.Common.{◌≡◌, ◌∙◌, ◌-◌, ◌∷◌, [], ℕ, List, None, replicate, length, ap, sym, subst, arith}
+use Rattle.std.proofs.Common.{◌≡◌, ◌∙◌, ◌+◌, ◌-◌, ◌≤◌, ◌∷◌, [], ℕ, List, None, replicate, length, ap, sym, subst, arith}
 use Rattle.std.specs.declared.alloc.Global.{Global}
 use Rattle.std.specs.declared.collections.VecDeque.{VecDeque}
 use Rattle.std.proofs.lemmas.List.{nil_from_length}
@@ -11,13 +11,23 @@ use Rattle.match_tree.specs.Growth.{Grows}
 use Rattle.match_tree.specs.Below.{AreOpen}
 use Rattle.match_tree.specs.Offering.{offered}
 use Rattle.match_tree.specs.Pruned.{AreShort}
-use Rattle.match_tree.specs.Tries.{tries_behind}
+use Rattle.match_tree.specs.Tries.{tried, tries_behind}
 use Rattle.match_tree.specs.declared.node.Node.{Node}
 use Rattle.match_tree.proofs.GrowLemmas.{grows_none}
 use Rattle.match_tree.proofs.LeadLemmas.{lead_lasts}
 use Rattle.match_tree.proofs.RootLemmas.{alone_grows, open_short, root_free, root_takers, tried_empty}
 use Rattle.match_tree.proofs.ReserveLemmas.{reserve_counts}
+use Rattle.match_tree.proofs.reserve.visit_all.Goals.{After-visit_rows}
 use Rattle.match_tree.proofs.reserve.visit_all.Goals as goal
+
+-- the steps of the visit, whatever its answer
+steps_few : (g : _) (c : After-visit_rows g) → c.visit_rows.new.steps ≤ c.args.steps.now + (length (tried (offered c.args.offer.now) (replicate (length c.args.offer.now.definition.now.patterns) None)) + tries_behind (offered c.args.offer.now) (replicate (length c.args.offer.now.definition.now.patterns) None) (rows_routes 0 (rows_of c.args.rows.now.items)))
+steps_few g c =
+    let o = offered c.args.offer.now in
+    let slots : c.new-slots.result ≡ replicate (length o.definition.patterns) None = c.new-slots.ensures ∙ ap (λ (n : ℕ). replicate n None) c.len-patterns.ensures.count in
+    let wanted = ap (λ (ps : List ℕ). length ps) (c.of_kind-wanted.ensures ∙ tried_empty o) in
+    let tried_there = ap (λ (s : Assignment). tries_behind o s (rows_routes 0 (rows_of c.args.rows.now.items))) slots in
+    omega (arith, c.visit_rows.ensures.stepped)
 
 pub visit_path-requires-clause-free : goal.visit_path-requires-clause-free
 visit_path-requires-clause-free g c =
@@ -68,14 +78,7 @@ remove_new-requires-clause-short g c =
     subst (λ (n : ℕ). AreShort (n - 1) (rows_routes 0 (rows_of c.visit_rows.new.rows.items))) (sym c.len-patterns.ensures.count) short
 
 pub returns-in-Ok-None-clause-stepped : goal.returns-in-Ok-None-clause-stepped
-returns-in-Ok-None-clause-stepped g c =
-    let a = c.args in
-    let o = offered a.offer.now in
-    let kinds = a.offer.now.definition.now.patterns in
-    let slots : c.new-slots.result ≡ replicate (length kinds) None = c.new-slots.ensures ∙ ap (λ (n : ℕ). replicate n None) c.len-patterns.ensures.count in
-    let wanted = ap (λ (ps : List ℕ). length ps) (c.of_kind-wanted.ensures ∙ tried_empty o) in
-    let tried_there = ap (λ (s : Assignment). tries_behind o s (rows_routes 0 (rows_of a.rows.now.items))) slots in
-    omega (arith, c.visit_rows.ensures.stepped)
+returns-in-Ok-None-clause-stepped g c = steps_few g (goal.at.returns-in-Ok-None-clause-stepped g c).After-visit_rows
 
 pub returns-in_default-clause-lasting : goal.returns-in_default-clause-lasting
 returns-in_default-clause-lasting g c =
@@ -88,14 +91,7 @@ returns-in_default-clause-lasting g c =
     ap (filter (lacks (o.number ∷ []))) back ∙ lead_lasts o (replicate (length kinds) None) old c.requires.lead
 
 pub returns-in_default-clause-stepped : goal.returns-in_default-clause-stepped
-returns-in_default-clause-stepped g c =
-    let a = c.args in
-    let o = offered a.offer.now in
-    let kinds = a.offer.now.definition.now.patterns in
-    let slots : c.new-slots.result ≡ replicate (length kinds) None = c.new-slots.ensures ∙ ap (λ (n : ℕ). replicate n None) c.len-patterns.ensures.count in
-    let wanted = ap (λ (ps : List ℕ). length ps) (c.of_kind-wanted.ensures ∙ tried_empty o) in
-    let tried_there = ap (λ (s : Assignment). tries_behind o s (rows_routes 0 (rows_of a.rows.now.items))) slots in
-    omega (arith, c.visit_rows.ensures.stepped)
+returns-in_default-clause-stepped g c = steps_few g (goal.at.returns-in_default-clause-stepped g c).After-visit_rows
 
 pub more_than-added-requires : goal.more_than-added-requires
 more_than-added-requires g c =

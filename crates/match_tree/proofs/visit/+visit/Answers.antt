@@ -4,7 +4,7 @@ use Rattle.std.specs.Prelude.{nat_le, ◌⊎◌, IfSome, ◌==◌, not, IfOk, []
 use Rattle.std.specs.List.{filter, AllByRecursion}
 use Rattle.std.specs.declared.alloc.Global.{Global}
 use Rattle.guard_eval.specs.Meaning.{Assignment}
-use Rattle.match_tree.specs.Offers.{places, may_take, takers, growing, matches_of, matches_at, seen, new_matches}
+use Rattle.match_tree.specs.Offers.{Offered, places, may_take, takers, growing, matches_of, matches_at, seen, new_matches}
 use Rattle.match_tree.specs.Growth.{Grows, Lasts}
 use Rattle.match_tree.specs.Begins.{AreLess}
 use Rattle.match_tree.specs.Tries.{tries_behind}
@@ -31,7 +31,7 @@ use Rattle.match_tree.proofs.OrderLemmas.{rows_ordered_behind, rows_sound}
 use Rattle.match_tree.proofs.SlotsLemmas.{free_is_none}
 use Rattle.match_tree.proofs.TakeLemmas.{takers_further}
 use Rattle.match_tree.proofs.visit.+visit.Goals as goal
-use Rattle.match_tree.proofs.visit.+visit.Goals.{visit_nodes-then-is_worth+in_ok-found+else-is_some, visit_nodes-else-is_worth}
+use Rattle.match_tree.proofs.visit.+visit.Goals.{visit_nodes-then-is_worth+in_ok-found+else-is_some, visit_nodes-else-is_worth, visit_rows-After-visit_each, visit_rows-In_ok-best}
 use denote.Param.Weighed.{at_most}
 use Rattle.match_tree.specs.declared.node.Node.TheDeep.{size-Node}
 use denote.Param.Weighed.{most}
@@ -451,132 +451,122 @@ visit_rows-visit_each-requires g t c =
       ),
     )
 
+-- what the visit of each row leaves, as the vector of them has it
+record Visited (o : Offered) (slots : Assignment) (before after now : List (VecDeque Node Global)) (count_before count steps_before steps wanted : ℕ) : Type 0 where
+  pub is : now ≡ after
+  pub few : length now ≤ 8
+  pub sound : AreSound (rows_of now)
+  pub free_left : AreOpen slots (rows_routes 0 (rows_of now))
+  pub lasting : Lasts o.number (rows_routes 0 (rows_of before)) (rows_routes 0 (rows_of now))
+  pub counted : count + length (rows_routes 0 (rows_of before)) ≡ count_before + length (rows_routes 0 (rows_of now))
+  pub stepped : steps ≤ steps_before + (wanted + tries_behind o slots (rows_routes 0 (rows_of before)))
+
+visited : (g : _) (t : _) (c : visit_rows-After-visit_each g t) → Visited (offered c.args.offer.now) c.args.slots.now c.args.rows.now.items c.visit_each.new.rows (take c.args.rows.now.len (c.visit_each.new.rows ++ drop (length c.visit_each.new.rows) c.args.rows.now.items)) c.args.count.now c.visit_each.new.count c.args.steps.now c.visit_each.new.steps (length c.args.wanted.now)
+visited g t c =
+    let a = c.args in
+    let o = offered a.offer.now in
+    let same = c.deref_mut.ensures.value in
+    let after = c.visit_each.new.rows in
+    let is = take_at after (drop (length after) a.rows.now.items) a.rows.now.len (omega (arith, c.visit_each.auto.rows, c.deref_mut.ensures.len)) in
+    let mid : (P : List (VecDeque Node Global) → Type 0) → P after → P (take a.rows.now.len (after ++ drop (length after) a.rows.now.items)) = λ P p. subst P (sym is) p in
+    let old : (P : List (VecDeque Node Global) → Type 0) → P c.deref_mut.result.now → P a.rows.now.items = λ P p. subst P same p in
+    let e = c.visit_each.ensures in
+    let routes : List (VecDeque Node Global) → List Route = λ xs. rows_routes 0 (rows_of xs) in
+    let tries = ap (λ (xs : List (VecDeque Node Global)). tries_behind o a.slots.now (routes xs)) same in
+    record {
+      is = is;
+      few = mid (λ xs. length xs ≤ 8) (omega (arith, c.visit_each.auto.rows, c.deref_mut.ensures.len, c.requires.few, ap (λ (xs : List (VecDeque Node Global)). length xs) same));
+      sound = mid (λ xs. AreSound (rows_of xs)) e.sound;
+      free_left = mid (λ xs. AreOpen a.slots.now (routes xs)) e.free_left;
+      lasting = mid (λ xs. Lasts o.number (routes a.rows.now.items) (routes xs)) (old (λ xs. Lasts o.number (routes xs) (routes after)) e.lasting);
+      counted = mid (λ xs. c.visit_each.new.count + length (routes a.rows.now.items) ≡ a.count.now + length (routes xs)) (old (λ xs. c.visit_each.new.count + length (routes xs) ≡ a.count.now + length (routes after)) e.counted);
+      stepped = omega (arith, e.stepped, c.takers-able.ensures.counted);
+    }
+
+-- the least match of those before the path's own nodes
+visited_best : (g : _) (t : _) (c : visit_rows-In_ok-best g t) → c.in_ok-best.best ≡ least (new_matches (offered c.args.offer.now) c.args.slots.now ([] ∷ seen (offered c.args.offer.now) (rows_routes 0 (rows_of c.args.rows.now.items))))
+visited_best g t c =
+    let o = offered c.args.offer.now in
+    subst (λ (xs : List (VecDeque Node Global)). c.in_ok-best.best ≡ least (new_matches o c.args.slots.now ([] ∷ seen o (rows_routes 0 (rows_of xs))))) c.deref_mut.ensures.value c.in_ok-best.ensures.best
+
 pub visit_rows-returns-in_err-best : goal.visit_rows-returns-in_err-best
 visit_rows-returns-in_err-best g t c =
     let a = c.args in
     let o = offered a.offer.now in
-    let same = c.deref_mut.ensures.value in
-    let after = c.visit_each.new.rows in
-    let is = take_at after (drop (length after) a.rows.now.items) a.rows.now.len (omega (arith, c.visit_each.auto.rows, c.deref_mut.ensures.len)) in
-    let mid : (P : List (VecDeque Node Global) → Type 0) → P after → P (take a.rows.now.len (after ++ drop (length after) a.rows.now.items)) = λ P p. subst P (sym is) p in
-    let old : (P : List (VecDeque Node Global) → Type 0) → P c.deref_mut.result.now → P a.rows.now.items = λ P p. subst P same p in
-    let e = c.visit_each.ensures in
     let routes : List (VecDeque Node Global) → List Route = λ xs. rows_routes 0 (rows_of xs) in
-    let lasting = mid (λ xs. Lasts o.number (routes a.rows.now.items) (routes xs)) (old (λ xs. Lasts o.number (routes xs) (routes after)) e.lasting) in
-    let counted = mid (λ xs. c.visit_each.new.count + length (routes a.rows.now.items) ≡ a.count.now + length (routes xs)) (old (λ xs. c.visit_each.new.count + length (routes xs) ≡ a.count.now + length (routes after)) e.counted) in
-    let few = mid (λ xs. length xs ≤ 8) (omega (arith, c.visit_each.auto.rows, c.deref_mut.ensures.len, c.requires.few, ap (λ (xs : List (VecDeque Node Global)). length xs) same)) in
-    let tries = ap (λ (xs : List (VecDeque Node Global)). tries_behind o a.slots.now (routes xs)) same in
+    let after = c.visit_each.new.rows in
+    let v = visited g t (goal.at.visit_rows-returns-in_err-best g t c).After-visit_each in
     record {
-      few = few;
-      sound = mid (λ xs. AreSound (rows_of xs)) e.sound;
-      free_left = mid (λ xs. AreOpen a.slots.now (routes xs)) e.free_left;
-      lasting = lasting;
+      few = v.few;
+      sound = v.sound;
+      free_left = v.free_left;
+      lasting = v.lasting;
       best = no_value (λ b. b ≡ least (new_matches o a.slots.now ([] ∷ seen o (routes a.rows.now.items)))) _ c.from_residual.result c.from_residual.ensures.1;
       grows = no_value (λ b. b ≡ None → Grows o a.slots.now (growing o a.slots.now) (routes a.rows.now.items) (routes (take a.rows.now.len (after ++ drop (length after) a.rows.now.items)))) _ c.from_residual.result c.from_residual.ensures.1;
-      counted = counted;
-      stepped = omega (arith, e.stepped, c.takers-able.ensures.counted);
+      counted = v.counted;
+      stepped = v.stepped;
     }
 
 pub visit_rows-returns-then-is_some : goal.visit_rows-returns-then-is_some
 visit_rows-returns-then-is_some g t c =
-    let a = c.args in
-    let o = offered a.offer.now in
-    let same = c.deref_mut.ensures.value in
-    let after = c.visit_each.new.rows in
-    let is = take_at after (drop (length after) a.rows.now.items) a.rows.now.len (omega (arith, c.visit_each.auto.rows, c.deref_mut.ensures.len)) in
-    let mid : (P : List (VecDeque Node Global) → Type 0) → P after → P (take a.rows.now.len (after ++ drop (length after) a.rows.now.items)) = λ P p. subst P (sym is) p in
-    let old : (P : List (VecDeque Node Global) → Type 0) → P c.deref_mut.result.now → P a.rows.now.items = λ P p. subst P same p in
-    let e = c.visit_each.ensures in
-    let routes : List (VecDeque Node Global) → List Route = λ xs. rows_routes 0 (rows_of xs) in
-    let lasting = mid (λ xs. Lasts o.number (routes a.rows.now.items) (routes xs)) (old (λ xs. Lasts o.number (routes xs) (routes after)) e.lasting) in
-    let counted = mid (λ xs. c.visit_each.new.count + length (routes a.rows.now.items) ≡ a.count.now + length (routes xs)) (old (λ xs. c.visit_each.new.count + length (routes xs) ≡ a.count.now + length (routes after)) e.counted) in
-    let few = mid (λ xs. length xs ≤ 8) (omega (arith, c.visit_each.auto.rows, c.deref_mut.ensures.len, c.requires.few, ap (λ (xs : List (VecDeque Node Global)). length xs) same)) in
-    let tries = ap (λ (xs : List (VecDeque Node Global)). tries_behind o a.slots.now (routes xs)) same in
-    let best = old (λ xs. c.in_ok-best.best ≡ least (new_matches o a.slots.now ([] ∷ seen o (routes xs)))) c.in_ok-best.ensures.best in
+    let v = visited g t (goal.at.visit_rows-returns-then-is_some g t c).After-visit_each in
     let some = some_of c.in_ok-best.best (sym c.is_some.ensures ∙ c.if-is_some.true) in
     record {
-      few = few;
-      sound = mid (λ xs. AreSound (rows_of xs)) e.sound;
-      free_left = mid (λ xs. AreOpen a.slots.now (routes xs)) e.free_left;
-      lasting = lasting;
-      best = best;
+      few = v.few;
+      sound = v.sound;
+      free_left = v.free_left;
+      lasting = v.lasting;
+      best = visited_best g t (goal.at.visit_rows-returns-then-is_some g t c).In_ok-best;
       grows = λ none. absurd (let k = sym some.1 ∙ none in cc);
-      counted = counted;
-      stepped = omega (arith, e.stepped, c.takers-able.ensures.counted);
+      counted = v.counted;
+      stepped = v.stepped;
     }
 
 pub visit_rows-begin-requires : goal.visit_rows-begin-requires
 visit_rows-begin-requires g t c =
-    let a = c.args in
-    let o = offered a.offer.now in
-    let same = c.deref_mut.ensures.value in
-    let after = c.visit_each.new.rows in
-    let is = take_at after (drop (length after) a.rows.now.items) a.rows.now.len (omega (arith, c.visit_each.auto.rows, c.deref_mut.ensures.len)) in
-    let mid : (P : List (VecDeque Node Global) → Type 0) → P after → P (take a.rows.now.len (after ++ drop (length after) a.rows.now.items)) = λ P p. subst P (sym is) p in
-    let e = c.visit_each.ensures in
-    let routes : List (VecDeque Node Global) → List Route = λ xs. rows_routes 0 (rows_of xs) in
-    let few = mid (λ xs. length xs ≤ 8) (omega (arith, c.visit_each.auto.rows, c.deref_mut.ensures.len, c.requires.few, ap (λ (xs : List (VecDeque Node Global)). length xs) same)) in
+    let v = visited g t (goal.at.visit_rows-begin-requires g t c).After-visit_each in
     record {
       can = c.requires.can;
       able = c.takers-able.ensures.answer ∙ c.requires.wanted;
-      few = few;
-      sound = mid (λ xs. AreSound (rows_of xs)) e.sound;
-      less = mid (λ xs. AreLess o.number (rows_of xs)) c.in_ok-best.ensures.less;
-      free_left = mid (λ xs. AreOpen a.slots.now (routes xs)) e.free_left;
+      few = v.few;
+      sound = v.sound;
+      less = subst (λ (xs : List (VecDeque Node Global)). AreLess c.args.offer.now.number (rows_of xs)) (sym v.is) c.in_ok-best.ensures.less;
+      free_left = v.free_left;
     }
 
 pub visit_rows-returns-then-not-begin : goal.visit_rows-returns-then-not-begin
 visit_rows-returns-then-not-begin g t c =
-    let a = c.args in
-    let o = offered a.offer.now in
-    let same = c.deref_mut.ensures.value in
-    let after = c.visit_each.new.rows in
-    let is = take_at after (drop (length after) a.rows.now.items) a.rows.now.len (omega (arith, c.visit_each.auto.rows, c.deref_mut.ensures.len)) in
-    let mid : (P : List (VecDeque Node Global) → Type 0) → P after → P (take a.rows.now.len (after ++ drop (length after) a.rows.now.items)) = λ P p. subst P (sym is) p in
-    let old : (P : List (VecDeque Node Global) → Type 0) → P c.deref_mut.result.now → P a.rows.now.items = λ P p. subst P same p in
-    let e = c.visit_each.ensures in
-    let routes : List (VecDeque Node Global) → List Route = λ xs. rows_routes 0 (rows_of xs) in
-    let lasting = mid (λ xs. Lasts o.number (routes a.rows.now.items) (routes xs)) (old (λ xs. Lasts o.number (routes xs) (routes after)) e.lasting) in
-    let counted = mid (λ xs. c.visit_each.new.count + length (routes a.rows.now.items) ≡ a.count.now + length (routes xs)) (old (λ xs. c.visit_each.new.count + length (routes xs) ≡ a.count.now + length (routes after)) e.counted) in
-    let tries = ap (λ (xs : List (VecDeque Node Global)). tries_behind o a.slots.now (routes xs)) same in
+    let v = visited g t (goal.at.visit_rows-returns-then-not-begin g t c).After-visit_each in
     let b = c.begin.ensures in
     record {
       few = b.few;
       sound = b.sound;
       free_left = b.free_left;
-      lasting = b.lasting ∙ lasting;
+      lasting = b.lasting ∙ v.lasting;
       best = tt;
       grows = tt;
-      counted = omega (arith, counted, b.counted);
-      stepped = omega (arith, e.stepped, c.takers-able.ensures.counted);
+      counted = omega (arith, v.counted, b.counted);
+      stepped = v.stepped;
     }
 
 pub visit_rows-returns : goal.visit_rows-returns
 visit_rows-returns g t c =
     let a = c.args in
     let o = offered a.offer.now in
-    let same = c.deref_mut.ensures.value in
-    let after = c.visit_each.new.rows in
-    let is = take_at after (drop (length after) a.rows.now.items) a.rows.now.len (omega (arith, c.visit_each.auto.rows, c.deref_mut.ensures.len)) in
-    let mid : (P : List (VecDeque Node Global) → Type 0) → P after → P (take a.rows.now.len (after ++ drop (length after) a.rows.now.items)) = λ P p. subst P (sym is) p in
-    let old : (P : List (VecDeque Node Global) → Type 0) → P c.deref_mut.result.now → P a.rows.now.items = λ P p. subst P same p in
-    let e = c.visit_each.ensures in
     let routes : List (VecDeque Node Global) → List Route = λ xs. rows_routes 0 (rows_of xs) in
-    let lasting = mid (λ xs. Lasts o.number (routes a.rows.now.items) (routes xs)) (old (λ xs. Lasts o.number (routes xs) (routes after)) e.lasting) in
-    let counted = mid (λ xs. c.visit_each.new.count + length (routes a.rows.now.items) ≡ a.count.now + length (routes xs)) (old (λ xs. c.visit_each.new.count + length (routes xs) ≡ a.count.now + length (routes after)) e.counted) in
-    let tries = ap (λ (xs : List (VecDeque Node Global)). tries_behind o a.slots.now (routes xs)) same in
-    let best = old (λ xs. c.in_ok-best.best ≡ least (new_matches o a.slots.now ([] ∷ seen o (routes xs)))) c.in_ok-best.ensures.best in
+    let after = c.visit_each.new.rows in
+    let v = visited g t (goal.at.visit_rows-returns g t c).After-visit_each in
     let b = c.begin.ensures in
     let none = none_of c.in_ok-best.best (sym c.is_some.ensures ∙ c.if-is_some.false) in
     let Grown : List (VecDeque Node Global) → List (VecDeque Node Global) → Type 0 = λ xs ys. Grows o a.slots.now [] (routes xs) (routes ys) in
-    let grown = mid (Grown a.rows.now.items) (old (λ xs. Grown xs after) (c.in_ok-best.ensures.grows none)) in
+    let grown = subst (Grown a.rows.now.items) (sym v.is) (subst (λ (xs : List (VecDeque Node Global)). Grown xs after) c.deref_mut.ensures.value (c.in_ok-best.ensures.grows none)) in
     record {
       few = b.few;
       sound = b.sound;
       free_left = b.free_left;
-      lasting = b.lasting ∙ lasting;
-      best = sym none ∙ best;
+      lasting = b.lasting ∙ v.lasting;
+      best = sym none ∙ visited_best g t (goal.at.visit_rows-returns g t c).In_ok-best;
       grows = λ _. grows_begun o a.slots.now (growing o a.slots.now) (routes a.rows.now.items) (routes (take a.rows.now.len (after ++ drop (length after) a.rows.now.items))) (routes c.begin.new.rows.items) grown (b.begins c.if-not-begin.false);
-      counted = omega (arith, counted, b.counted);
-      stepped = omega (arith, e.stepped, c.takers-able.ensures.counted);
+      counted = omega (arith, v.counted, b.counted);
+      stepped = v.stepped;
     }

@@ -9,7 +9,7 @@ use Rattle.match_tree.specs.declared.node.Node.{Node}
 use Rattle.match_tree.specs.declared.pending.Pending.{Pending}
 use Rattle.match_tree.specs.Routes.{Route, rows_routes, is_seen}
 use Rattle.match_tree.specs.Rows.{rows_of}
-use Rattle.match_tree.specs.Pruned.{AreShort, seen_nodes}
+use Rattle.match_tree.specs.Pruned.{seen_nodes}
 use Rattle.match_tree.specs.Tree.{Tree, empty_of}
 use Rattle.match_tree.specs.Kept.{IsKept}
 use Rattle.match_tree.proofs.KeptLemmas.{kept_short}
@@ -23,11 +23,7 @@ drop_unseen-gone-requires-clause-few c =
     omega (arith, c.self.invariant.counted, c.self.ranges)
 
 pub drop_unseen-gone-requires-clause-short : goal.drop_unseen-gone-requires-clause-short
-drop_unseen-gone-requires-clause-short c =
-    let s = c.self.inside in
-    let short = kept_short s.definition (rows_of s.rows.items) s.count s.pending c.self.invariant in
-    subst (λ (n : ℕ). AreShort (n - 1) (rows_routes 0 (rows_of c.deref_mut.result.now))) (sym c.len-levels.ensures.count)
-    (subst (λ (xs : List (VecDeque Node Global)). AreShort (length s.definition.patterns - 1) (rows_routes 0 (rows_of xs))) (sym c.deref_mut.ensures.value) short)
+drop_unseen-gone-requires-clause-short c = kept_short c.deref_mut.ensures.value c.len-levels.ensures.count c.self.invariant
 
 pub overflow_sub-self : goal.overflow_sub-self
 overflow_sub-self c =

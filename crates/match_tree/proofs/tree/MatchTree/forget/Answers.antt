@@ -8,7 +8,6 @@ use Rattle.match_tree.specs.declared.node.Node.{Node}
 use Rattle.match_tree.specs.declared.pending.Pending.{Pending}
 use Rattle.match_tree.specs.Routes.{Route, rows_routes, lacks}
 use Rattle.match_tree.specs.Rows.{rows_of}
-use Rattle.match_tree.specs.Pruned.{AreShort}
 use Rattle.match_tree.specs.Kept.{IsKept, tree_of}
 use Rattle.match_tree.proofs.KeptLemmas.{kept_short, kept_aside, kept_fewer, forgotten, none_added}
 use Rattle.match_tree.proofs.tree.MatchTree.forget.Goals as goal
@@ -20,11 +19,7 @@ prune_rows-requires-clause-few c =
     omega (arith, c.self.invariant.counted, c.self.ranges)
 
 pub prune_rows-requires-clause-short : goal.prune_rows-requires-clause-short
-prune_rows-requires-clause-short c =
-    let s = c.self.inside in
-    let short = kept_short s.definition (rows_of s.rows.items) s.count s.pending c.self.invariant in
-    subst (λ (n : ℕ). AreShort (n - 1) (rows_routes 0 (rows_of c.deref_mut.result.now))) (sym c.len-levels.ensures.count)
-    (subst (λ (xs : List (VecDeque Node Global)). AreShort (length s.definition.patterns - 1) (rows_routes 0 (rows_of xs))) (sym c.deref_mut.ensures.value) short)
+prune_rows-requires-clause-short c = kept_short c.deref_mut.ensures.value c.len-levels.ensures.count c.self.invariant
 
 pub overflow_sub-self : goal.overflow_sub-self
 overflow_sub-self c =

@@ -1,5 +1,5 @@
 use Rattle.std.specs.declared.collections.VecDeque.{VecDeque}
-use Rattle.std.proofs.Common.{◌≡◌, ◌-◌, List, None, refl, arith}
+use Rattle.std.proofs.Common.{◌≡◌, ◌+◌, ◌-◌, ◌≤◌, List, None, refl, arith}
 use Rattle.std.specs.declared.alloc.Global.{Global}
 use Rattle.std.proofs.lemmas.List.{length-map}
 use Rattle.match_tree.specs.declared.node.Node.{Node}
@@ -8,8 +8,20 @@ use Rattle.match_tree.specs.Rows.{rows_of}
 use Rattle.match_tree.specs.Offers.{Offered}
 use Rattle.match_tree.specs.Kept.{tree_of}
 use Rattle.match_tree.specs.Tree.{offer_to}
+use Rattle.match_tree.specs.Tries.{tries}
 use Rattle.match_tree.proofs.ReserveLemmas.{reserve_lead, reserve_tries, reserve_counts, reserve_seen, reserve_kept, reserve_found}
+use Rattle.match_tree.proofs.tree.MatchTree.reserve_for.Goals.{After-visit_all}
 use Rattle.match_tree.proofs.tree.MatchTree.reserve_for.Goals as goal
+
+-- the steps of the visit, whatever its answer
+steps_few : (g : _) (c : After-visit_all g) → c.visit_all.new.steps ≤ c.args.steps.now + tries (offer_to c.args.self.now c.args.letters.now c.args.number) c.args.self.now.paths
+steps_few g c =
+    let s = c.self.inside in
+    let before : List Route = rows_routes 0 (rows_of s.rows.items) in
+    let o : Offered = record { letters = c.args.letters.now; definition = s.definition; rule = s.rule; number = c.args.number; oldest = c.oldest_seen.result } in
+    let same : o ≡ offer_to (tree_of s.definition s.rule None before) c.args.letters.now c.args.number = λ i. record { letters = c.args.letters.now; definition = s.definition; rule = s.rule; number = c.args.number; oldest = c.oldest_seen.ensures i } in
+    let all = reserve_tries s.definition s.rule s.pending before c.args.self.now c.args.letters.now c.args.number o c.self.view_is c.requires.settled same in
+    omega (arith, c.visit_all.ensures.stepped)
 
 pub visit_all-requires-clause-lead : goal.visit_all-requires-clause-lead
 visit_all-requires-clause-lead g c =
@@ -20,13 +32,7 @@ visit_all-requires-clause-lead g c =
     (reserve_lead s.definition s.rule s.pending before c.args.self.now c.args.letters.now c.args.number o c.self.view_is c.requires.settled same c.self.invariant.free_left c.requires.can).1
 
 pub returns-in_err-best-clause-stepped : goal.returns-in_err-best-clause-stepped
-returns-in_err-best-clause-stepped g c =
-    let s = c.self.inside in
-    let before : List Route = rows_routes 0 (rows_of s.rows.items) in
-    let o : Offered = record { letters = c.args.letters.now; definition = s.definition; rule = s.rule; number = c.args.number; oldest = c.oldest_seen.result } in
-    let same : o ≡ offer_to (tree_of s.definition s.rule None before) c.args.letters.now c.args.number = λ i. record { letters = c.args.letters.now; definition = s.definition; rule = s.rule; number = c.args.number; oldest = c.oldest_seen.ensures i } in
-    let all = reserve_tries s.definition s.rule s.pending before c.args.self.now c.args.letters.now c.args.number o c.self.view_is c.requires.settled same in
-    omega (arith, c.visit_all.ensures.stepped)
+returns-in_err-best-clause-stepped g c = steps_few g (goal.at.returns-in_err-best-clause-stepped g c).After-visit_all
 
 pub overflow_sub-aside : goal.overflow_sub-aside
 overflow_sub-aside g c =
@@ -51,10 +57,4 @@ returns-clause-reserved g c =
     reserve_found s.definition s.rule s.pending before now c.args.self.now c.args.letters.now c.args.number (c.visit_all.new.count - s.count) c.in_ok-best.best o c.self.view_is c.requires.settled same refl c.self.invariant.free_left c.visit_all.ensures.lasting c.in_ok-best.ensures.best c.in_ok-best.ensures.grows
 
 pub returns-clause-stepped : goal.returns-clause-stepped
-returns-clause-stepped g c =
-    let s = c.self.inside in
-    let before : List Route = rows_routes 0 (rows_of s.rows.items) in
-    let o : Offered = record { letters = c.args.letters.now; definition = s.definition; rule = s.rule; number = c.args.number; oldest = c.oldest_seen.result } in
-    let same : o ≡ offer_to (tree_of s.definition s.rule None before) c.args.letters.now c.args.number = λ i. record { letters = c.args.letters.now; definition = s.definition; rule = s.rule; number = c.args.number; oldest = c.oldest_seen.ensures i } in
-    let all = reserve_tries s.definition s.rule s.pending before c.args.self.now c.args.letters.now c.args.number o c.self.view_is c.requires.settled same in
-    omega (arith, c.visit_all.ensures.stepped)
+returns-clause-stepped g c = steps_few g (goal.at.returns-clause-stepped g c).After-visit_all
