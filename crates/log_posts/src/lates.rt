@@ -14,10 +14,7 @@ use std::alloc::Global;
 pub fn is_from(source: Source, from: u32) -> bool
     ensures { result ≡ same_source source (Actor from) }
 {
-    match source {
-        Source::Feed(_) => false,
-        Source::Actor(actor) => actor == from,
-    }
+    source == Source::Actor(from)
 }
 
 // The late count of a source among those that were read, or 0.

@@ -10,8 +10,6 @@ use Rattle.join_base.specs.declared.message.Source.TheVariants.{Feed, Actor}
 use Rattle.pattern_core.specs.Choice.{choice}
 use Rattle.script_types.specs.declared.plan.Plan.{Plan}
 use Rattle.fair_semantics.specs.declared.run.ActorRun.{ActorRun}
-use Rattle.fair_semantics.specs.declared.run.Effect.{Effect}
-use Rattle.fair_semantics.specs.declared.run.Effect.TheVariants.{Print, Post, Reply}
 use Rattle.fair_semantics.specs.declared.run.Entry.{Entry}
 use Rattle.fair_semantics.specs.declared.run.Firing.{Firing}
 use Rattle.fair_semantics.specs.declared.run.Limits.{Limits}
@@ -35,12 +33,11 @@ use Rattle.log_replay.specs.Handed.{AreCounted, IsHanded, IsMade, IsRemade, fire
 use Rattle.log_reader.specs.Log.{IsLogOf}
 use Rattle.log_replay.specs.Law.{AllRulesFit}
 use Rattle.log_replay.specs.Replays.{IsReplayed}
-use Rattle.log_posts.specs.Same.{same_effect, same_effects, same_entries, same_entry, same_fired, same_numbers}
+use Rattle.log_posts.specs.Same.{same_entries, same_entry}
 use Rattle.log_posts.specs.Stamps.{with_stamps}
 use Rattle.log_replay.specs.Shared.{kept, kept_runs, without_entries}
-use Rattle.log_posts.proofs.SameLemmas.{fired_is, message_itself, value_itself, itself}
+use Rattle.log_posts.proofs.SameLemmas.{fired_is, fired_itself, message_itself, itself}
 use Rattle.log_replay.proofs.ReplayLemmas.{source_counted, texts_all}
-use Rattle.std.proofs.lemmas.Slice.Eq.{bytes_eq-Decides}
 use Rattle.std.proofs.lemmas.List.{length-replicate}
 
 -- ---- what a step records
@@ -143,23 +140,6 @@ walks_end plan limits feeds index actor stamps rest whole made h none own by_sta
     }
 
 -- ---- entries are the same as with other stamps
-
-effect_itself : (e : Effect) → same_effect e e ≡ true
-effect_itself (Print text) = (bytes_eq-Decides text text).1 refl
-effect_itself (Post target message) = λ i. itself target i && message_itself message i
-effect_itself (Reply number value) = λ i. itself number i && value_itself value i
-
-effects_themselves : (es : List Effect) → same_effects es es ≡ true
-effects_themselves [] = refl
-effects_themselves (e ∷ es) = λ i. effect_itself e i && effects_themselves es i
-
-numbers_themselves : (ns : List ℕ) → same_numbers ns ns ≡ true
-numbers_themselves [] = refl
-numbers_themselves (n ∷ ns) = λ i. itself n i && numbers_themselves ns i
-
-fired_itself : (firing : Option Firing) → same_fired firing firing ≡ true
-fired_itself None = refl
-fired_itself (Some f) = λ i. (itself f.rule i && numbers_themselves f.taken i) && effects_themselves f.effects i
 
 source_itself : (source : Source) → same_source source source ≡ true
 source_itself (Feed k) = itself k
