@@ -5,9 +5,10 @@ ghost use Rattle.join_base.specs.declared.message.Source.TheVariants.{Actor, Fee
 ghost use Rattle.fair_semantics.specs.Linked.{count_of, same_source, taken_from};
 ghost use Rattle.log_posts.specs.Lates.{actor_counts, count_where, feed_counts, lates_made};
 
+use crate::posts::Posted;
 use crate::same::same_source;
 use fair_semantics::Entry;
-use join_base::{Items, NoMemory, Source, Stamped};
+use join_base::{Items, NoMemory, Source};
 use std::alloc::Global;
 
 /// Whether the source is this actor.
@@ -80,7 +81,7 @@ fn push_actors(
     late: &mut Items<(Source, u64)>,
     may: bool,
     entries: &[Entry],
-    links: &[Items<Stamped>],
+    links: &[Items<Posted>],
 ) -> Result<(), NoMemory>
     requires few { length links.now ≤ 32 }
     ensures { OnOk result (late.new ≡ late.old ++ late_list (λ a. Actor a) 0 (actor_counts may entries.now 0 links.now)) }
@@ -106,7 +107,7 @@ pub fn lates_made(
     read: &[(Source, u64)],
     feeds: u32,
     entries: &[Entry],
-    links: &[Items<Stamped>],
+    links: &[Items<Posted>],
 ) -> Result<Items<(Source, u64)>, NoMemory>
     requires few { feeds ≤ 16 }
     requires actors { length links.now ≤ 32 }

@@ -4,6 +4,7 @@ ghost use Rattle.std.specs.List.{AllByRecursion};
 ghost use Rattle.fair_semantics.specs.Linked.{stamp_at};
 ghost use Rattle.log_posts.specs.Stamps.{IsCounted, carried_by, next_stamp, stamps_in, stamps_made, taken_after, with_stamps};
 
+use crate::posts::Posted;
 use fair_semantics::Entry;
 use join_base::{Items, NoMemory, Source, Stamped};
 use std::alloc::Global;
@@ -20,7 +21,7 @@ fn next_stamp(before: u64, carried: u64) -> u64
 }
 
 // The stamp of the next post of a source, where so many were taken of each.
-fn carried_by(links: &[Items<Stamped>], taken: &[usize], source: Source) -> u64
+fn carried_by(links: &[Items<Posted>], taken: &[usize], source: Source) -> u64
     requires exists { IsCounted (length taken.now) source }
     ensures { result ≡ carried_by links.now taken.now source }
 {
@@ -34,11 +35,11 @@ fn carried_by(links: &[Items<Stamped>], taken: &[usize], source: Source) -> u64
 }
 
 // The stamp of the post at a place, or 0.
-fn stamp_at(posts: &[Stamped], place: usize) -> u64
+fn stamp_at(posts: &[Posted], place: usize) -> u64
     ensures { result ≡ stamp_at (slice_get posts.now place) }
 {
     match posts.get(place) {
-        Some(post) => post.stamp,
+        Some(post) => post.stamp(),
         None => 0,
     }
 }
@@ -58,7 +59,7 @@ fn count_taken(taken: &mut Vec<usize>, source: Source)
 // The stamps of the arrivals, where nothing was taken before them.
 fn stamps_made(
     alloc: Global,
-    links: &[Items<Stamped>],
+    links: &[Items<Posted>],
     entries: &[Entry],
 ) -> Result<Items<u64>, NoMemory>
     requires exist { AllByRecursion (λ entry. IsCounted (length links.now) entry.source) entries.now }
@@ -80,7 +81,7 @@ fn stamps_made(
 pub fn stamps_in(
     alloc: Global,
     version: u32,
-    links: &[Items<Stamped>],
+    links: &[Items<Posted>],
     entries: &[Entry],
 ) -> Result<Items<u64>, NoMemory>
     requires exist { AllByRecursion (λ entry. IsCounted (length links.now) entry.source) entries.now }

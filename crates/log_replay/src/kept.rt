@@ -7,8 +7,8 @@ ghost use Rattle.log_replay.specs.Shared.{runs_at, shown_run};
 
 use crate::shared::{Shared, posts_shown};
 use fair_semantics::{ActorRun, Ending, Entry, Run};
-use join_base::{NoMemory, Stamped};
-use log_posts::{has_message, is_from};
+use join_base::NoMemory;
+use log_posts::{Posted, has_message, is_from};
 use std::alloc::Global;
 
 // How many lines an entry takes.
@@ -37,7 +37,7 @@ fn section_size(own: &ActorRun) -> u64
 // The first line that does not hold of the posts from an actor: of the entries, the first at this line, or the end line behind them
 // and the late ones, where the section is to run on.
 fn link_fault(
-    posts: &[Stamped],
+    posts: &[Posted],
     from: u32,
     runs_on: bool,
     late: u64,

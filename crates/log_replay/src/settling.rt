@@ -9,18 +9,18 @@ ghost use Rattle.log_replay.specs.Shared.{finished_all, finished_shared, settlem
 use crate::kept::is_running;
 use crate::shared::{Shared, plain, posts_shown};
 use fair_semantics::{ActorRun, Ending, Limits, Run};
-use join_base::{Items, NoMemory, Source, Stamped};
-use log_posts::{lates_made, stamps_in, with_stamps};
+use join_base::{Items, NoMemory, Source};
+use log_posts::{Posted, lates_made, stamps_in, with_stamps};
 use script_types::Plan;
 use std::alloc::Global;
 
 // The posts to an actor from each actor of the run, by the entries that they made.
-fn links_to(
+fn links_to<'a>(
     alloc: Global,
-    made: &[Shared],
-    run: &Run,
+    made: &'a [Shared],
+    run: &'a Run,
     to: u32,
-) -> Result<Items<Items<Stamped>>, NoMemory>
+) -> Result<Items<Items<Posted<'a>>>, NoMemory>
     requires few { length run.now.actors ≤ 32 }
     ensures { IfOk result (λ links. links ≡ links_to (shown_all run.now.actors made.now) run.now to 0 (length run.now.actors)) }
 {
