@@ -16,7 +16,7 @@ use crate::ends::{Receiver, Sender};
 use actor_cells::Cell;
 use actor_turn::Actor;
 use cell_links::Poster;
-use join_base::{NoMemory, Source, Steps};
+use join_base::{NoMemory, Source, Stamped, Steps};
 use post_ring::{LinkIn, LinkOut, meet};
 use std::alloc::Global;
 use std::sync::ledger::Ledger;
@@ -37,8 +37,10 @@ fn drain<L: Ledger>(
     ensures arrived { OnOk result (Arrives source (received second.old) (received second.new) actor.old actor.new) }
 {
     meet(first, second);
-    while let Some(stamped) = second.take() {
-        actor.arrive(alloc, source, &stamped.message, stamped.stamp, steps)?;
+    'messages: while let Some(Stamped { message, stamp }) = second.take() {
+        let Ok(_) = actor.receive(alloc, source, message, stamp, steps) else {
+            return Err(NoMemory);
+        };
     }
     Ok(())
 }
