@@ -40,6 +40,10 @@ pub const PRINTED: &[(&str, &[&str])] = &[
         &["run", "hand_over.join", "hand_over.feed"],
     ),
     (
+        "older_first.log",
+        &["run", "older_first.join", "older_first.feed"],
+    ),
+    (
         "rate_alarm.log",
         &["run", "rate_alarm.join", "rate_alarm.feed"],
     ),
@@ -67,6 +71,7 @@ pub const ACCEPTED: &[(&str, &str)] = &[
     ("disagreement.join", "disagreement.log"),
     ("door_alarm.join", "door_alarm.log"),
     ("hand_over.join", "hand_over.log"),
+    ("older_first.join", "older_first.log"),
     ("rate_alarm.join", "rate_alarm.log"),
     ("ticket_desk.join", "ticket_desk.log"),
     ("two_persons.join", "two_persons.log"),
