@@ -8,6 +8,8 @@
 //! one that the last system shows, and is linked to the feeds that `new` was given.
 //!
 //! No waiting list is copied or moved: a feed's posts stay where they are, and each actor has a place among them.
+//!
+//! Only tested: that `new`, `step` and `run_to_end` don't answer `NoMemory` with ample memory.
 #![tactic(auto)]
 
 mod feed;
@@ -17,3 +19,6 @@ mod source;
 mod system;
 
 pub use system::System;
+
+#[cfg(test)]
+mod tests;
