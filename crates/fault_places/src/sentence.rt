@@ -19,11 +19,11 @@ pub fn script_sentence(cause: &[u8]) -> (&'static [u8], bool) {
         b"BadToken" => (b"no word, number, text or sign begins here", false),
         b"BadSyntax" => (b"a script doesn't go on like this", false),
         b"TooMany" => (b"here is one more than there may be", false),
-        b"TwiceDeclared" => (b"declared before is the name", true),
+        b"TwiceDeclared" => (b"there is an earlier declaration of the name", true),
         b"UnknownMessage" => (b"no message has the name", true),
         b"UnknownActor" => (b"no actor has the name", true),
         b"UnknownName" => (b"no variable of this definition has the name", true),
-        b"WrongCount" => (b"another number of fields has the message", true),
+        b"WrongCount" => (b"there is another number of fields in the message", true),
         b"WrongType" => (
             b"an int stands where a text is wanted, or a text where an int is",
             false,

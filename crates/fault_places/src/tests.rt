@@ -101,6 +101,33 @@ fn faults_of_a_script_are_told(rt: HostRuntime) -> Result<(), Fail> {
     Ok(())
 }
 
+// The messages that the guide prints, in its first step and its seventh.
+#[test]
+fn the_guide_shows_what_is_told(rt: HostRuntime) -> Result<(), Fail> {
+    let alloc = rt.alloc();
+    let seventh =
+        b"message motion(room: text, time: int)\nmessage light(room: text, lux: int, time: int)\n\nactor home {\n  when motion(where, seen) & light(room, lux, read) if where == rom {\n    print \"motion in \" room \", light \" lux;\n  }\n}\n";
+    let cases: [(&[u8], u64, &[u8], &[u8]); 2] = [
+        (
+            b"",
+            0,
+            b"BadSyntax",
+            b"home.join:1:1: BadSyntax: the script ends too early\n    \n    ^\n",
+        ),
+        (
+            seventh.as_slice(),
+            163,
+            b"UnknownName",
+            b"home.join:5:65: UnknownName: no variable of this definition has the name rom\n      when motion(where, seen) & light(room, lux, read) if where == rom {\n                                                                    ^\n",
+        ),
+    ];
+    for (script, place, cause, want) in cases {
+        let note = script_note(alloc, "home.join", script, place, cause)?;
+        assert_eq!(rt; note.bytes(), want, "at {place}");
+    }
+    Ok(())
+}
+
 // Rows with quotes, empty lines, and ends of each sort, behind a byte order mark.
 #[test]
 fn rows_in_fault_are_told(rt: HostRuntime) -> Result<(), Fail> {

@@ -44,7 +44,7 @@ fn append(bytes: &mut Vec<u8>, piece: &[u8]) -> Result<(), NoMemory>
     Ok(())
 }
 
-/// Reads to the end, or some bytes past `max`.
+/// Reads to the end. `TooLong` comes where there are more than `max` bytes, of which a few past them were read.
 pub fn read_up_to<F: Read + Drop>(alloc: Global, mut file: F, max: u64) -> Result<Bytes, FetchFault>
     ensures within { IfOk result (λ bytes. length bytes ≤ max) }
 {
