@@ -1,7 +1,8 @@
 //! The examples: the file that holds what is printed, and the words that print it.
 
 /// What the words print, to the byte. Beside what it posts to itself, each actor of these scripts gets its messages from one source
-/// alone, or from the second only after all of the first, so there is one log.
+/// alone, or from the second only after all of the first, so there is one log. The desk of `load` gets them from four, and the
+/// summary counts them alone. A plan is a script, and its own plan.
 pub const PRINTED: &[(&str, &[&str])] = &[
     ("guide/01.refused", &["check", "guide/01.join"]),
     ("guide/02.plan", &["check", "guide/02.join"]),
@@ -56,6 +57,30 @@ pub const PRINTED: &[(&str, &[&str])] = &[
         &["run", "two_persons.join", "two_persons.feed"],
     ),
     ("workers.log", &["run", "workers.join", "workers.feed"]),
+    ("findings.lint", &["lint", "findings.join"]),
+    ("load.summary", &["load", "3"]),
+    (
+        "language/light.log",
+        &["run", "language/light.join", "language/light.feed"],
+    ),
+    (
+        "language/time_out.log",
+        &["run", "language/time_out.join", "language/time_out.feed"],
+    ),
+    ("language/layout.plan", &["check", "language/layout.join"]),
+    ("language/layout.plan", &["check", "language/layout.plan"]),
+    (
+        "language/shadowed.lint",
+        &["lint", "language/shadowed.join"],
+    ),
+    (
+        "language/quotes.log",
+        &["run", "language/quotes.join", "language/quotes.feed"],
+    ),
+    (
+        "language/seven.log",
+        &["run", "language/seven.join", "language/seven.feed"],
+    ),
 ];
 
 /// Each log of the examples, with its script: a replay accepts it.
@@ -79,4 +104,8 @@ pub const ACCEPTED: &[(&str, &str)] = &[
     ("bounded_buffer.join", "bounded_buffer.log"),
     ("dark_room.join", "dark_room.log"),
     ("forgotten_window.join", "forgotten_window.log"),
+    ("language/light.join", "language/light.log"),
+    ("language/time_out.join", "language/time_out.log"),
+    ("language/quotes.join", "language/quotes.log"),
+    ("language/seven.join", "language/seven.log"),
 ];
