@@ -1,8 +1,8 @@
 //! Runs the program on each example of the documents, and tells whether it prints what the documents show and accepts the logs.
 //!
-//! The examples are the data of this crate, and README.md and the documents under docs/ show them between marks that
-//! `.ci/documents` compares with the files. So no output in a document can grow old unseen. Nothing is proved here but that it is
-//! safe and ends.
+//! The examples are the data of this crate, and README.md and the documents under docs/ show them behind marks, where
+//! `.ci/documents` compares them with the files. So no output behind a mark can grow old unseen. Nothing is proved here but that it
+//! is safe, and ends where `join_main` does.
 #![tactic(auto)]
 
 mod example;
