@@ -1,11 +1,12 @@
 -- From a sound state to the run that it shows, and from the runs of the actors to the whole run.
-use Rattle.std.proofs.Common.{◌≡◌, ◌∙◌, ℕ, ◌^◌, ◌<◌, ◌≤◌, List, [], ◌∷◌, length, map, Bool, true, false, Option, None, Some, refl, ap, sym, subst, arith, slice_get}
+use Rattle.std.proofs.Common.{◌≡◌, ◌∙◌, ℕ, ◌^◌, ◌<◌, ◌≤◌, List, [], ◌∷◌, length, map, Bool, true, false, Option, None, Some, inl, refl, ap, sym, subst, arith, slice_get}
 use Rattle.std.specs.Prelude.{◌==◌, ◌||◌, if◌then◌else◌}
 use Rattle.std.specs.List.{AllByRecursion, list_any}
 use Rattle.std.proofs.lemmas.Bool.Decides.{nat_tests}
 use Rattle.std.proofs.lemmas.List.{length-map}
 use Rattle.std.proofs.Math.Bool.{or-true}
-use Rattle.pattern_core.specs.Matches.{partial_count}
+use Rattle.pattern_core.specs.Matches.{complete_matches, partial_count}
+use Rattle.pattern_core.specs.Members.{IsIn}
 use Rattle.pattern_core.specs.Suits.{IsRecorded}
 use Rattle.pattern_core.specs.Window.{SeesLatest}
 use Rattle.guard_eval.proofs.ReadyLemmas.{each_at}
@@ -22,8 +23,10 @@ use Rattle.fair_semantics.specs.Step.{State, definitions_of, is_running, letters
 use Rattle.fair_semantics.proofs.FiringLemmas.{FiringRule}
 use Rattle.fair_semantics.proofs.ListLemmas.{each_from, each_from_All, each_map}
 use Rattle.run_fits.specs.FitsLaw.{FairRunFits, FairRunsFit, LimitsFit, RulesFit, SentFits, VersionFits}
+use Rattle.run_fits.specs.RestLaw.{FiringsTakeNewest, HasNoMatch, NoneWaitsBetween}
 use Rattle.run_fits.proofs.LateFitsLemmas.{late_counts_fit, late_in_order}
-use Rattle.run_fits.proofs.RestLemmas.{CanRest, cleared_count}
+use Rattle.run_fits.proofs.RestLemmas.{CanRest, IsResting, cleared_count}
+use Rattle.run_fits.proofs.StillLemmas.{IsStill, all_still, opening_still}
 use Rattle.run_fits.proofs.SoundLemmas.{EntrySound, IsSound, all_sound, opening_sound}
 use Rattle.join_base.proofs.EachLemmas.{each_from_get}
 
@@ -38,6 +41,16 @@ sees_of : (window : Option ℕ) → IsTypedWindow window → SeesLatest window
 sees_of None h = tt
 sees_of (Some w) h = h.0
 
+-- each definition of an actor has a pattern, and sees the latest message
+pub rules_can_rest : (plan : Plan) (actor : ℕ) → IsTyped plan → AllByRecursion CanRest (definitions_of (rules_of (slice_get plan.actors actor)))
+rules_can_rest plan actor typed = by (slice_get plan.actors actor) refl
+  where
+    by : (o : Option ActorPlan) → slice_get plan.actors actor ≡ o → AllByRecursion CanRest (definitions_of (rules_of o))
+    by None e = tt
+    by (Some own) e =
+        each_map (IsTypedRule (length plan.actors) (kind_types plan.kinds)) CanRest (λ (r : Rule). r.definition) (λ r h. record { some = h.some_patterns; sees = sees_of r.definition.window h.window }) own.rules
+        (each_at (IsTypedActor (length plan.actors) (kind_types plan.kinds)) plan.actors actor own e typed.actors).each
+
 module _ (plan : Plan) (version : ℕ) where
   -- rules that may be run
   pub record AreSound (rules : List Rule) : Type 0 where
@@ -50,17 +63,16 @@ module _ (plan : Plan) (version : ℕ) where
   firing_rules (r ∷ rules) typed texts replies = (record { typed = typed.0; texts = texts.0; replies = replies.0 }, firing_rules rules typed.1 texts.1 replies.1)
 
   pub rules_sound : (actor : ℕ) → IsTyped plan → (has_reply plan ≡ true → version ≡ 2) → AllByRecursion RuleFits (rules_of (slice_get plan.actors actor)) → AreSound (rules_of (slice_get plan.actors actor))
-  rules_sound actor typed replies texts = by (slice_get plan.actors actor) refl texts
+  rules_sound actor typed replies texts = by (slice_get plan.actors actor) refl texts (rules_can_rest plan actor typed)
     where
-      by : (o : Option ActorPlan) → slice_get plan.actors actor ≡ o → AllByRecursion RuleFits (rules_of o) → AreSound (rules_of o)
-      by None e texts = record { few = omega arith; each = tt; can_rest = tt }
-      by (Some own) e texts =
+      by : (o : Option ActorPlan) → slice_get plan.actors actor ≡ o → AllByRecursion RuleFits (rules_of o) → AllByRecursion CanRest (definitions_of (rules_of o)) → AreSound (rules_of o)
+      by None e texts can = record { few = omega arith; each = tt; can_rest = can }
+      by (Some own) e texts can =
           let types = each_at (IsTypedActor (length plan.actors) (kind_types plan.kinds)) plan.actors actor own e typed.actors in
           let answers = each_at (λ (a : ActorPlan). actor_replies a ≡ true → version ≡ 2) plan.actors actor own e (any_each actor_replies (version ≡ 2) plan.actors replies) in record {
             few = types.few;
             each = firing_rules own.rules types.each texts (any_each rule_replies (version ≡ 2) own.rules answers);
-            can_rest =
-                each_map (IsTypedRule (length plan.actors) (kind_types plan.kinds)) CanRest (λ (r : Rule). r.definition) (λ r h. record { some = h.some_patterns; sees = sees_of r.definition.window h.window }) own.rules types.each;
+            can_rest = can;
           }
 
 -- ---- the run that a state shows
@@ -79,14 +91,14 @@ module _ (plan : Plan) (version feeds : ℕ) (rules : List Rule) (limits : Limit
     pub small_left : AllByRecursion (λ n. n < 2 ^ 32) state.live
     small_left =
         each_from (IsRecorded (letters_of state.entries)) (λ n. n < 2 ^ 32) (λ n r. omega (arith, r.1, length-map state.entries (λ (e : Entry). e.message), h.few)) state.live
-        (each_from_All (IsRecorded (letters_of state.entries)) state.live h.recorded)
+        (each_from_All (IsRecorded (letters_of state.entries)) state.live h.still.recorded)
 
     -- the partial matches of a state, of which an ended one has one for each definition
     pub few_partials : partials_of rules state ≤ 1000000
     few_partials = by (is_running state.ending) refl
       where
         by : (b : Bool) → is_running state.ending ≡ b → partials_of rules state ≤ 1000000
-        by true e = (h.runs e).few
+        by true e = h.runs e
         by false e =
             subst (λ (ns : List ℕ). partial_count (letters_of state.entries) ns (definitions_of rules) ≤ 1000000) (sym (h.ended e))
             (omega (arith, cleared_count (letters_of state.entries) (definitions_of rules) sound.can_rest, length-map rules (λ (r : Rule). r.definition), sound.few))
@@ -141,3 +153,24 @@ fair_runs_fit plan run typed versioned limited feeds same each = record {
       let h = each actor own e in
       subst (ActorRunFits plan run.version run.feeds) (sym h.same) (fair_run_fits plan actor run.limits run.version run.feeds h.sent typed h.rules versioned limited h.fitting));
 }
+
+-- ---- between two arrivals
+
+-- whatever the messages are
+fair_still : (plan : Plan) (actor : ℕ) (limits : Limits) (feeds : ℕ) (sent : List Sent) → IsTyped plan → IsStill (setting_of plan actor limits).rules (fair plan actor limits feeds sent)
+fair_still plan actor limits feeds sent typed =
+    let can = rules_can_rest plan actor typed in
+    all_still (setting_of plan actor limits) can sent (opening feeds (length plan.actors)) (opening_still (setting_of plan actor limits) can feeds (length plan.actors))
+
+none_in : {X : Type 0} (xs : List X) → ((x : X) → ¬ IsIn x xs) → xs ≡ []
+none_in [] none = refl
+none_in (x ∷ xs) none = absurd (none x (inl refl))
+
+pub none_waits_between : NoneWaitsBetween
+none_waits_between plan actor limits feeds sent typed =
+    let rules : List Rule = (setting_of plan actor limits).rules in
+    let state : State = fair plan actor limits feeds sent in
+    each_from (IsResting (letters_of state.entries) state.live) (HasNoMatch state) (λ d h. none_in (complete_matches (letters_of state.entries) state.live d) h.none) (definitions_of rules) (fair_still plan actor limits feeds sent typed).rests
+
+pub firings_take_newest : FiringsTakeNewest
+firings_take_newest plan actor limits feeds sent typed = (fair_still plan actor limits feeds sent typed).newest

@@ -1,4 +1,5 @@
 pub mod LateFitsLemmas
 pub mod RestLemmas
+pub mod StillLemmas
 pub mod SoundLemmas
 pub mod LawLemmas

@@ -1,11 +1,10 @@
 -- What holds of an actor's state between two arrivals, where its rules and its messages fit.
 use Rattle.std.proofs.Common.{◌≡◌, ◌∙◌, ℕ, zero, suc, ◌+◌, ◌-◌, ◌^◌, ◌<◌, ◌≤◌, max, List, [], ◌∷◌, ◌++◌, length, length-append, Bool, true, false, Option, None, Some, refl, ap, sym, subst, arith}
-use Rattle.std.specs.Prelude.{All, IfSome, if◌then◌else◌, nat_le, nat_lt, not, replicate, slice_index, slice_set, ◌||◌}
+use Rattle.std.specs.Prelude.{IfSome, if◌then◌else◌, nat_le, nat_lt, not, replicate, slice_index, slice_set, ◌||◌}
 use Rattle.std.specs.List.{AllByRecursion}
 use Rattle.std.specs.List.Sorted.{IsStrictlyIncreasing}
 use Rattle.std.proofs.lemmas.Bool.Decides.{nat_tests}
 use Rattle.std.proofs.lemmas.List.{length-map, length-set, map-append}
-use Rattle.std.proofs.lemmas.List.Elements.{All-push, All-filter}
 use Rattle.std.proofs.lemmas.List.Kept.{IsStrictlyIncreasing-filter}
 use Rattle.std.proofs.lemmas.Bool.{or_parts}
 use Rattle.join_base.specs.Late.{Late, late_more, raised}
@@ -18,10 +17,8 @@ use Rattle.pattern_core.specs.declared.candidate.Candidate.{Candidate}
 use Rattle.pattern_core.specs.declared.definition.Definition.{Definition}
 use Rattle.pattern_core.specs.Choice.{choice}
 use Rattle.pattern_core.specs.Matches.{partial_count}
-use Rattle.pattern_core.specs.Suits.{IsRecorded}
 use Rattle.pattern_core.proofs.LawLemmas.{choice_is_chosen}
-use Rattle.pattern_core.proofs.SuitsLemmas.{recorded_of}
-use Rattle.tree_law.specs.Partials.{AreLive}
+use Rattle.tree_law.specs.Partials.{number_more}
 use Rattle.script_types.specs.declared.plan.Plan.{Plan}
 use Rattle.script_types.specs.declared.plan.Rule.{Rule}
 use Rattle.script_types.specs.Typed.{kind_types}
@@ -40,7 +37,8 @@ use Rattle.fair_semantics.proofs.KeptLemmas.{increasing_push}
 use Rattle.fair_semantics.proofs.ListLemmas.{each_append, each_map, each_replicate}
 use Rattle.fair_semantics.proofs.StepLemmas.{number_of_newest}
 use Rattle.run_fits.specs.FitsLaw.{SentFits}
-use Rattle.run_fits.proofs.RestLemmas.{CanRest, IsResting, cleared_count, cleared_rests, fired_fewer, fired_rests, none_chosen, takes_newest}
+use Rattle.run_fits.proofs.RestLemmas.{CanRest, cleared_count, fired_fewer}
+use Rattle.run_fits.proofs.StillLemmas.{IsStill, are_live, chosen_newest, newest_number, opening_still, recorded_with, step_still}
 
 below : (n m : ℕ) → nat_le n m ≡ false → m < n
 below n m e = grind (arith, nat_tests)
@@ -112,40 +110,39 @@ module _ (plan : Plan) (version feeds : ℕ) (rules : List Rule) (limits : Limit
   abbrev definitions : List Definition
   definitions = definitions_of rules
 
-  -- what is recorded and not consumed, where the actor runs: no match waits, and the partial matches are within the limit
-  pub record IsQuiet (letters : List Message) (live : List ℕ) : Type 0 where
-    pub rests : AllByRecursion (IsResting letters live) definitions
-    pub few : partial_count letters live definitions ≤ 1000000
+  abbrev Still : State → Type 0
+  Still = IsStill rules
+
+  -- the partial matches are within the limit
+  abbrev HasFew : List Message → List ℕ → Type 0
+  HasFew letters live = partial_count letters live definitions ≤ 1000000
 
   pub record IsSound (state : State) : Type 0 where
+    pub still : IsStill rules state
     pub entries : AllByRecursion (EntrySound plan version feeds) state.entries
     pub few : length state.entries ≤ 1000000
-    pub recorded : All (IsRecorded (letters_of state.entries)) state.live
     pub rising : IsStrictlyIncreasing state.live
-    pub runs : is_running state.ending ≡ true → IsQuiet (letters_of state.entries) state.live
+    pub runs : is_running state.ending ≡ true → HasFew (letters_of state.entries) state.live
     pub ended : is_running state.ending ≡ false → state.live ≡ []
     pub late : LateSound feeds (length plan.actors) state.late
 
   letters_fit : (entries : List Entry) → AllByRecursion (EntrySound plan version feeds) entries → AllByRecursion (MessageFits plan) (letters_of entries)
   letters_fit entries h = each_map (EntrySound plan version feeds) (MessageFits plan) (λ (e : Entry). e.message) (λ e h. h.message) entries h
 
-  no_number : (letters : List Message) → All (IsRecorded letters) []
-  no_number letters k d l = absurd (omega arith)
-
   none_rise : IsStrictlyIncreasing []
   none_rise k l = absurd (omega arith)
 
   module _ (few_rules : length rules ≤ 16) (each : AllByRecursion (FiringRule plan version) rules) (can : AllByRecursion CanRest definitions) (few_arrivals : limits.arrivals ≤ 1000000) (few_partials : limits.partials ≤ 1000000) where
-    cleared_quiet : (letters : List Message) → IsQuiet letters []
-    cleared_quiet letters = record { rests = cleared_rests letters definitions can; few = omega (arith, cleared_count letters definitions can, length-map rules (λ (r : Rule). r.definition), few_rules) }
+    cleared_few : (letters : List Message) → HasFew letters []
+    cleared_few letters = omega (arith, cleared_count letters definitions can, length-map rules (λ (r : Rule). r.definition), few_rules)
 
     pub opening_sound : IsSound (opening feeds (length plan.actors))
     opening_sound = record {
+      still = opening_still setting can feeds (length plan.actors);
       entries = tt;
       few = omega arith;
-      recorded = no_number [];
       rising = none_rise;
-      runs = λ e. cleared_quiet [];
+      runs = λ e. cleared_few [];
       ended = λ e. refl;
       late = record { of_feeds = length-replicate feeds; of_actors = length-replicate (length plan.actors); small_feeds = each_replicate (λ n. n < 2 ^ 64) feeds 0 (omega arith); small_actors = each_replicate (λ n. n < 2 ^ 64) (length plan.actors) 0 (omega arith) };
     }
@@ -161,21 +158,18 @@ module _ (plan : Plan) (version feeds : ℕ) (rules : List Rule) (limits : Limit
       abbrev letters : List Message
       letters = letters_of state.entries
 
-      late_sound : IsSound (late_step state sent.0).0
-      late_sound = record { entries = h.entries; few = h.few; recorded = h.recorded; rising = h.rising; runs = h.runs; ended = h.ended; late = more_late feeds (length plan.actors) state.late sent.0 h.late }
+      late_sound : Still (late_step state sent.0).0 → IsSound (late_step state sent.0).0
+      late_sound still = record { still = still; entries = h.entries; few = h.few; rising = h.rising; runs = h.runs; ended = h.ended; late = more_late feeds (length plan.actors) state.late sent.0 h.late }
 
-      spent_sound : IsSound (spent_step state sent.0).0
-      spent_sound = record { entries = h.entries; few = h.few; recorded = no_number letters; rising = none_rise; runs = λ e. absurd cc; ended = λ e. refl; late = more_late feeds (length plan.actors) state.late sent.0 h.late }
+      spent_sound : Still (spent_step state sent.0).0 → IsSound (spent_step state sent.0).0
+      spent_sound still = record { still = still; entries = h.entries; few = h.few; rising = none_rise; runs = λ e. absurd cc; ended = λ e. refl; late = more_late feeds (length plan.actors) state.late sent.0 h.late }
 
       module _ (running : is_running state.ending ≡ true) (room : length state.entries < limits.arrivals) (fit : fits (kind_types plan.kinds) sent.1.message ≡ true) (stamped : max (latest_stamp state.entries) sent.1.stamp < greatest_stamp) where
-        quiet : IsQuiet letters state.live
-        quiet = h.runs running
-
         message_fits : MessageFits plan sent.1.message
         message_fits = record { kind = fit; values = given.values }
 
-        newest : number_of arrival ≡ length letters + 1
-        newest = ap (λ (n : ℕ). n + 1) (sym (length-map state.entries (λ (e : Entry). e.message)))
+        newest : number_of arrival ≡ number_more letters
+        newest = newest_number rules arrival h.still
 
         all_letters_fit : AllByRecursion (MessageFits plan) (letters_with arrival)
         all_letters_fit = each_append (MessageFits plan) letters (sent.1.message ∷ []) (letters_fit state.entries h.entries) (message_fits, tt)
@@ -183,52 +177,44 @@ module _ (plan : Plan) (version feeds : ℕ) (rules : List Rule) (limits : Limit
         count : length (letters_with arrival) ≡ length state.entries + 1
         count = number_of_newest state.entries sent.1.message
 
-        recorded_with : All (IsRecorded (letters_with arrival)) (live_with arrival)
-        recorded_with =
-            All-push (IsRecorded (letters_with arrival)) state.live (number_of arrival) (λ i d l. let old = h.recorded i d l in (old.0, omega (arith, old.1, count, newest))) (omega arith, omega (arith, count))
-
         rising_with : IsStrictlyIncreasing (live_with arrival)
-        rising_with = increasing_push state.live (number_of arrival) h.rising (λ i l. let old = h.recorded i 0 l in omega (arith, old.1, newest))
+        rising_with = increasing_push state.live (number_of arrival) h.rising (λ i l. let old = h.still.recorded i 0 l in omega (arith, old.1, newest))
 
         -- the state with an entry more
-        recorded_sound : (firing : Option Firing) (live : List ℕ) (end : Ending) → IfSome firing (FiringFits plan version) → All (IsRecorded (letters_with arrival)) live → IsStrictlyIncreasing live
-            → (is_running end ≡ true → IsQuiet (letters_with arrival) live) → (is_running end ≡ false → live ≡ []) → IsSound (recorded arrival firing live end)
-        recorded_sound firing live end fires are_recorded rises runs ended =
+        recorded_sound : (firing : Option Firing) (live : List ℕ) (end : Ending) → IfSome firing (FiringFits plan version) → IsStrictlyIncreasing live
+            → (is_running end ≡ true → HasFew (letters_with arrival) live) → (is_running end ≡ false → live ≡ []) → Still (recorded arrival firing live end) → IsSound (recorded arrival firing live end)
+        recorded_sound firing live end fires rises runs ended still =
             let same : letters_with arrival ≡ letters_of (state.entries ++ entry_with arrival firing ∷ []) = sym (map-append (λ (e : Entry). e.message) state.entries (entry_with arrival firing ∷ [])) in
             let entry : EntrySound plan version feeds (entry_with arrival firing) = record { number = omega (arith, room, few_arrivals); source = given.source; message = message_fits; stamped = (omega arith, omega (arith, stamped)); firing = fires } in record {
+              still = still;
               entries = each_append (EntrySound plan version feeds) state.entries (entry_with arrival firing ∷ []) h.entries (entry, tt);
               few = omega (arith, length-append state.entries (entry_with arrival firing ∷ []), room, few_arrivals);
-              recorded = subst (λ (ms : List Message). All (IsRecorded ms) live) same are_recorded;
               rising = rises;
-              runs = λ e. subst (λ (ms : List Message). IsQuiet ms live) same (runs e);
+              runs = λ e. subst (λ (ms : List Message). HasFew ms live) same (runs e);
               ended = ended;
               late = h.late;
             }
 
-        kept_sound : choice (letters_with arrival) (live_with arrival) definitions ≡ None → IsSound (by_choice setting arrival None).0
-        kept_sound none = by (nat_lt limits.partials (partial_count (letters_with arrival) (live_with arrival) definitions)) refl
+        kept_sound : Still (by_choice setting arrival None).0 → IsSound (by_choice setting arrival None).0
+        kept_sound = by (nat_lt limits.partials (partial_count (letters_with arrival) (live_with arrival) definitions)) refl
           where
             by : (b : Bool) → nat_lt limits.partials (partial_count (letters_with arrival) (live_with arrival) definitions) ≡ b
-                → let stepped : Stepped = if b then (recorded arrival None [] ending.Jammed, outcome.Jammed) else (recorded arrival None (live_with arrival) ending.Running, outcome.Kept) in IsSound stepped.0
-            by true e = recorded_sound None [] ending.Jammed tt (no_number (letters_with arrival)) none_rise (λ p. absurd cc) (λ p. refl)
+                → let stepped : Stepped = if b then (recorded arrival None [] ending.Jammed, outcome.Jammed) else (recorded arrival None (live_with arrival) ending.Running, outcome.Kept) in Still stepped.0 → IsSound stepped.0
+            by true e = recorded_sound None [] ending.Jammed tt none_rise (λ p. absurd cc) (λ p. refl)
             by false e =
                 let low = not_above limits.partials (partial_count (letters_with arrival) (live_with arrival) definitions) e in
-                recorded_sound None (live_with arrival) ending.Running tt recorded_with rising_with
-                (λ p. record { rests = none_chosen (letters_with arrival) (live_with arrival) definitions none can; few = omega (arith, low, few_partials) }) (λ p. absurd cc)
+                recorded_sound None (live_with arrival) ending.Running tt rising_with (λ p. omega (arith, low, few_partials)) (λ p. absurd cc)
 
-        fired_quiet : (c : Candidate) → choice (letters_with arrival) (live_with arrival) definitions ≡ Some c → IsQuiet (letters_with arrival) (without (live_with arrival) c.taken)
-        fired_quiet c some =
-            let are_live : AreLive letters state.live = λ n m. recorded_of letters state.live n h.recorded m in
-            let moved = subst (λ (n : ℕ). choice (letters_with arrival) (state.live ++ n ∷ []) definitions ≡ Some c) newest some in
-            let takes = takes_newest letters sent.1.message state.live are_live definitions c quiet.rests moved in
+        fired_few : (c : Candidate) → choice (letters_with arrival) (live_with arrival) definitions ≡ Some c → HasFew (letters_with arrival) (without (live_with arrival) c.taken)
+        fired_few c some =
             let rises = IsStrictlyIncreasing-filter (λ (n : ℕ). not (contains_number c.taken n)) (live_with arrival) rising_with in
             let at : ℕ → List ℕ = λ n. without (state.live ++ n ∷ []) c.taken in
-            let rests = fired_rests letters sent.1.message state.live are_live c.taken takes definitions quiet.rests in
-            let fewer = fired_fewer letters sent.1.message state.live are_live c.taken takes (subst (λ (n : ℕ). IsStrictlyIncreasing (at n)) newest rises) definitions quiet.rests in
-            let Quiet : ℕ → Type 0 = λ n. IsQuiet (letters_with arrival) (at n) in
-            subst Quiet (sym newest) (record { rests = rests; few = omega (arith, fewer, quiet.few) })
+            let fewer =
+            fired_fewer letters sent.1.message state.live (are_live rules arrival h.still) c.taken (chosen_newest rules arrival h.still c some) (subst (λ (n : ℕ). IsStrictlyIncreasing (at n)) newest rises) definitions h.still.rests
+            in
+            subst (λ (n : ℕ). HasFew (letters_with arrival) (at n)) (sym newest) (omega (arith, fewer, h.runs running))
 
-        fired_sound : (c : Candidate) → choice (letters_with arrival) (live_with arrival) definitions ≡ Some c → IsSound (by_choice setting arrival (Some c)).0
+        fired_sound : (c : Candidate) → choice (letters_with arrival) (live_with arrival) definitions ≡ Some c → Still (by_choice setting arrival (Some c)).0 → IsSound (by_choice setting arrival (Some c)).0
         fired_sound c some = by (stops (body_at rules c.rule))
           where
             firing : Option Firing
@@ -236,25 +222,24 @@ module _ (plan : Plan) (version feeds : ℕ) (rules : List Rule) (limits : Limit
 
             fires : IfSome firing (FiringFits plan version)
             fires = subst (λ (o : Option Candidate). IfSome (firing_of rules (letters_with arrival) o) (FiringFits plan version)) some
-                (firing_fits plan (letters_with arrival) all_letters_fit version rules few_rules each (live_with arrival) recorded_with (omega (arith, count, room, few_arrivals))
+                (firing_fits plan (letters_with arrival) all_letters_fit version rules few_rules each (live_with arrival) (recorded_with rules arrival h.still) (omega (arith, count, room, few_arrivals))
                 (choice (letters_with arrival) (live_with arrival) definitions) (choice_is_chosen (letters_with arrival) (live_with arrival) definitions))
 
-            by : (b : Bool) → IsSound (if b then recorded arrival firing [] ending.Stopped else recorded arrival firing (without (live_with arrival) c.taken) ending.Running)
-            by true = recorded_sound firing [] ending.Stopped fires (no_number (letters_with arrival)) none_rise (λ p. absurd cc) (λ p. refl)
+            by : (b : Bool) → let stepped : State = if b then recorded arrival firing [] ending.Stopped else recorded arrival firing (without (live_with arrival) c.taken) ending.Running in Still stepped → IsSound stepped
+            by true = recorded_sound firing [] ending.Stopped fires none_rise (λ p. absurd cc) (λ p. refl)
             by false =
                 recorded_sound firing (without (live_with arrival) c.taken) ending.Running fires
-                (All-filter (λ (n : ℕ). not (contains_number c.taken n)) (IsRecorded (letters_with arrival)) (live_with arrival) recorded_with)
-                (IsStrictlyIncreasing-filter (λ (n : ℕ). not (contains_number c.taken n)) (live_with arrival) rising_with) (λ p. fired_quiet c some) (λ p. absurd cc)
+                (IsStrictlyIncreasing-filter (λ (n : ℕ). not (contains_number c.taken n)) (live_with arrival) rising_with) (λ p. fired_few c some) (λ p. absurd cc)
 
-        chosen_sound : (o : Option Candidate) → choice (letters_with arrival) (live_with arrival) definitions ≡ o → IsSound (by_choice setting arrival o).0
-        chosen_sound None e = kept_sound e
+        chosen_sound : (o : Option Candidate) → choice (letters_with arrival) (live_with arrival) definitions ≡ o → Still (by_choice setting arrival o).0 → IsSound (by_choice setting arrival o).0
+        chosen_sound None e = kept_sound
         chosen_sound (Some c) e = fired_sound c e
 
       -- a fair step keeps it
       step_sound : IsSound (fair_step setting state sent.0 sent.1.message sent.1.stamp).0
-      step_sound = by (is_running state.ending) refl
+      step_sound = by (is_running state.ending) refl (step_still setting can state sent h.still)
         where
-          running : (b : Bool) → is_running state.ending ≡ true → is_refused setting state sent.1.message sent.1.stamp ≡ b → IsSound (running_step b setting state sent.0 sent.1.message sent.1.stamp).0
+          running : (b : Bool) → is_running state.ending ≡ true → is_refused setting state sent.1.message sent.1.stamp ≡ b → let stepped : Stepped = running_step b setting state sent.0 sent.1.message sent.1.stamp in Still stepped.0 → IsSound stepped.0
           running true e r = spent_sound
           running false e r =
               let full = or_parts (nat_le limits.arrivals (length state.entries)) (not (fits (kind_types plan.kinds) sent.1.message) || nat_le greatest_stamp (max (latest_stamp state.entries) sent.1.stamp)) r in
@@ -262,7 +247,7 @@ module _ (plan : Plan) (version feeds : ℕ) (rules : List Rule) (limits : Limit
               chosen_sound e (below limits.arrivals (length state.entries) full.0) (not_not (fits (kind_types plan.kinds) sent.1.message) rest.0) (below greatest_stamp (max (latest_stamp state.entries) sent.1.stamp) rest.1)
               (choice (letters_with arrival) (live_with arrival) definitions) refl
 
-          by : (b : Bool) → is_running state.ending ≡ b → IsSound (step_by b setting state sent.0 sent.1.message sent.1.stamp).0
+          by : (b : Bool) → is_running state.ending ≡ b → let stepped : Stepped = step_by b setting state sent.0 sent.1.message sent.1.stamp in Still stepped.0 → IsSound stepped.0
           by false e = late_sound
           by true e = running (is_refused setting state sent.1.message sent.1.stamp) e refl
 

@@ -1,2 +1,3 @@
--- what is claimed: the law
+-- what is claimed: the laws
 pub mod FitsLaw
+pub mod RestLaw

@@ -1,9 +1,17 @@
-//! What holds of the runs of actors that are given messages that fit.
+//! What holds of the runs of actors, whatever messages they are given.
 ghost use Rattle.run_fits.specs.FitsLaw.{FairRunFits, FairRunsFit};
+ghost use Rattle.run_fits.specs.RestLaw.{FiringsTakeNewest, NoneWaitsBetween};
 
 /// The run that the fair semantics makes of messages whose sources exist and whose values are in range fits the plan, and so does a
 /// run whose actors have such runs.
 pub fn fits_law()
     ensures each { FairRunFits }
     ensures whole { FairRunsFit }
+{}
+
+/// In the fair semantics no complete match waits between two arrivals, and each firing takes the newest message. It holds of
+/// any messages, also of those that do not fit.
+pub fn rest_law()
+    ensures none { NoneWaitsBetween }
+    ensures newest { FiringsTakeNewest }
 {}
