@@ -10,11 +10,10 @@ use Rattle.pattern_core.specs.Window.{SeesLatest, oldest_seen}
 use Rattle.match_tree.specs.Tree.{Tree, is_path_seen, is_path_without, empty_of}
 use Rattle.match_tree.specs.Tries.{tried, tries}
 use Rattle.tree_law.specs.Partials.{AreLive, letters_more, number_more, offer_more}
-use Rattle.tree_law.specs.Trees.{HoldAll, HasOnce, AreTreesOf, AreReservedFor, AreSettled, CanOfferTo, IsReservedAt, cleared_tree, expired_tree, path_count, settled_tree, tries_at}
+use Rattle.tree_law.specs.Trees.{HoldAll, HasOnce, AreTreesOf, AreReservedFor, AreSettled, CanOfferTo, IsReservedAt, cleared_tree, expired_tree, path_count, settled_tree, tries_at, tries_from}
 use Rattle.tree_law.proofs.CountLemmas.{once_filter, once_sum}
 use Rattle.tree_law.proofs.OfferLemmas.{can_offer}
 use Rattle.tree_law.proofs.TreesLemmas.{cleared_holds}
-use Rattle.actor_turn.specs.Held.{tries_from}
 use Rattle.actor_turn.specs.Parts.{fired_at}
 use Rattle.actor_turn.specs.Steady.{HasPatterns, new_trees}
 

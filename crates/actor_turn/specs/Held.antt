@@ -3,10 +3,7 @@ use Rattle.std.specs.Prelude.{ℕ, ◌+◌, List, [], ◌∷◌, ◌++◌, Bool,
 use Rattle.std.specs.List.{flat_map}
 use Rattle.join_base.specs.declared.message.Message.{Message}
 use Rattle.join_base.specs.declared.message.Stamped.{Stamped}
-use Rattle.pattern_core.specs.declared.definition.Definition.{Definition}
-use Rattle.pattern_core.specs.Matches.{partial_matches}
-use Rattle.match_tree.specs.Tries.{tries}
-use Rattle.tree_law.specs.Partials.{offer_more}
+use Rattle.tree_law.specs.Trees.{tries_from}
 use Rattle.script_types.specs.declared.plan.Plan.{Plan}
 use Rattle.script_types.specs.declared.plan.Rule.{Rule}
 use Rattle.fair_semantics.specs.declared.run.Entry.{Entry}
@@ -67,13 +64,7 @@ with_first held target post = record held { outbox = slice_set held.outbox targe
 
 -- ---- steps
 
--- how often a message may be tried at the partial matches of the definitions, of which the first has this number
-abbrev pub tries_from : List Message → Message → List ℕ → ℕ → List Definition → ℕ
-tries_from letters message live rule [] = 0
-tries_from letters message live rule (definition ∷ definitions) =
-    tries (offer_more letters message definition rule) (partial_matches letters live definition) + tries_from letters message live (rule + 1) definitions
-
--- and over all definitions of an actor
+-- how often a message may be tried at the partial matches of all definitions of an actor
 abbrev pub tries_for : List Rule → State → Message → ℕ
 tries_for rules state message = tries_from (letters_of state.entries) message state.live 1 (definitions_of rules)
 

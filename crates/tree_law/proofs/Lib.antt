@@ -6,4 +6,5 @@ pub mod GrowthLemmas
 pub mod KeepLemmas
 pub mod LoopLemmas
 pub mod OfferLemmas
+pub mod PairLemmas
 pub mod TreesLemmas

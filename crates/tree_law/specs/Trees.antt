@@ -5,6 +5,7 @@ use Rattle.join_base.specs.declared.message.Message.{Message}
 use Rattle.pattern_core.specs.declared.definition.Definition.{Definition}
 use Rattle.pattern_core.specs.declared.candidate.Candidate.{Candidate}
 use Rattle.pattern_core.specs.Choice.{lesser_of}
+use Rattle.pattern_core.specs.Matches.{partial_matches}
 use Rattle.pattern_core.specs.Window.{SeesLatest, oldest_seen}
 use Rattle.match_tree.specs.Tree.{Tree, AreOnce, Reserve, SameMembers, IsReserved, seen_paths, is_path_seen, is_path_without, empty_of, offer_to, with_paths}
 use Rattle.match_tree.specs.Offering.{CanOffer}
@@ -68,10 +69,11 @@ abbrev pub path_count : List Tree → ℕ
 path_count [] = 0
 path_count (tree ∷ trees) = length tree.paths + path_count trees
 
--- how often the further message may be tried at the paths of all trees
-abbrev pub tries_of : List Message → Message → List Tree → ℕ
-tries_of letters message [] = 0
-tries_of letters message (tree ∷ trees) = tries (offer_more letters message tree.definition tree.rule) tree.paths + tries_of letters message trees
+-- how often a further message may be tried at the partial matches of the definitions, of which the first has this number
+abbrev pub tries_from : List Message → Message → List ℕ → ℕ → List Definition → ℕ
+tries_from letters message live rule [] = 0
+tries_from letters message live rule (definition ∷ definitions) =
+    tries (offer_more letters message definition rule) (partial_matches letters live definition) + tries_from letters message live (rule + 1) definitions
 
 -- each tree keeps the further message
 abbrev pub AreKept : List Message → Message → List Tree → List Tree → Type 0

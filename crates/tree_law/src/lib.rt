@@ -5,14 +5,18 @@
 //! - `best_of` gives the least of the matches that the trees found.
 //! - `expire_all`, `prune_all`, `clear_all` and `forget_all` do in each tree what the calls of `match_tree` do in one,
 //!   `keep_all` expires and extends each, and `count_paths` counts the paths of all.
+//! - `tries_law` is a law, on a function without a body: a number is tried at most as often as there are paths times
+//!   patterns of its kind.
 //!
 //! A contract sees the trees as a list of `Tree`, as `match_tree` does. That trees which hold the partial matches
 //! (`HoldAll`, specs/Trees) hold them again after a step, and that the best match is the choice, are lemmas in proofs/,
 //! which `actor_turn` cites. There are no tests here.
 #![tactic(auto)]
 
+mod law;
 mod trees;
 
+pub use law::tries_law;
 pub use trees::{
     best_of, clear_all, count_paths, expire_all, forget_all, keep_all, prune_all, reserve_all,
 };
