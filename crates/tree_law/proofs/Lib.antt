@@ -7,4 +7,5 @@ pub mod KeepLemmas
 pub mod LoopLemmas
 pub mod OfferLemmas
 pub mod PairLemmas
+pub mod PrefixLemmas
 pub mod TreesLemmas

@@ -1,13 +1,16 @@
--- What holds of tries, over all messages, numbers and definitions.
-use Rattle.std.specs.Prelude.{ℕ, ◌+◌, ◌*◌, ◌≤◌, List, [], ◌∷◌, length, Option, Some}
+-- What holds of tries and of partial matches, over all messages, numbers and definitions.
+use Rattle.std.specs.Prelude.{ℕ, ◌+◌, ◌*◌, ◌≤◌, List, [], ◌∷◌, map, length, nat_le, if◌then◌else◌, Option, None, Some}
 use Rattle.std.specs.List.{count_by}
 use Rattle.join_base.specs.declared.message.Message.{Message}
 use Rattle.guard_eval.specs.Meaning.{Assignment, letter_at}
 use Rattle.pattern_core.specs.declared.definition.Definition.{Definition}
 use Rattle.pattern_core.specs.Matches.{is_of_kind, partial_matches}
+use Rattle.pattern_core.specs.Members.{IsIn}
 use Rattle.match_tree.specs.Offers.{Offered}
 use Rattle.match_tree.specs.Tries.{tries}
 use Rattle.tree_law.specs.Trees.{tries_from}
+
+-- ---- the bound on tries
 
 -- how many patterns of the definition have the kind of the message
 abbrev pub pattern_count : Option Message → Definition → ℕ
@@ -27,3 +30,19 @@ TriesAreFew = (o : Offered) (paths : List Assignment) → tries o paths ≤ leng
 abbrev pub AllTriesAreFew : Type 0
 AllTriesAreFew = (letters : List Message) (message : Message) (live : List ℕ) (rule : ℕ) (definitions : List Definition)
     → tries_from letters message live rule definitions ≤ pair_count letters message live definitions
+
+-- ---- prefixes of partial matches
+
+-- the number where it is at most the latest, and else nothing
+abbrev pub slot_up_to : ℕ → Option ℕ → Option ℕ
+slot_up_to latest None = None
+slot_up_to latest (Some number) = if nat_le number latest then Some number else None
+
+-- the assignment with those of its numbers alone that are at most the latest: its prefix in the order of arrival
+abbrev pub up_to : ℕ → Assignment → Assignment
+up_to latest slots = map (slot_up_to latest) slots
+
+-- each prefix of a partial match in the order of arrival is a partial match
+abbrev pub PrefixesArePartial : Type 0
+PrefixesArePartial = (letters : List Message) (live : List ℕ) (definition : Definition) (slots : Assignment) (latest : ℕ)
+    → IsIn slots (partial_matches letters live definition) → IsIn (up_to latest slots) (partial_matches letters live definition)

@@ -5,8 +5,8 @@
 //! - `best_of` gives the least of the matches that the trees found.
 //! - `expire_all`, `prune_all`, `clear_all` and `forget_all` do in each tree what the calls of `match_tree` do in one,
 //!   `keep_all` expires and extends each, and `count_paths` counts the paths of all.
-//! - `tries_law` is a law, on a function without a body: a number is tried at most as often as there are paths times
-//!   patterns of its kind.
+//! - `tries_law` and `prefix_law` are laws, on functions without a body: a number is tried at most as often as there
+//!   are paths times patterns of its kind, and a prefix of a partial match, in the order of arrival, is one too.
 //!
 //! A contract sees the trees as a list of `Tree`, as `match_tree` does. That trees which hold the partial matches
 //! (`HoldAll`, specs/Trees) hold them again after a step, and that the best match is the choice, are lemmas in proofs/,
@@ -16,7 +16,7 @@
 mod law;
 mod trees;
 
-pub use law::tries_law;
+pub use law::{prefix_law, tries_law};
 pub use trees::{
     best_of, clear_all, count_paths, expire_all, forget_all, keep_all, prune_all, reserve_all,
 };
