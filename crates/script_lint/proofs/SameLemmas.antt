@@ -1,9 +1,10 @@
 -- Conjuncts that pass for equal are equal.
-use Rattle.std.proofs.Common.{◌≡◌, ◌∙◌, ℕ, zero, suc, List, [], ◌∷◌, Bool, true, false, ◌&&◌, refl, ap, sym}
+use Rattle.std.proofs.Common.{rules, ◌≡◌, List, [], ◌∷◌, Bool, true, false, ◌&&◌, refl, ap}
 use Rattle.std.proofs.lemmas.Bool.Decides.{Decides-int_eq}
 use Rattle.std.proofs.lemmas.Slice.Eq.{bytes_eq-Decides}
+use denote.Enum.Bare.{same_true}
+use Rattle.join_base.specs.contracts.message.Relation.{the_type}
 use Rattle.join_base.specs.declared.message.Relation.{Relation}
-use Rattle.join_base.specs.declared.message.Relation.TheVariants.{Equal, NotEqual, Less, LessEqual, Greater, GreaterEqual}
 use Rattle.guard_eval.specs.Condition.{Condition, Never, Compares, Negated, Grouped, Either}
 use Rattle.guard_eval.specs.declared.term.Leaf.{Leaf}
 use Rattle.guard_eval.specs.declared.term.Leaf.TheVariants as leaf
@@ -13,8 +14,7 @@ use Rattle.guard_eval.specs.declared.term.WordsLeaf.TheVariants as words
 use Rattle.guard_eval.specs.declared.term.Operand.{Operand}
 use Rattle.guard_eval.specs.declared.term.Operand.TheVariants as operand
 use Rattle.guard_eval.proofs.ExtendLemmas.{both_true}
-use Rattle.fair_semantics.proofs.CountedLemmas.{same_number}
-use Rattle.script_lint.specs.Same.{is_same, is_same_bool, is_same_leaf, is_same_operand, is_same_relation, is_same_signed, is_same_term, is_same_words, rank}
+use Rattle.script_lint.specs.Same.{is_same, is_same_bool, is_same_leaf, is_same_operand, is_same_relation, is_same_signed, is_same_term, is_same_words}
 use Rattle.script_lint.proofs.BoundLemmas.{is_same_place-tells}
 
 same_bool : (a b : Bool) → is_same_bool a b ≡ true → a ≡ b
@@ -23,24 +23,8 @@ same_bool false false e = refl
 same_bool true false e = absurd cc
 same_bool false true e = absurd cc
 
-abbrev relation_at : ℕ → Relation
-relation_at zero = Equal
-relation_at (suc zero) = NotEqual
-relation_at (suc (suc zero)) = Less
-relation_at (suc (suc (suc zero))) = LessEqual
-relation_at (suc (suc (suc (suc zero)))) = Greater
-relation_at (suc (suc (suc (suc (suc n))))) = GreaterEqual
-
-relation_at-rank : (r : Relation) → relation_at (rank r) ≡ r
-relation_at-rank Equal = refl
-relation_at-rank NotEqual = refl
-relation_at-rank Less = refl
-relation_at-rank LessEqual = refl
-relation_at-rank Greater = refl
-relation_at-rank GreaterEqual = refl
-
 same_relation : (a b : Relation) → is_same_relation a b ≡ true → a ≡ b
-same_relation a b e = sym (relation_at-rank a) ∙ ap relation_at (same_number (rank a) (rank b) e) ∙ relation_at-rank b
+same_relation a b e = same_true the_type (search rules) a b e
 
 same_leaf : (a b : Leaf) → is_same_leaf a b ≡ true → a ≡ b
 same_leaf (leaf.Number n) (leaf.Number m) e = ap leaf.Number ((Decides-int_eq n m).0 e)

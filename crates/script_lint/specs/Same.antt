@@ -1,9 +1,11 @@
 -- Whether two conjuncts are equal.
-use Rattle.std.specs.Prelude.{ℕ, List, [], ◌∷◌, Bool, true, false, ◌&&◌, ◌==◌}
+use Rattle.std.specs.Prelude.{List, Bool, true, false, ◌&&◌}
 use Rattle.std.specs.Ordering.{int_eq}
+use Rattle.std.specs.Cmp.Lexicographic.{pointwise}
 use Rattle.std.specs.Str.{bytes_eq}
+use denote.Enum.Bare.{sameb}
+use Rattle.join_base.specs.contracts.message.Relation.{the_type}
 use Rattle.join_base.specs.declared.message.Relation.{Relation}
-use Rattle.join_base.specs.declared.message.Relation.TheVariants.{Equal, NotEqual, Less, LessEqual, Greater, GreaterEqual}
 use Rattle.guard_eval.specs.Condition.{Condition, Never, Compares, Negated, Grouped, Either}
 use Rattle.guard_eval.specs.declared.term.Leaf.{Leaf}
 use Rattle.guard_eval.specs.declared.term.Leaf.TheVariants as leaf
@@ -19,17 +21,9 @@ is_same_bool true true = true
 is_same_bool false false = true
 is_same_bool _ _ = false
 
--- the relations, numbered
-abbrev pub rank : Relation → ℕ
-rank Equal = 0
-rank NotEqual = 1
-rank Less = 2
-rank LessEqual = 3
-rank Greater = 4
-rank GreaterEqual = 5
-
+-- `==` on relations
 abbrev pub is_same_relation : Relation → Relation → Bool
-is_same_relation a b = rank a == rank b
+is_same_relation = sameb the_type
 
 abbrev pub is_same_leaf : Leaf → Leaf → Bool
 is_same_leaf (leaf.Number n) (leaf.Number m) = int_eq n m
@@ -40,9 +34,7 @@ abbrev pub is_same_signed : Signed → Signed → Bool
 is_same_signed a b = is_same_bool a.minus b.minus && is_same_leaf a.leaf b.leaf
 
 abbrev pub is_same_term : List Signed → List Signed → Bool
-is_same_term [] [] = true
-is_same_term (a ∷ as') (b ∷ bs) = is_same_signed a b && is_same_term as' bs
-is_same_term _ _ = false
+is_same_term = pointwise is_same_signed
 
 abbrev pub is_same_words : WordsLeaf → WordsLeaf → Bool
 is_same_words (words.Fixed a) (words.Fixed b) = bytes_eq a b

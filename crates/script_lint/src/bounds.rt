@@ -3,7 +3,7 @@ ghost use Rattle.std.specs.Prelude.{◌≡◌, ◌+ℤ◌, ◌-ℤ◌, pos, None
 ghost use Rattle.join_base.specs.declared.message.Relation.TheVariants.{LessEqual, GreaterEqual};
 ghost use Rattle.guard_eval.specs.Meaning.{has_some, term_needs};
 ghost use Rattle.guard_eval.specs.Shape.{atom_condition, conjunct_condition};
-ghost use Rattle.script_lint.specs.Bounds.{bound_between, bound_by, bound_of, bound_of_atom, cut, cut_by, fixed_sum, holds_throughout, interval_of, is_empty, is_same_place, lone_field, only_atom, over, under, whole};
+ghost use Rattle.script_lint.specs.Bounds.{bound_between, bound_by, bound_of, bound_of_atom, cut, cut_by, fixed_sum, holds_throughout, interval_of, is_empty, lone_field, only_atom, over, under, whole};
 
 use guard_eval::{Atom, Conjunct, ConjunctList, Leaf, Operand, Place, Signed, Term, sum, turned};
 use join_base::{Message, Numbers, Relation, Slots};
@@ -121,12 +121,6 @@ pub fn bound_of(conjunct: &Conjunct) -> Option<Bound>
     }
 }
 
-pub fn is_same_place(first: Place, second: Place) -> bool
-    ensures { result ≡ is_same_place first second }
-{
-    first.pattern == second.pattern && first.field == second.field
-}
-
 impl Interval {
     // The integers of 64 bits.
     fn whole() -> Interval
@@ -210,9 +204,7 @@ impl Interval {
         ensures { result ≡ cut_by place self bound }
     {
         match bound {
-            Some(bound) if is_same_place(bound.place, place) => {
-                self.cut(bound.relation, bound.number)
-            }
+            Some(bound) if bound.place == place => self.cut(bound.relation, bound.number),
             _ => self,
         }
     }

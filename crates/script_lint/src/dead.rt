@@ -4,7 +4,7 @@ ghost use Rattle.guard_eval.specs.Shape.{atom_condition, conjunct_condition};
 ghost use Rattle.script_lint.specs.Bounds.{bound_of};
 ghost use Rattle.script_lint.specs.Findings.{fixes_otherwise, fixing_by, fixing_of, fixing_of_atom, is_contradicted, is_dead, is_emptied, is_excluded, is_narrow};
 
-use crate::bounds::{bound_of, interval_of, is_same_place, only_atom};
+use crate::bounds::{bound_of, interval_of, only_atom};
 use crate::constant::is_always_false;
 use guard_eval::{Atom, Conjunct, ConjunctList, Operand, Place, WordsLeaf};
 use join_base::{Relation, Text};
@@ -48,7 +48,7 @@ fn fixes_otherwise(place: Place, text: &Text, conjunct: &Conjunct) -> bool
     ensures { result ≡ fixes_otherwise (place, text.now) (fixing_of (conjunct_condition conjunct.now)) }
 {
     match fixing_of(conjunct) {
-        Some((other, words)) => is_same_place(place, other) && text.bytes() != words.bytes(),
+        Some((other, words)) => place == other && text.bytes() != words.bytes(),
         None => false,
     }
 }

@@ -1,68 +1,16 @@
 //! Whether two conjuncts are equal.
 ghost use Rattle.std.specs.Prelude.{◌≡◌};
 ghost use Rattle.guard_eval.specs.Shape.{atom_condition, atoms_condition, conjunct_condition};
-ghost use Rattle.script_lint.specs.Same.{is_same, is_same_leaf, is_same_operand, is_same_relation, is_same_signed, is_same_term, is_same_words, rank};
+ghost use Rattle.script_lint.specs.Same.{is_same, is_same_operand, is_same_words};
 
-use crate::bounds::is_same_place;
-use guard_eval::{Atom, Conjunct, Leaf, Operand, Signed, WordsLeaf};
-use join_base::Relation;
-
-fn rank(relation: Relation) -> u8
-    ensures { result ≡ rank relation }
-{
-    match relation {
-        Relation::Equal => 0,
-        Relation::NotEqual => 1,
-        Relation::Less => 2,
-        Relation::LessEqual => 3,
-        Relation::Greater => 4,
-        Relation::GreaterEqual => 5,
-    }
-}
-
-fn is_same_relation(first: Relation, second: Relation) -> bool
-    ensures { result ≡ is_same_relation first second }
-{
-    rank(first) == rank(second)
-}
-
-fn is_same_leaf(first: Leaf, second: Leaf) -> bool
-    ensures { result ≡ is_same_leaf first second }
-{
-    match (first, second) {
-        (Leaf::Number(n), Leaf::Number(m)) => n == m,
-        (Leaf::Field(p), Leaf::Field(q)) => is_same_place(p, q),
-        _ => false,
-    }
-}
-
-fn is_same_signed(first: Signed, second: Signed) -> bool
-    ensures { result ≡ is_same_signed first second }
-{
-    first.minus == second.minus && is_same_leaf(first.leaf, second.leaf)
-}
-
-fn is_same_term(first: &[Signed], second: &[Signed]) -> bool
-    ensures { result ≡ is_same_term first.now second.now }
-{
-    match first {
-        [] => match second {
-            [] => true,
-            [_, ..] => false,
-        },
-        [a, more @ ..] => match second {
-            [] => false,
-            [b, others @ ..] => is_same_signed(*a, *b) && is_same_term(more, others),
-        },
-    }
-}
+use guard_eval::{Atom, Conjunct, Operand, WordsLeaf};
 
 fn is_same_words(first: &WordsLeaf, second: &WordsLeaf) -> bool
     ensures { result ≡ is_same_words first.now second.now }
 {
     match (first, second) {
         (WordsLeaf::Fixed(a), WordsLeaf::Fixed(b)) => a.bytes() == b.bytes(),
-        (WordsLeaf::Field(p), WordsLeaf::Field(q)) => is_same_place(*p, *q),
+        (WordsLeaf::Field(p), WordsLeaf::Field(q)) => *p == *q,
         _ => false,
     }
 }
@@ -71,7 +19,7 @@ fn is_same_operand(first: &Operand, second: &Operand) -> bool
     ensures { result ≡ is_same_operand first.now second.now }
 {
     match (first, second) {
-        (Operand::Sum(a), Operand::Sum(b)) => is_same_term(a.leaves(), b.leaves()),
+        (Operand::Sum(a), Operand::Sum(b)) => a.leaves() == b.leaves(),
         (Operand::Words(a), Operand::Words(b)) => is_same_words(a, b),
         _ => false,
     }
@@ -95,7 +43,7 @@ fn is_same_atom(first: &Atom, second: &Atom) -> bool
             },
         ) => {
             is_same_operand(left, other_left)
-                && is_same_relation(*relation, *other_relation)
+                && *relation == *other_relation
                 && is_same_operand(right, other_right)
         }
         (Atom::Not(a), Atom::Not(b)) => is_same_atom(a, b),
