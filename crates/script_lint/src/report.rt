@@ -58,10 +58,8 @@ fn push_actors(found: &mut Items<Finding>, actors: &[ActorPlan]) -> Result<(), N
     requires rules { AllByRecursion HasFewRules actors.now }
     ensures { OnOk result (found.new ≡ found.old ++ findings_from 0 actors.now) }
 {
-    let mut number = 0;
-    for actor in actors {
-        push_rules(found, number, actor.rules.as_slice())?;
-        number += 1;
+    for (number, actor) in actors.iter().enumerate() {
+        push_rules(found, number as u32, actor.rules.as_slice())?;
     }
     Ok(())
 }
@@ -108,10 +106,8 @@ fn push_actors_kinds(taken: &mut Items<u32>, actors: &[ActorPlan]) -> Result<(),
     requires rules { AllByRecursion HasFewRules actors.now }
     ensures { OnOk result (taken.new ≡ taken.old ++ kinds_from 0 actors.now) }
 {
-    let mut number = 0;
-    for actor in actors {
-        push_rules_kinds(taken, number, actor.rules.as_slice())?;
-        number += 1;
+    for (number, actor) in actors.iter().enumerate() {
+        push_rules_kinds(taken, number as u32, actor.rules.as_slice())?;
     }
     Ok(())
 }
@@ -132,12 +128,11 @@ fn push_idle(found: &mut Items<Finding>, taken: &[u32], kinds: &[Kind]) -> Resul
     requires { length kinds.now ≤ 64 }
     ensures { OnOk result (found.new ≡ found.old ++ idle_from taken.now 0 kinds.now) }
 {
-    let mut kind = 0;
-    for _kind in kinds {
+    for (place, _kind) in kinds.iter().enumerate() {
+        let kind = place as u32;
         if !contains_number(taken, kind) {
             found.push(Finding::Idle { kind })?;
         }
-        kind += 1;
     }
     Ok(())
 }

@@ -79,12 +79,10 @@ pub fn first_shadow(earlier: &[Rule], definition: &Definition) -> Option<u32>
     requires { length earlier.now ≤ 16 }
     ensures { result ≡ first_shadow 1 earlier.now definition.now }
 {
-    let mut number = 1;
-    for rule in earlier {
+    for (place, rule) in earlier.iter().enumerate() {
         if shadows(&rule.definition, definition) {
-            return Some(number);
+            return Some(place as u32 + 1);
         }
-        number += 1;
     }
     None
 }

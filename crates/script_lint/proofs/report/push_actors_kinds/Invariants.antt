@@ -5,9 +5,8 @@ use Rattle.script_lint.specs.Findings.{kinds_from}
 use Rattle.script_lint.proofs.report.push_actors_kinds.Given as goal
 
 -- what is listed, and what the actors that are left give
-abbrev pub invariant-loop-actor : goal.invariant-loop-actor
-invariant-loop-actor l = record {
-  told : l.taken ++ kinds_from l.number (drop l.actor-index l.actors) ≡ l.fn.taken ++ kinds_from 0 l.actors;
-  number : l.number ≡ l.actor-index;
-  rules : AllByRecursion HasFewRules (drop l.actor-index l.actors);
+abbrev pub invariant-loop-number : goal.invariant-loop-number
+invariant-loop-number l = record {
+  told : l.taken ++ kinds_from l.number (drop l.number l.actors) ≡ l.fn.taken ++ kinds_from 0 l.actors;
+  rules : AllByRecursion HasFewRules (drop l.number l.actors);
 }
