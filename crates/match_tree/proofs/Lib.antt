@@ -1,3 +1,4 @@
+pub mod Examples
 pub mod SlotsLemmas
 pub mod TakeLemmas
 pub mod TakenLemmas

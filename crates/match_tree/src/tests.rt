@@ -390,6 +390,7 @@ fn arrivals_fire_the_least_match_or_are_kept(rt: HostRuntime) -> Result<(), Fail
             Blank::new(1)
         )?
     );
+    // How often the last of these is tried is computed in proofs/Examples.
     let one = [brings(0, 1), brings(0, 2), brings(0, 3), brings(1, 7)];
     assert!(rt;
         gives::<Brand>(
