@@ -138,15 +138,6 @@ firing_of rules letters None = None
 firing_of rules letters (Some chosen) =
     Some record { rule = chosen.rule; taken = chosen.taken; effects = effects_of letters chosen.taken (body_at rules chosen.rule) }
 
-abbrev pub live_after : List ℕ → Option Candidate → List ℕ
-live_after live None = live
-live_after live (Some chosen) = without live chosen.taken
-
--- how a step comes out that meets no limit
-abbrev pub outcome_of : Option Candidate → Outcome
-outcome_of None = outcome.Kept
-outcome_of (Some chosen) = outcome.Fired
-
 -- the choice fires: its numbers leave, and the body runs
 abbrev pub fired_step : Setting → Arrival → Candidate → Stepped
 fired_step setting arrival chosen =

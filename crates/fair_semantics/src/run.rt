@@ -21,7 +21,8 @@ pub enum Outcome {
     Late,
     /// The message was kept, and the actor ended: it would have kept too many partial matches.
     Jammed,
-    /// The actor was full, or the message did not fit: the actor ended, and the message was counted as late.
+    /// The actor was full, the message did not fit, or no stamp was left: the actor ended, and the message was counted
+    /// as late.
     Spent,
 }
 
