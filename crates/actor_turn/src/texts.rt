@@ -88,7 +88,7 @@ fn body_texts(body: &Items<Statement>)
     }
 }
 
-/// Every fixed text of the rules is UTF-8 of at most 120 bytes.
+/// Every fixed text of the rules is UTF-8 of at most 120 bytes, and every number in a printed sum is of 64 bits.
 pub fn rule_texts(rules: &Items<Rule>)
     ensures { AllByRecursion RuleFits rules.now }
 {
