@@ -19,8 +19,8 @@ fn words_of(alloc: Global, texts: &[&str]) -> Result<WordList, NoMemory> {
     Ok(words)
 }
 
-// The bytes of a file. `None` where it can't be read.
-fn held_by<R: Files>(rt: &R, alloc: Global, name: &str) -> Result<Option<Bytes>, NoMemory> {
+/// The bytes of a file. `None` where it can't be read.
+pub fn held_by<R: Files>(rt: &R, alloc: Global, name: &str) -> Result<Option<Bytes>, NoMemory> {
     match FileInputs::new(rt).fetch(alloc, name, ROOM) {
         Ok(bytes) => Ok(Some(bytes)),
         Err(FetchFault::NoMemory) => Err(NoMemory),
@@ -28,8 +28,8 @@ fn held_by<R: Files>(rt: &R, alloc: Global, name: &str) -> Result<Option<Bytes>,
     }
 }
 
-// Carries out the words, and gives the status and what was written.
-fn answer_to<R: Files + Threads + Wait + Sync>(
+/// Carries out the words, and gives the status and what was written.
+pub fn answer_to<R: Files + Threads + Wait + Sync>(
     rt: &R,
     alloc: Global,
     texts: &[&str],

@@ -1,5 +1,6 @@
 //! What a person is told.
 use crate::place::{begins_character, line_around, line_start, place_of};
+use crate::refusal::{Refused, read_refusal};
 use crate::row::row_at;
 use crate::sentence::{feed_sentence, log_sentence, script_sentence};
 use join_base::{Bytes, NoMemory, write_number};
@@ -45,6 +46,15 @@ fn push_shown(out: &mut Bytes, bytes: &[u8]) -> Result<(), NoMemory> {
         out.push_all(&[shown])?;
     }
     Ok(())
+}
+
+// Appends the name of a file. One without a sign would not be seen.
+fn push_name(out: &mut Bytes, name: &str) -> Result<(), NoMemory> {
+    if name.is_empty() {
+        out.push_all(b"\"\"")
+    } else {
+        push_shown(out, name.as_bytes())
+    }
 }
 
 // Appends a line that is indented.
@@ -98,8 +108,8 @@ fn push_script_cause(out: &mut Bytes, cause: &[u8], rest: &[u8]) -> Result<(), N
     Ok(())
 }
 
-/// What is told of a script with a fault at this place: file, line, column, cause, and the line with a mark.
-pub fn script_note(
+// What is told of a script with a fault at this place: file, line, column, cause, and the line with a mark.
+fn script_note(
     alloc: Global,
     name: &str,
     text: &[u8],
@@ -112,7 +122,7 @@ pub fn script_note(
     let (front, back) = line_around(text, at);
     let front = end_of(front, MAX_FRONT);
     let mut out = Bytes::new(alloc);
-    push_shown(&mut out, name.as_bytes())?;
+    push_name(&mut out, name)?;
     out.push_all(b":")?;
     write_number(&mut out, found.line as i128)?;
     out.push_all(b":")?;
@@ -130,15 +140,15 @@ pub fn script_note(
 // The beginning of a note on a numbered part of a file.
 fn part_note(alloc: Global, name: &str, part: &[u8], number: u64) -> Result<Bytes, NoMemory> {
     let mut out = Bytes::new(alloc);
-    push_shown(&mut out, name.as_bytes())?;
+    push_name(&mut out, name)?;
     out.push_all(part)?;
     write_number(&mut out, i128::from(number))?;
     out.push_all(b": ")?;
     Ok(out)
 }
 
-/// What is told of a feed with a row in fault: file, row, cause, and the row.
-pub fn feed_note(
+// What is told of a feed with a row in fault: file, row, cause, and the row.
+fn feed_note(
     alloc: Global,
     name: &str,
     text: &[u8],
@@ -152,8 +162,8 @@ pub fn feed_note(
     Ok(out)
 }
 
-/// What is told of a log with a line in fault: file, line, cause, and the line, where the log has it.
-pub fn log_note(
+// What is told of a log with a line in fault: file, line, cause, and the line, where the log has it.
+fn log_note(
     alloc: Global,
     name: &str,
     text: &[u8],
@@ -176,10 +186,26 @@ pub fn log_note(
     Ok(out)
 }
 
+/// What is told of the file that a written line refuses, by its name and its bytes. Nothing where the line refuses neither a script
+/// nor a feed nor a log.
+pub fn refusal_note(
+    alloc: Global,
+    name: &str,
+    text: &[u8],
+    line: &[u8],
+) -> Result<Bytes, NoMemory> {
+    match read_refusal(line) {
+        Some(Refused::Script { place, cause }) => script_note(alloc, name, text, place, cause),
+        Some(Refused::Feed { row, cause }) => feed_note(alloc, name, text, row, cause),
+        Some(Refused::Log { line, cause }) => log_note(alloc, name, text, line, cause),
+        None => Ok(Bytes::new(alloc)),
+    }
+}
+
 /// What is told of a file that could not be read, with the words of the system.
 pub fn read_note(alloc: Global, name: &str, why: &str) -> Result<Bytes, NoMemory> {
     let mut out = Bytes::new(alloc);
-    push_shown(&mut out, name.as_bytes())?;
+    push_name(&mut out, name)?;
     out.push_all(b": ")?;
     out.push_all(why.as_bytes())?;
     out.push_all(b"\n")?;
@@ -189,7 +215,7 @@ pub fn read_note(alloc: Global, name: &str, why: &str) -> Result<Bytes, NoMemory
 /// What is told of a file that has more bytes than are read.
 pub fn long_note(alloc: Global, name: &str, max: u64) -> Result<Bytes, NoMemory> {
     let mut out = Bytes::new(alloc);
-    push_shown(&mut out, name.as_bytes())?;
+    push_name(&mut out, name)?;
     out.push_all(b": more than ")?;
     write_number(&mut out, i128::from(max))?;
     out.push_all(b" bytes\n")?;

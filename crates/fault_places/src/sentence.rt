@@ -2,12 +2,12 @@
 
 /// The commands with their words.
 pub const USAGE: &[u8] = b"usage:
-  run SCRIPT FEED..  prints the log of the script's run on 1 to 16 feeds [--workers N] [--ring N] [--arrivals N] [--partials N],
-                     at most 64 workers, 4096 places of a link, and 1000000 arrivals and partial matches
-  check SCRIPT       prints the plan of the script
-  replay SCRIPT LOG  checks a log against its script
-  lint SCRIPT        lists the definitions of the script that can never fire
-  load N             runs a building of its own on N rows for each of four halls, N from 1 to 20000
+  run SCRIPT FEED.. [--workers N] [--ring N] [--arrivals N] [--partials N]
+  check SCRIPT
+  lint SCRIPT
+  replay SCRIPT LOG
+  load N
+docs/LANGUAGE.md has the ranges
 ";
 
 pub const NO_MEMORY: &[u8] = b"joinactors: there was not enough memory\n";
@@ -15,15 +15,21 @@ pub const NO_MEMORY: &[u8] = b"joinactors: there was not enough memory\n";
 /// Why a script is refused, and whether the word at the place belongs behind it.
 pub fn script_sentence(cause: &[u8]) -> (&'static [u8], bool) {
     match cause {
-        b"NotText" => (b"from here on the file is no UTF-8", false),
-        b"BadToken" => (b"no word, number, text or sign begins here", false),
+        b"NotText" => (b"from here on the file is not UTF-8", false),
+        b"BadToken" => (
+            b"no word, number, text or sign begins here, or it is too long",
+            false,
+        ),
         b"BadSyntax" => (b"a script doesn't go on like this", false),
-        b"TooMany" => (b"here is one more than there may be", false),
+        b"TooMany" => (
+            b"this is one more than the limit (docs/LANGUAGE.md, Limits)",
+            false,
+        ),
         b"TwiceDeclared" => (b"there is an earlier declaration of the name", true),
         b"UnknownMessage" => (b"no message has the name", true),
         b"UnknownActor" => (b"no actor has the name", true),
         b"UnknownName" => (b"no variable of this definition has the name", true),
-        b"WrongCount" => (b"there is another number of fields in the message", true),
+        b"WrongCount" => (b"the number of fields is not that of the message", true),
         b"WrongType" => (
             b"an int stands where a text is wanted, or a text where an int is",
             false,
@@ -43,9 +49,9 @@ pub fn feed_sentence(cause: &[u8]) -> &'static [u8] {
     match cause {
         b"UnknownActor" => b"the first field is no actor's name",
         b"UnknownMessage" => b"the second field is no message's name",
-        b"WrongCount" => b"the message has another number of fields",
-        b"BadInt" => b"a field of type int is no whole number of 64 bits",
-        b"NotText" => b"a field of type text is no UTF-8",
+        b"WrongCount" => b"the row has not as many fields as its message, or names no message",
+        b"BadInt" => b"a field of type int is not a whole number of 64 bits, written like 7 or -7",
+        b"NotText" => b"a field of type text is not UTF-8",
         b"TooLong" => b"a field of type text has more than 120 bytes",
         _ => b"refused",
     }

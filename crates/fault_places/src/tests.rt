@@ -1,8 +1,276 @@
 //! What is told, for each sort of refusal.
-use crate::note::{feed_note, log_note, long_note, read_note, script_note, write_note};
+use crate::note::{long_note, read_note, refusal_note, write_note};
 use crate::place::{Place, line_start, place_of};
 use crate::refusal::{Refused, read_refusal};
+use crate::sentence::{NO_MEMORY, USAGE};
+use join_base::Bytes;
+use std::alloc::Global;
+use std::process::Abort;
 use std::test::Fail;
+
+// A file named `home`, the line that is written of it, and what a person is told.
+type Told = (&'static [u8], &'static [u8], &'static [u8]);
+
+// Every cause of a script.
+const SCRIPTS: &[Told] = &[
+    (
+        b"message \xFF",
+        b"refused script 8 NotText\n",
+        b"home:1:9: NotText: from here on the file is not UTF-8
+    message \xFF
+            ^
+",
+    ),
+    (
+        b"message a(x: int) actor m { when a(x) if x = 1 { } }",
+        b"refused script 43 BadToken\n",
+        b"home:1:44: BadToken: no word, number, text or sign begins here, or it is too long
+    message a(x: int) actor m { when a(x) if x = 1 { } }
+                                               ^
+",
+    ),
+    (
+        b"message a(x: int) actor m { when a(x) & { } }",
+        b"refused script 40 BadSyntax\n",
+        b"home:1:41: BadSyntax: a script doesn't go on like this
+    message a(x: int) actor m { when a(x) & { } }
+                                            ^
+",
+    ),
+    (
+        b"message a(x: int)",
+        b"refused script 17 BadSyntax\n",
+        b"home:1:18: BadSyntax: the script ends too early
+    message a(x: int)
+                     ^
+",
+    ),
+    (
+        b"message a(x: int) actor m { when a(x1) & a(x2) & a(x3) & a(x4) & a(x5) & a(x6) & a(x7) & a(x8) & a(x9) { } }",
+        b"refused script 97 TooMany\n",
+        b"home:1:98: TooMany: this is one more than the limit (docs/LANGUAGE.md, Limits)
+    message a(x: int) actor m { when a(x1) & a(x2) & a(x3) & a(x4) & a(x5) & a(x6) & a(x7) & a(x8) & a(x9) { } }
+                                                                                                     ^
+",
+    ),
+    (
+        b"message a(x: int) actor m { when a(x) & a(x) { } }",
+        b"refused script 42 TwiceDeclared\n",
+        b"home:1:43: TwiceDeclared: there is an earlier declaration of the name x
+    message a(x: int) actor m { when a(x) & a(x) { } }
+                                              ^
+",
+    ),
+    (
+        b"message a(x: int) actor m { when b(x) { } }",
+        b"refused script 33 UnknownMessage\n",
+        b"home:1:34: UnknownMessage: no message has the name b
+    message a(x: int) actor m { when b(x) { } }
+                                     ^
+",
+    ),
+    (
+        b"message a(x: int) actor m { when a(x) { post n a(x); } }",
+        b"refused script 45 UnknownActor\n",
+        b"home:1:46: UnknownActor: no actor has the name n
+    message a(x: int) actor m { when a(x) { post n a(x); } }
+                                                 ^
+",
+    ),
+    (
+        b"message a(x: int) actor m { when a(x) if rom == 1 { } }",
+        b"refused script 41 UnknownName\n",
+        b"home:1:42: UnknownName: no variable of this definition has the name rom
+    message a(x: int) actor m { when a(x) if rom == 1 { } }
+                                             ^
+",
+    ),
+    (
+        b"message a(x: int) actor m { when a(x, y) { } }",
+        b"refused script 33 WrongCount\n",
+        b"home:1:34: WrongCount: the number of fields is not that of the message a
+    message a(x: int) actor m { when a(x, y) { } }
+                                     ^
+",
+    ),
+    (
+        b"message a(x: int) actor m { when a(x) if x == \"k\" { } }",
+        b"refused script 46 WrongType\n",
+        b"home:1:47: WrongType: an int stands where a text is wanted, or a text where an int is
+    message a(x: int) actor m { when a(x) if x == \"k\" { } }
+                                                  ^
+",
+    ),
+    (
+        b"message a(x: int) actor m { when a(x) { stop; stop; } }",
+        b"refused script 40 StopNotLast\n",
+        b"home:1:41: StopNotLast: stop has to be the last statement of its body
+    message a(x: int) actor m { when a(x) { stop; stop; } }
+                                            ^
+",
+    ),
+    (
+        b"message a(x: int) actor m { when a(x) within 0 { } }",
+        b"refused script 45 BadWindow\n",
+        b"home:1:46: BadWindow: the number of a window is from 1 to 1000000
+    message a(x: int) actor m { when a(x) within 0 { } }
+                                                 ^
+",
+    ),
+    (
+        b"message a(x: int) actor m { when a(x) { reply 2 x; } }",
+        b"refused script 46 BadReply\n",
+        b"home:1:47: BadReply: no pattern has this number, or the body has replied to it before
+    message a(x: int) actor m { when a(x) { reply 2 x; } }
+                                                  ^
+",
+    ),
+    (
+        b"message a(x: int)\nactor m {\n\twhen a(\xC3\xA4) if rooom == x {\n\t}\n}\n",
+        b"refused script 43 UnknownName\n",
+        b"home:3:15: UnknownName: no variable of this definition has the name rooom\n    \twhen a(\xC3\xA4) if rooom == x {\n    \t             ^\n",
+    ),
+    (
+        b"message a(x: int)\nactor m {\n  when",
+        b"refused script 34 BadSyntax\n",
+        b"home:3:7: BadSyntax: the script ends too early
+      when
+          ^
+",
+    ),
+    (
+        b"message a(x: int)\nactor m\n",
+        b"refused script 26 BadSyntax\n",
+        b"home:3:1: BadSyntax: the script ends too early
+    
+    ^
+",
+    ),
+];
+
+// Rows with quotes, empty lines, and ends of each sort, behind a byte order mark.
+const ROWS: &[u8] = b"\xEF\xBB\xBFm,a,1\r\n\r\n\"m\",say,\"one\n\"\"two\"\"\"\n\n\nm,a,x\rm,b";
+
+// Every cause of a feed, and rows of all forms.
+const FEEDS: &[Told] = &[
+    (
+        b"x,a,1\n",
+        b"refused feed 1 row 1 UnknownActor\n",
+        b"home: row 1: UnknownActor: the first field is no actor's name
+    x,a,1
+",
+    ),
+    (
+        b"m,z,1\n",
+        b"refused feed 1 row 1 UnknownMessage\n",
+        b"home: row 1: UnknownMessage: the second field is no message's name
+    m,z,1
+",
+    ),
+    (
+        b"m\n",
+        b"refused feed 1 row 1 WrongCount\n",
+        b"home: row 1: WrongCount: the row has not as many fields as its message, or names no message
+    m
+",
+    ),
+    (
+        b"m,a\n",
+        b"refused feed 1 row 1 WrongCount\n",
+        b"home: row 1: WrongCount: the row has not as many fields as its message, or names no message
+    m,a
+",
+    ),
+    (
+        b"m,a,+1\n",
+        b"refused feed 1 row 1 BadInt\n",
+        b"home: row 1: BadInt: a field of type int is not a whole number of 64 bits, written like 7 or -7
+    m,a,+1
+",
+    ),
+    (
+        b"m,say,\xFF\n",
+        b"refused feed 1 row 1 NotText\n",
+        b"home: row 1: NotText: a field of type text is not UTF-8
+    m,say,\xFF
+",
+    ),
+    (
+        b"m,say,and so on\n",
+        b"refused feed 1 row 1 TooLong\n",
+        b"home: row 1: TooLong: a field of type text has more than 120 bytes
+    m,say,and so on
+",
+    ),
+    (
+        ROWS,
+        b"refused feed 2 row 1 BadInt\n",
+        b"home: row 1: BadInt: a field of type int is not a whole number of 64 bits, written like 7 or -7
+    m,a,1
+",
+    ),
+    (
+        ROWS,
+        b"refused feed 2 row 2 BadInt\n",
+        b"home: row 2: BadInt: a field of type int is not a whole number of 64 bits, written like 7 or -7
+    \"m\",say,\"one \"\"two\"\"\"
+",
+    ),
+    (
+        ROWS,
+        b"refused feed 2 row 3 BadInt\n",
+        b"home: row 3: BadInt: a field of type int is not a whole number of 64 bits, written like 7 or -7
+    m,a,x
+",
+    ),
+    (
+        ROWS,
+        b"refused feed 2 row 4 BadInt\n",
+        b"home: row 4: BadInt: a field of type int is not a whole number of 64 bits, written like 7 or -7
+    m,b
+",
+    ),
+    (
+        ROWS,
+        b"refused feed 2 row 5 BadInt\n",
+        b"home: row 5: BadInt: a field of type int is not a whole number of 64 bits, written like 7 or -7
+    
+",
+    ),
+];
+
+// Every cause of a log, and lines that refuse no part of a file.
+const LOGS: &[Told] = &[
+    (
+        b"joinlog 2 arrivals 5 partials 6 feeds 1\nactor m\n01 at 1 from feed 1 a(7)\nend running left 1 partials 1\n",
+        b"refused log line 3 LogFault\n",
+        b"home:3: LogFault: no log of this script goes on like this
+    01 at 1 from feed 1 a(7)
+",
+    ),
+    (
+        b"joinlog 2 arrivals 5 partials 6 feeds 1\nactor m\n1 at 1 from feed 1 a(7)\nend running left - partials 1\n",
+        b"refused log line 4 Differs\n",
+        b"home:4: Differs: the actors of this script do something else with these arrivals
+    end running left - partials 1
+",
+    ),
+    (
+        b"joinlog 2 arrivals 5 partials 6 feeds 1\nactor m\n",
+        b"refused log line 3 LogFault\n",
+        b"home:3: LogFault: the log ends too early
+",
+    ),
+    (
+        b"",
+        b"refused log line 1 LogFault\n",
+        b"home:1: LogFault: the log ends too early\n",
+    ),
+    (b"m,a,1\n", b"refused usage\n", b""),
+    (b"m,a,1\n", b"refused file 2 too long\n", b""),
+    (b"m,a,1\n", b"accepted 7\n", b""),
+    (b"m,a,1\n", b"", b""),
+];
 
 #[test]
 fn places_are_counted_in_characters(rt: HostRuntime) {
@@ -68,127 +336,84 @@ fn refusals_are_read(rt: HostRuntime) {
     }
 }
 
+fn check_told<R: Abort>(rt: &R, alloc: Global, cases: &[Told]) -> Result<(), Fail> {
+    for (text, line, want) in cases {
+        let note = refusal_note(alloc, "home", text, line)?;
+        assert_eq!(rt; note.bytes(), *want);
+    }
+    Ok(())
+}
+
 #[test]
 fn faults_of_a_script_are_told(rt: HostRuntime) -> Result<(), Fail> {
-    let alloc = rt.alloc();
-    let text = b"message a(x: int)\nactor m {\n\twhen a(\xC3\xA4) if rooom == x {\n\t}\n}\n";
-    let cases: [(u64, &[u8], &[u8]); 4] = [
-        (
-            43,
-            b"UnknownName",
-            b"home.join:3:15: UnknownName: no variable of this definition has the name rooom\n    \twhen a(\xC3\xA4) if rooom == x {\n    \t             ^\n",
-        ),
-        (
-            36,
-            b"BadToken",
-            b"home.join:3:9: BadToken: no word, number, text or sign begins here\n    \twhen a(\xC3\xA4) if rooom == x {\n    \t       ^\n",
-        ),
-        (
-            63,
-            b"BadSyntax",
-            b"home.join:6:1: BadSyntax: the script ends too early\n    \n    ^\n",
-        ),
-        (
-            26,
-            b"BadSyntax",
-            b"home.join:2:9: BadSyntax: a script doesn't go on like this\n    actor m {\n            ^\n",
-        ),
-    ];
-    for (place, cause, want) in cases {
-        let note = script_note(alloc, "home.join", text.as_slice(), place, cause)?;
-        assert_eq!(rt; note.bytes(), want, "at {place}");
-    }
-    Ok(())
+    check_told(&rt, rt.alloc(), SCRIPTS)
 }
 
-// The messages that the guide prints, in its first step and its seventh.
-#[test]
-fn the_guide_shows_what_is_told(rt: HostRuntime) -> Result<(), Fail> {
-    let alloc = rt.alloc();
-    let seventh =
-        b"message motion(room: text, time: int)\nmessage light(room: text, lux: int, time: int)\n\nactor home {\n  when motion(where, seen) & light(room, lux, read) if where == rom {\n    print \"motion in \" room \", light \" lux;\n  }\n}\n";
-    let cases: [(&[u8], u64, &[u8], &[u8]); 2] = [
-        (
-            b"",
-            0,
-            b"BadSyntax",
-            b"home.join:1:1: BadSyntax: the script ends too early\n    \n    ^\n",
-        ),
-        (
-            seventh.as_slice(),
-            163,
-            b"UnknownName",
-            b"home.join:5:65: UnknownName: no variable of this definition has the name rom\n      when motion(where, seen) & light(room, lux, read) if where == rom {\n                                                                    ^\n",
-        ),
-    ];
-    for (script, place, cause, want) in cases {
-        let note = script_note(alloc, "home.join", script, place, cause)?;
-        assert_eq!(rt; note.bytes(), want, "at {place}");
-    }
-    Ok(())
-}
-
-// Rows with quotes, empty lines, and ends of each sort, behind a byte order mark.
 #[test]
 fn rows_in_fault_are_told(rt: HostRuntime) -> Result<(), Fail> {
+    check_told(&rt, rt.alloc(), FEEDS)
+}
+
+#[test]
+fn lines_in_fault_are_told(rt: HostRuntime) -> Result<(), Fail> {
+    check_told(&rt, rt.alloc(), LOGS)
+}
+
+#[test]
+fn a_long_row_is_cut(rt: HostRuntime) -> Result<(), Fail> {
     let alloc = rt.alloc();
-    let text = b"\xEF\xBB\xBFm,a,1\r\n\r\n\"m\",say,\"one\n\"\"two\"\"\"\n\n\nm,a,x\rm,b";
-    let cases: [(u64, &[u8]); 5] = [
-        (
-            1,
-            b"f: row 1: BadInt: a field of type int is no whole number of 64 bits\n    m,a,1\n",
-        ),
-        (
-            2,
-            b"f: row 2: BadInt: a field of type int is no whole number of 64 bits\n    \"m\",say,\"one \"\"two\"\"\"\n",
-        ),
-        (
-            3,
-            b"f: row 3: BadInt: a field of type int is no whole number of 64 bits\n    m,a,x\n",
-        ),
-        (
-            4,
-            b"f: row 4: BadInt: a field of type int is no whole number of 64 bits\n    m,b\n",
-        ),
-        (
-            5,
-            b"f: row 5: BadInt: a field of type int is no whole number of 64 bits\n    \n",
-        ),
-    ];
-    for (row, want) in cases {
-        let note = feed_note(alloc, "f", text.as_slice(), row, b"BadInt")?;
-        assert_eq!(rt; note.bytes(), want, "at {row}");
-    }
-    let wide = [b'k'; 300];
-    let note = feed_note(alloc, "f", wide.as_slice(), 1, b"UnknownActor")?;
-    assert_eq!(rt; note.bytes().len(), 59 + 4 + 200 + 1);
+    let mut text = Bytes::new(alloc);
+    text.push_all(b"m,say,")?;
+    text.push_all(&[b'k'; 294])?;
+    let mut want = Bytes::new(alloc);
+    want.push_all(
+        b"home: row 1: TooLong: a field of type text has more than 120 bytes\n    m,say,",
+    )?;
+    want.push_all(&[b'k'; 194])?;
+    want.push_all(b"\n")?;
+    let note = refusal_note(
+        alloc,
+        "home",
+        text.bytes(),
+        b"refused feed 1 row 1 TooLong\n",
+    )?;
+    assert_eq!(rt; note.bytes(), want.bytes());
     Ok(())
 }
 
 #[test]
 fn other_faults_are_told(rt: HostRuntime) -> Result<(), Fail> {
     let alloc = rt.alloc();
-    let log = log_note(alloc, "l", b"one\ntwo\n", 2, b"Differs")?;
-    assert_eq!(rt;
-        log.bytes(),
-        b"l:2: Differs: the actors of this script do something else with these arrivals\n    two\n".as_slice()
-    );
-    let ended = log_note(alloc, "l", b"one\ntwo\n", 3, b"LogFault")?;
-    assert_eq!(rt;
-        ended.bytes(),
-        b"l:3: LogFault: the log ends too early\n".as_slice()
-    );
-    let read = read_note(alloc, "f", "No such file or directory (os error 2)")?;
-    assert_eq!(rt;
-        read.bytes(),
-        b"f: No such file or directory (os error 2)\n".as_slice()
-    );
+    let read = read_note(alloc, "f", "Is a directory (os error 21)")?;
+    let unnamed = read_note(alloc, "", "No such file or directory (os error 2)")?;
     let long = long_note(alloc, "f", 16_777_216)?;
-    assert_eq!(rt; long.bytes(), b"f: more than 16777216 bytes\n".as_slice());
     let written = write_note(alloc, "Broken pipe (os error 32)")?;
-    assert_eq!(rt;
-        written.bytes(),
-        b"joinactors: the output could not be written: Broken pipe (os error 32)\n".as_slice()
-    );
+    let cases: [(&[u8], &[u8]); 6] = [
+        (read.bytes(), b"f: Is a directory (os error 21)\n"),
+        (
+            unnamed.bytes(),
+            b"\"\": No such file or directory (os error 2)\n",
+        ),
+        (long.bytes(), b"f: more than 16777216 bytes\n"),
+        (
+            written.bytes(),
+            b"joinactors: the output could not be written: Broken pipe (os error 32)\n",
+        ),
+        (NO_MEMORY, b"joinactors: there was not enough memory\n"),
+        (
+            USAGE,
+            b"usage:
+  run SCRIPT FEED.. [--workers N] [--ring N] [--arrivals N] [--partials N]
+  check SCRIPT
+  lint SCRIPT
+  replay SCRIPT LOG
+  load N
+docs/LANGUAGE.md has the ranges
+",
+        ),
+    ];
+    for (told, want) in cases {
+        assert_eq!(rt; told, want);
+    }
     Ok(())
 }

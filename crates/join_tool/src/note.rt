@@ -1,9 +1,6 @@
 //! What a person is told on standard error. Nothing rests on it: the output and the status stand before.
 use command_words::Request;
-use fault_places::{
-    NO_MEMORY, Refused, USAGE, feed_note, log_note, long_note, read_note, read_refusal,
-    script_note, write_note,
-};
+use fault_places::{NO_MEMORY, USAGE, long_note, read_note, refusal_note, write_note};
 use join_base::{Bytes, Inputs, NoMemory, Word, WordList};
 use join_command::{MAX_FILE, MAX_LOG, Status, command_of, write_all};
 use std::alloc::Global;
@@ -80,14 +77,9 @@ fn read_again(rt: &HostRuntime, name: &str) -> Option<Bytes> {
 
 // What is told of the file whose refusal was written.
 fn refused_note(rt: &HostRuntime, name: &str, line: &[u8]) -> Result<Bytes, NoMemory> {
-    let alloc = rt.alloc();
-    let (Some(refused), Some(text)) = (read_refusal(line), read_again(rt, name)) else {
-        return Ok(Bytes::new(alloc));
-    };
-    match refused {
-        Refused::Script { place, cause } => script_note(alloc, name, text.bytes(), place, cause),
-        Refused::Feed { row, cause } => feed_note(alloc, name, text.bytes(), row, cause),
-        Refused::Log { line, cause } => log_note(alloc, name, text.bytes(), line, cause),
+    match read_again(rt, name) {
+        Some(text) => refusal_note(rt.alloc(), name, text.bytes(), line),
+        None => Ok(Bytes::new(rt.alloc())),
     }
 }
 
