@@ -1,5 +1,5 @@
-//! Runs the program on each example of the documents, and tells whether it prints what the documents show, tells people of a
-//! refusal what they show, and accepts the logs.
+//! Runs the program on each example of the documents, and tells whether it prints what the documents show, tells
+//! people of a refusal what they show, and accepts the logs.
 //!
 //! The examples are the data of this crate, and README.md and the documents under docs/ show them behind marks, where
 //! `.ci/documents` compares them with the files. So no output behind a mark can grow old unseen. Nothing is proved here but that it

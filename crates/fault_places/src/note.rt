@@ -186,8 +186,8 @@ fn log_note(
     Ok(out)
 }
 
-/// What is told of the file that a written line refuses, by its name and its bytes. Nothing where the line refuses neither a script
-/// nor a feed nor a log.
+/// What is told of the file that a written line refuses, by its name and its bytes. Nothing where the line refuses
+/// neither a script nor a feed nor a log.
 pub fn refusal_note(
     alloc: Global,
     name: &str,

@@ -128,7 +128,10 @@ const SCRIPTS: &[Told] = &[
     (
         b"message a(x: int)\nactor m {\n\twhen a(\xC3\xA4) if rooom == x {\n\t}\n}\n",
         b"refused script 43 UnknownName\n",
-        b"home:3:15: UnknownName: no variable of this definition has the name rooom\n    \twhen a(\xC3\xA4) if rooom == x {\n    \t             ^\n",
+        b"home:3:15: UnknownName: no variable of this definition has the name rooom
+    \twhen a(\xC3\xA4) if rooom == x {
+    \t             ^
+",
     ),
     (
         b"message a(x: int)\nactor m {\n  when",
