@@ -7,7 +7,7 @@ ghost use Rattle.pool_settling.specs.Rounds.{AreMembers, Brings, BringsPosts, Ha
 
 use actor_turn::Actor;
 use fair_semantics::ActorRun;
-use join_base::{FeedList, Items, Message, NoMemory, Source, Steps};
+use join_base::{FeedList, Items, Message, NoMemory, Source, Stamped, Steps};
 use std::alloc::Global;
 use std::sync::ledger::Ledger;
 
@@ -74,7 +74,10 @@ fn bring_post<L: Ledger>(
         return Ok(false);
     };
     let source = Source::Actor(sender);
-    actors[target as usize].arrive(alloc, source, &post.message, post.stamp, steps)?;
+    let Stamped { message, stamp } = post;
+    let Ok(_) = actors[target as usize].receive(alloc, source, message, stamp, steps) else {
+        return Err(NoMemory);
+    };
     Ok(true)
 }
 
