@@ -167,8 +167,8 @@ fn request_of<'a>(
 /// give an option of the command its value, each at most once, in any order with the other words; behind `--` each word stands for
 /// itself. Any other word that begins with `-` and is not `-` alone is refused, and so is a number with a sign or out of its range.
 ///
-/// `verbs` and `settings` are the commands and the options that the program has so far: words of any other are no command, and an
-/// option that it has not yet has its usual value.
+/// `verbs` and `settings` are the commands and the options that the program takes, and this crate knows more of them: words
+/// of any other are no command, and an option that the program does not take has its usual value.
 pub fn command_of<'a>(
     alloc: Global,
     verbs: &[Verb],

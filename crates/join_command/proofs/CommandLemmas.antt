@@ -1,4 +1,4 @@
--- Words are a command that is built.
+-- Words are a command that the program takes.
 use Rattle.std.proofs.Common.{◌≡◌, ℕ, Bool, true, false, cond, List, [], ◌∷◌, Option, None, Some, refl, sym, ap, subst}
 use Rattle.std.specs.Prelude.{IfOk, IfSome, Result, Ok, Err, codes}
 use Rattle.std.specs.Option.{option_map, option_and_then}

@@ -5,11 +5,11 @@ use Rattle.command_words.specs.Command as given
 use Rattle.command_words.specs.declared.table.Verb.TheVariants as verb
 use Rattle.command_words.specs.declared.table.Setting.TheVariants as setting
 
--- the command that the words are, if they are one; the commands and the options that are built are these
+-- the command that the words are, if they are one; the program takes these commands and options
 abbrev pub command_of : List (List ℕ) → Option Command
 command_of words = given.command_of (verb.Run ∷ verb.Check ∷ verb.Replay ∷ verb.Lint ∷ verb.Load ∷ []) (setting.Workers ∷ setting.Ring ∷ setting.Arrivals ∷ setting.Partials ∷ []) words
 
--- one of the commands that are built
+-- one of the commands that the program takes
 abbrev pub IsBuilt : Command → Type 0
 IsBuilt (Run run) = Unit {0}
 IsBuilt (Check script) = Unit {0}

@@ -1,4 +1,4 @@
-//! The commands that the program has so far.
+//! The commands and the options that the program takes.
 ghost use Rattle.std.specs.Prelude.{◌≡◌, IfOk, IfSome};
 ghost use Rattle.std.specs.Option.{option_map};
 ghost use Rattle.command_words.specs.Ranges.{IsInRange};
@@ -9,7 +9,8 @@ use command_words::{Request, Setting, Verb};
 use join_base::{NoMemory, WordList};
 use std::alloc::Global;
 
-/// The command that the words are, or none. The commands and the options that are not built yet are left out here.
+/// The command that the words are, or none. This program takes these commands and options. `command_words` knows more of
+/// them, and words of those are no command.
 #[tactic(auto, using(crate::proofs::CommandLemmas::only_built))]
 pub fn command_of<'a>(alloc: Global, words: &'a WordList) -> Result<Option<Request<'a>>, NoMemory>
     ensures command { IfOk result (λ request. option_map command_in request ≡ command_of words.now) }
