@@ -7,6 +7,7 @@ pub mod SectionLemmas
 pub mod FoundLemmas
 pub mod SettledLemmas
 pub mod ReplayLemmas
+pub mod WholeLemmas
 pub mod FaultLemmas
 pub mod Examples
 pub mod BareLemmas

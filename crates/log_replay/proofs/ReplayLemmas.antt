@@ -29,10 +29,10 @@ use Rattle.log_replay.specs.Expected.{bare, expected_run, read_entries, stepped}
 use Rattle.log_replay.specs.Law.{AllRulesFit}
 use Rattle.log_replay.specs.declared.settling.Settlement.{Settlement}
 use Rattle.log_replay.specs.Kept.{entries_size, sections_size}
-use Rattle.log_replay.specs.Settling.{made_run, made_runs}
+use Rattle.log_replay.specs.Settling.{finished_runs, made_run, made_runs, settlements_of}
 use Rattle.log_replay.specs.declared.shared.Shared.{Shared}
 use Rattle.log_replay.specs.Shared.{finished_all, kept, kept_run, kept_runs, settlements_shown, shown, shown_all, shown_run}
-use Rattle.log_replay.proofs.SwapLemmas.{kept_shown, kept_stamps, settled_shown, swap_all}
+use Rattle.log_replay.proofs.SwapLemmas.{kept_shown, kept_stamps, settled_shown, settled_swapped, swap_all}
 use Rattle.std.specs.Prelude.{slice_set}
 use Rattle.std.proofs.lemmas.List.{length-set}
 use Rattle.join_base.specs.declared.message.Stamped.{Stamped}
@@ -109,15 +109,15 @@ less_wait held target (first ∷ posts) post l is some = omega (arith, ap length
 
 -- ---- one actor more
 
-pub runs_next : (plan : Plan) (run : Run) (from n : ℕ) (own : Shared) (done next whole : List Shared) → from < n → own ≡ kept_run plan run from → next ≡ done ++ own ∷ [] → done ++ kept_runs plan run from (n - from) ≡ whole
-    → next ++ kept_runs plan run (from + 1) (n - (from + 1)) ≡ whole
-runs_next plan run from n own done next whole below is more left =
-    let rest : List Shared = kept_runs plan run (from + 1) (n - (from + 1)) in
+pub runs_next : (of : ℕ → Shared) (from n : ℕ) (own : Shared) (done next whole : List Shared) → from < n → own ≡ of from → next ≡ done ++ own ∷ [] → done ++ map of (numbers_from from (n - from)) ≡ whole
+    → next ++ map of (numbers_from (from + 1) (n - (from + 1))) ≡ whole
+runs_next of from n own done next whole below is more left =
+    let rest : List Shared = map of (numbers_from (from + 1) (n - (from + 1))) in
     let count : suc (n - (from + 1)) ≡ n - from = omega arith in
     ap (λ (rs : List Shared). rs ++ rest) more
     ∙ append_assoc done (own ∷ []) rest
     ∙ ap (λ (r : Shared). done ++ r ∷ rest) is
-    ∙ ap (λ (k : ℕ). done ++ kept_runs plan run from k) count
+    ∙ ap (λ (k : ℕ). done ++ map of (numbers_from from k)) count
     ∙ left
 
 pub texts_next : (plan : Plan) (limits : Limits) (index : ℕ) → ((actor : ℕ) → actor < index → RulesFit plan limits actor) → RulesFit plan limits index → (actor : ℕ) → actor < index + 1 → RulesFit plan limits actor
@@ -130,11 +130,8 @@ texts_all plan limits index all each actor =
 
 -- ---- all actors
 
-pub runs_count : (plan : Plan) (run : Run) (n : ℕ) → length (kept_runs plan run 0 n) ≡ n
-runs_count plan run n = length-map (numbers_from 0 n) (kept_run plan run) ∙ count_numbers 0 n
-
-made_count : (plan : Plan) (run : Run) (n : ℕ) → length (made_runs plan run 0 n) ≡ n
-made_count plan run n = length-map (numbers_from 0 n) (made_run plan run) ∙ count_numbers 0 n
+pub runs_count : {X : Type 0} (of : ℕ → X) (n : ℕ) → length (map of (numbers_from 0 n)) ≡ n
+runs_count of n = length-map (numbers_from 0 n) of ∙ count_numbers 0 n
 
 pub settlements_count : (made : List ActorRun) (run : Run) (to : ℕ) (owns : List Shared) (reads : List ActorRun) → length owns ≡ length reads → length (settlements_shown made run to owns reads) ≡ length owns
 settlements_count made run to [] reads same = refl
@@ -161,20 +158,30 @@ kept_bare : (plan : Plan) (run : Run) (ns : List ℕ) → AllByRecursion (λ (s 
 kept_bare plan run [] = tt
 kept_bare plan run (n ∷ ns) = (kept_stamps (read_entries run n) (made_run plan run n), kept_bare plan run ns)
 
--- put together, it is the expected run
-pub replayed : (plan : Plan) (run : Run) (made slice : List Shared) (settlements : List Settlement) (runs : List Shared) → IsTyped plan → RunFits plan run → AllRulesFit plan run.limits → made ≡ kept_runs plan run 0 (length plan.actors) → slice ≡ made
-    → settlements ≡ settlements_shown (shown_all run.actors slice) run 0 slice run.actors → runs ≡ finished_all plan 0 made settlements → shown_run run runs ≡ expected_run plan run
-replayed plan run made slice settlements runs typed fit texts are same by_settlements by_runs =
+-- settled and shown, they are the runs of the fair steps, settled
+abbrev pub SettleAsMade : Plan → Run → List Shared → Type 0
+SettleAsMade plan run made =
+    let owns : List ActorRun = made_runs plan run 0 (length plan.actors) in
+    shown_all run.actors (finished_all plan 0 made (settlements_shown (shown_all run.actors made) run 0 made run.actors)) ≡ finished_runs plan 0 owns (settlements_of owns run 0 owns run.actors)
+
+pub kept_settle : (plan : Plan) (run : Run) (made : List Shared) → RunFits plan run → made ≡ kept_runs plan run 0 (length plan.actors) → SettleAsMade plan run made
+kept_settle plan run made fit are =
     let n : ℕ = length plan.actors in
     let owns : List ActorRun = made_runs plan run 0 n in
-    let many : length owns ≡ length run.actors = made_count plan run n ∙ sym fit.actors in
+    let many : length owns ≡ length run.actors = runs_count (made_run plan run) n ∙ sym fit.actors in
     let swapped : shown_all run.actors made ≡ swap_all run.actors owns =
     ap (shown_all run.actors) are ∙ kept_swapped plan run 0 run.actors n (λ j. let e : 0 + j ≡ j = omega arith in ap (slice_get run.actors) e) in
     let bare_stamps = subst (AllByRecursion (λ (s : Shared). s.stamps ≡ [])) (sym are) (kept_bare plan run (numbers_from 0 n)) in
+    settled_shown plan run (swap_all run.actors owns) made swapped bare_stamps ∙ settled_swapped plan run owns many
+
+-- put together, they are the expected run
+pub replayed : (plan : Plan) (run : Run) (made slice : List Shared) (settlements : List Settlement) (runs : List Shared) → IsTyped plan → RunFits plan run → AllRulesFit plan run.limits → SettleAsMade plan run made → slice ≡ made
+    → settlements ≡ settlements_shown (shown_all run.actors slice) run 0 slice run.actors → runs ≡ finished_all plan 0 made settlements → shown_run run runs ≡ expected_run plan run
+replayed plan run made slice settlements runs typed fit texts settle same by_settlements by_runs =
     let all =
     ap (shown_all run.actors) (by_runs ∙ ap (finished_all plan 0 made) (by_settlements ∙ ap (λ (rs : List Shared). settlements_shown (shown_all run.actors rs) run 0 rs run.actors) same))
-    ∙ settled_shown plan run owns made many swapped bare_stamps
-    ∙ replay_is plan run owns typed fit texts refl (sources_counted plan run fit)
+    ∙ settle
+    ∙ replay_is plan run (made_runs plan run 0 (length plan.actors)) typed fit texts refl (sources_counted plan run fit)
     in λ i. record { version = run.version; limits = run.limits; feeds = run.feeds; actors = all i }
 
 -- ---- arrivals

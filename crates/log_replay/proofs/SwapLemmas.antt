@@ -208,13 +208,15 @@ shown_runs plan to (read ∷ reads) (shared ∷ runs) [] none = refl
 shown_runs plan to (read ∷ reads) (shared ∷ runs) (settlement ∷ settlements) none =
     λ i. shown_finished read shared settlement (definition_count plan to) none.0 i ∷ shown_runs plan (to + 1) reads runs settlements none.1 i
 
--- put together: settled and shown, they are the runs that were made, settled
-pub settled_shown : (plan : Plan) (run : Run) (made : List ActorRun) (runs : List Shared) → length made ≡ length run.actors → shown_all run.actors runs ≡ swap_all run.actors made → AllByRecursion (λ (s : Shared). s.stamps ≡ []) runs
+-- settled and shown, they are the runs that they showed, settled
+pub settled_shown : (plan : Plan) (run : Run) (made : List ActorRun) (runs : List Shared) → shown_all run.actors runs ≡ made → AllByRecursion (λ (s : Shared). s.stamps ≡ []) runs
     → shown_all run.actors (finished_all plan 0 runs (settlements_shown (shown_all run.actors runs) run 0 runs run.actors)) ≡ finished_runs plan 0 made (settlements_of made run 0 made run.actors)
-settled_shown plan run made runs many same none =
-    let settled =
-    as_shown (shown_all run.actors runs) run 0 run.actors runs ∙ ap (λ (rs : List ActorRun). settlements_of rs run 0 rs run.actors) same ∙ swap_settlements made run 0 run.actors made many
-    in
-    shown_runs plan 0 run.actors runs (settlements_shown (shown_all run.actors runs) run 0 runs run.actors) none
-    ∙ (λ i. finished_runs plan 0 (same i) (settled i))
-    ∙ swap_runs plan made run 0 run.actors made
+settled_shown plan run made runs same none =
+    let settled = as_shown (shown_all run.actors runs) run 0 run.actors runs ∙ ap (λ (rs : List ActorRun). settlements_of rs run 0 rs run.actors) same in
+    shown_runs plan 0 run.actors runs (settlements_shown (shown_all run.actors runs) run 0 runs run.actors) none ∙ (λ i. finished_runs plan 0 (same i) (settled i))
+
+-- with the read entries in place of those that are the same, it comes to the same
+pub settled_swapped : (plan : Plan) (run : Run) (made : List ActorRun) → length made ≡ length run.actors
+    → finished_runs plan 0 (swap_all run.actors made) (settlements_of (swap_all run.actors made) run 0 (swap_all run.actors made) run.actors) ≡ finished_runs plan 0 made (settlements_of made run 0 made run.actors)
+settled_swapped plan run made many =
+    ap (finished_runs plan 0 (swap_all run.actors made)) (swap_settlements made run 0 run.actors made many) ∙ swap_runs plan made run 0 run.actors made

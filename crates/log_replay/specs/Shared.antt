@@ -31,11 +31,13 @@ shown_all (read ∷ reads) (shared ∷ runs) = shown read shared ∷ shown_all r
 abbrev pub without_entries : ActorRun → Shared
 without_entries own = record { as_read = true; stamps = []; own = with_entries own [] }
 
+-- a run with the entries that were made
+abbrev pub whole : ActorRun → Shared
+whole own = record { as_read = false; stamps = []; own = own }
+
 -- a run with the entries let go of where they are the read ones but for their stamps
 abbrev pub kept : List Entry → ActorRun → Shared
-kept read own =
-    if same_entries own.entries read then without_entries own
-    else record { as_read = false; stamps = []; own = own }
+kept read own = if same_entries own.entries read then without_entries own else whole own
 
 -- the entries but for their stamps
 abbrev pub plain : ActorRun → Shared → List Entry
@@ -80,6 +82,16 @@ stamp_or (Some stamp) other = stamp
 
 abbrev pub shown_run : Run → List Shared → Run
 shown_run run runs = record run { actors = shown_all run.actors runs }
+
+-- the runs of the fair steps, with all their entries
+abbrev pub whole_run : Plan → Run → ℕ → Shared
+whole_run plan run actor = whole (made_run plan run actor)
+
+abbrev pub whole_runs : Plan → Run → ℕ → ℕ → List Shared
+whole_runs plan run from n = map (whole_run plan run) (numbers_from from n)
+
+abbrev pub own_runs : List Shared → List ActorRun
+own_runs runs = map (λ (shared : Shared). shared.own) runs
 
 -- what is kept of the runs of the fair steps
 abbrev pub kept_run : Plan → Run → ℕ → Shared

@@ -48,7 +48,7 @@ fn replay_beside<L: Ledger>(
 // The run whose log the bytes are, and what its actors make of its arrivals. Where some actor makes something else of them than was
 // read, the bytes are read once more.
 #[tactic(auto, using(crate::proofs::HandedLemmas::handed_is))]
-fn replay<L: Ledger>(
+fn read_and_replay<L: Ledger>(
     alloc: Global,
     plan: &Plan,
     bytes: &[u8],
@@ -82,7 +82,7 @@ pub fn check_log<L: Ledger>(
     requires typed { IsTyped plan.now }
     ensures answer { Checks plan.now bytes.now result }
 {
-    let Replayed { run, made } = match replay(alloc, plan, bytes, steps) {
+    let Replayed { run, made } = match read_and_replay(alloc, plan, bytes, steps) {
         Ok(replayed) => replayed,
         Err(LogFault::Bad { line }) => return Err(LogRefusal::Bad { line }),
         Err(LogFault::NoMemory) => return Err(LogRefusal::NoMemory),
@@ -91,8 +91,9 @@ pub fn check_log<L: Ledger>(
         Ok(expected) => expected,
         Err(NoMemory) => return Err(LogRefusal::NoMemory),
     };
+    let arrivals = arrival_count(&run);
     match first_fault(alloc, plan, bytes, &run, expected.as_slice()) {
-        Ok(None) => Ok(arrival_count(&run)),
+        Ok(None) => Ok(arrivals),
         Ok(Some(line)) => Err(LogRefusal::Differs { line }),
         Err(NoMemory) => Err(LogRefusal::NoMemory),
     }

@@ -48,8 +48,8 @@ pub(crate) fn forget_fired(actor: &mut Actor, outcome: Outcome, count: usize)
     }
 }
 
-// The run that an actor shows behind the fair steps over its read arrivals, without stamps.
-fn made_run<L: Ledger>(
+/// The run that an actor shows behind the fair steps over its read arrivals, without stamps.
+pub(crate) fn made_run<L: Ledger>(
     alloc: Global,
     plan: &Plan,
     run: &Run,

@@ -2,7 +2,7 @@
 ghost use Rattle.std.specs.Prelude.{◌≡◌, slice_get, IfOk};
 ghost use Rattle.run_order.specs.Sorted.{entries_in};
 ghost use Rattle.log_posts.specs.Posts.{posts_made};
-ghost use Rattle.log_replay.specs.Shared.{kept, plain, plain_at, shown_all, without_entries};
+ghost use Rattle.log_replay.specs.Shared.{kept, plain, plain_at, shown_all, whole, without_entries};
 
 use crate::kept::entries_at;
 use fair_semantics::{ActorRun, Entry, Run};
@@ -54,6 +54,17 @@ pub(crate) fn without_entries(alloc: Global, own: ActorRun) -> (Items<Entry>, Sh
     (entries, shared)
 }
 
+// The run with the entries that were made.
+pub(crate) fn whole(alloc: Global, own: ActorRun) -> Shared
+    ensures { result ≡ whole own }
+{
+    Shared {
+        as_read: false,
+        stamps: Items::new(alloc),
+        own,
+    }
+}
+
 // Lets go of the entries where they are the read ones but for their stamps.
 pub(crate) fn kept(alloc: Global, own: ActorRun, read: &[Entry]) -> Shared
     ensures { result ≡ kept read.now own }
@@ -62,11 +73,7 @@ pub(crate) fn kept(alloc: Global, own: ActorRun, read: &[Entry]) -> Shared
         let (_, shared) = without_entries(alloc, own);
         return shared;
     }
-    Shared {
-        as_read: false,
-        stamps: Items::new(alloc),
-        own,
-    }
+    whole(alloc, own)
 }
 
 // The entries but for their stamps.

@@ -2,7 +2,7 @@
 ghost use Rattle.script_types.specs.Typed.{IsTyped};
 
 use crate::answer::answer_to;
-use crate::table::{Line, Log};
+use crate::table::{Line, Log, Other};
 use crate::tally::Tally;
 use join_base::{Bytes, NoMemory};
 use script_types::Plan;
@@ -28,6 +28,26 @@ fn joined(
     push_lines(&mut text, first)?;
     push_lines(&mut text, second)?;
     push_lines(&mut text, third)?;
+    Ok(text)
+}
+
+// The text of the line of this number, or the one in its place.
+fn text_at(number: usize, line: &Line, others: &[Other]) -> &'static str {
+    for (place, other) in others {
+        if *place == number {
+            return *other;
+        }
+    }
+    line.text
+}
+
+/// The lines, each ended by LF, with others in place of those of some numbers.
+pub fn with_others(alloc: Global, lines: &[Line], others: &[Other]) -> Result<Bytes, NoMemory> {
+    let mut text = Bytes::new(alloc);
+    for (place, line) in lines.iter().enumerate() {
+        text.push_all(text_at(place + 1, line, others).as_bytes())?;
+        text.push_all(b"\n")?;
+    }
     Ok(text)
 }
 
@@ -97,16 +117,7 @@ pub fn replaced_lines(
     requires typed { IsTyped plan.now }
 {
     for (number, other, wanted) in log.replaced {
-        let mut text = Bytes::new(alloc);
-        for (place, line) in log.lines.iter().enumerate() {
-            let own = if place + 1 == *number {
-                *other
-            } else {
-                line.text
-            };
-            text.push_all(own.as_bytes())?;
-            text.push_all(b"\n")?;
-        }
+        let text = with_others(alloc, log.lines, &[(*number, *other)])?;
         let found = answer_to(alloc, plan, text.bytes())?;
         tally.count(*number as u64, "replaced", found, *wanted);
     }

@@ -2,12 +2,13 @@
 //!
 //! Each byte of a log is replaced by every other byte, the log is cut behind each byte, each line is dropped, doubled and exchanged
 //! with the next, some are replaced by others, and some whole logs stand for themselves. What each is to come to stands in the
-//! tables, from the form of the lines and from what the actors do, and not from any answer. Nothing is proved here but that it is
-//! safe and ends.
+//! tables, from the form of the lines and from what the actors do, and not from any answer. So does the log of the expected run of each
+//! log, and of some that are changed in a line. Nothing is proved here but that it is safe and ends.
 #![tactic(auto)]
 
 mod answer;
 mod bytes;
+mod expected;
 mod lines;
 mod table;
 mod tally;
@@ -15,6 +16,7 @@ mod whole;
 
 use crate::answer::plan_of;
 use crate::bytes::{changed_bytes, cut_bytes};
+use crate::expected::expected_logs;
 use crate::lines::{doubled_lines, dropped_lines, exchanged_lines, replaced_lines};
 use crate::table::{LOGS, Log};
 use crate::tally::Tally;
@@ -59,5 +61,6 @@ fn main(rt: HostRuntime) -> io::Result<()> {
     for log in LOGS.iter() {
         tell(&rt, log.name, all_changes(rt.alloc(), log))?;
     }
-    tell(&rt, "whole logs", whole_logs(rt.alloc()))
+    tell(&rt, "whole logs", whole_logs(rt.alloc()))?;
+    tell(&rt, "expected runs", expected_logs(rt.alloc()))
 }

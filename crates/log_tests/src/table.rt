@@ -36,6 +36,12 @@ pub struct Line {
 /// In place of the line of this number this text, and what comes of it.
 pub type Replaced = (usize, &'static str, Answer);
 
+/// In place of the line of this number this text.
+pub type Other = (usize, &'static str);
+
+/// What was read with one line changed, and what its expected run has in place of lines of the log.
+pub type Expected = (Other, &'static [Other]);
+
 /// A log of the script, which is accepted with so many arrivals.
 #[derive(Clone, Copy)]
 pub struct Log {
@@ -45,6 +51,7 @@ pub struct Log {
     pub lines: &'static [Line],
     pub marks: &'static [Mark],
     pub replaced: &'static [Replaced],
+    pub expected: &'static [Expected],
 }
 
 const DIGITS: &[u8] = b"0123456789";
@@ -216,6 +223,19 @@ const PAIRS_1_REPLACED: &[Replaced] = &[
     (7, "end running left - partials 1\nend", Answer::Bad(8)),
 ];
 
+// What follows from the arrivals is made again, and a message that was read is taken as it is.
+const PAIRS_1_EXPECTED: &[Expected] = &[
+    ((3, "7 from feed 1 a(1)"), &[]),
+    ((5, "fire rule 1 take 2,1"), &[]),
+    ((6, "print \"hit 13\""), &[]),
+    ((7, "late feed 1 3\nend running left - partials 1"), &[]),
+    ((7, "end spent left 2 partials 9"), &[]),
+    (
+        (3, "1 from feed 1 a(7)"),
+        &[(3, "1 from feed 1 a(7)"), (6, "print \"hit 72\"")],
+    ),
+];
+
 // The same in version 2.
 const PAIRS_2_LINES: &[Line] = &[
     Line {
@@ -290,6 +310,12 @@ const PAIRS_2_MARKS: &[Mark] = &[
     (b't', PLAIN, Wanted::DiffersHere),
     (b'e', PLAIN, Wanted::DiffersHere),
     (b'e', b"\\", Wanted::DiffersHere),
+];
+
+// A stamp from a feed is one more than the one before.
+const PAIRS_2_EXPECTED: &[Expected] = &[
+    ((3, "1 at 5 from feed 1 a(1)"), &[]),
+    ((4, "2 at 9 from feed 1 b(2)"), &[]),
 ];
 
 // The lines of its log of version 1 with room for one arrival, where a `ping` came from a feed.
@@ -398,6 +424,17 @@ const ANSWERS_1_MARKS: &[Mark] = &[
     (b's', LEADING, Wanted::DiffersHere),
 ];
 
+// What an actor posts, and how many posts come too late, is made again. A post arrives as it was read.
+const ANSWERS_1_EXPECTED: &[Expected] = &[
+    ((5, "post q ping(4)"), &[]),
+    ((6, "late actor q 9"), &[]),
+    ((12, "end stopped left 1 partials 2"), &[]),
+    (
+        (9, "1 from actor p ping(6)"),
+        &[(9, "1 from actor p ping(6)"), (11, "post p ping(7)")],
+    ),
+];
+
 // The same in version 2.
 const ANSWERS_2_LINES: &[Line] = &[
     Line {
@@ -504,6 +541,15 @@ const ANSWERS_2_MARKS: &[Mark] = &[
     (b's', LEADING, Wanted::DiffersHere),
 ];
 
+// A post has the stamp that was read at the arrival that made it.
+const ANSWERS_2_EXPECTED: &[Expected] = &[
+    ((9, "1 at 1 from actor p ping(1)"), &[]),
+    (
+        (3, "1 at 4 from feed 1 ping(0)"),
+        &[(9, "1 at 5 from actor p ping(1)")],
+    ),
+];
+
 // The lines of its log, where two rows came too late. Its plan has no log of version 1.
 const REPLIES_LINES: &[Line] = &[
     Line {
@@ -582,6 +628,14 @@ const REPLIES_MARKS: &[Mark] = &[
     (b'l', LEADING, Wanted::Accepted(1)),
 ];
 
+// The late counts of feeds are taken as they were read.
+const REPLIES_EXPECTED: &[Expected] = &[
+    ((5, "reply 2 \"b\""), &[]),
+    ((6, "print \"-6\""), &[]),
+    ((7, "late feed 1 9"), &[(7, "late feed 1 9")]),
+    ((8, "end running left 1 partials 0"), &[]),
+];
+
 /// The logs.
 pub const LOGS: &[Log] = &[
     Log {
@@ -591,6 +645,7 @@ pub const LOGS: &[Log] = &[
         lines: PAIRS_1_LINES,
         marks: PAIRS_1_MARKS,
         replaced: PAIRS_1_REPLACED,
+        expected: PAIRS_1_EXPECTED,
     },
     Log {
         name: "pairs, version 2",
@@ -599,6 +654,7 @@ pub const LOGS: &[Log] = &[
         lines: PAIRS_2_LINES,
         marks: PAIRS_2_MARKS,
         replaced: &[],
+        expected: PAIRS_2_EXPECTED,
     },
     Log {
         name: "answers, version 1",
@@ -607,6 +663,7 @@ pub const LOGS: &[Log] = &[
         lines: ANSWERS_1_LINES,
         marks: ANSWERS_1_MARKS,
         replaced: &[],
+        expected: ANSWERS_1_EXPECTED,
     },
     Log {
         name: "answers, version 2",
@@ -615,6 +672,7 @@ pub const LOGS: &[Log] = &[
         lines: ANSWERS_2_LINES,
         marks: ANSWERS_2_MARKS,
         replaced: &[],
+        expected: ANSWERS_2_EXPECTED,
     },
     Log {
         name: "replies",
@@ -623,5 +681,6 @@ pub const LOGS: &[Log] = &[
         lines: REPLIES_LINES,
         marks: REPLIES_MARKS,
         replaced: &[],
+        expected: REPLIES_EXPECTED,
     },
 ];

@@ -28,8 +28,13 @@ impl Tally {
 
     /// Counts an answer beside the one that is wanted.
     pub fn count(&mut self, line: u64, change: &'static str, found: Answer, wanted: Answer) {
+        self.judge(line, change, found == wanted);
+    }
+
+    /// Counts a log, with whether it came to what is wanted.
+    pub fn judge(&mut self, line: u64, change: &'static str, is_wanted: bool) {
         self.logs = self.logs.saturating_add(1);
-        if found == wanted {
+        if is_wanted {
             return;
         }
         self.misses = self.misses.saturating_add(1);
