@@ -1,11 +1,13 @@
 -- Numbers at their places, some of them taken out.
-use Rattle.std.proofs.Common.{◌≡◌, ◌∙◌, ℕ, zero, suc, ◌+◌, ◌-◌, ◌<◌, ◌≤◌, List, [], ◌∷◌, ◌++◌, inl, inr, length, Bool, true, false, not, get_or, set, refl, ap, sym, nat_cmp, Less, Option, None, Some, length-append, arith}
+use Rattle.std.proofs.Common.{◌≡◌, ◌∙◌, ℕ, zero, suc, ◌+◌, ◌-◌, ◌<◌, ◌≤◌, List, [], ◌∷◌, ◌++◌, inl, inr, length, Bool, true, false, not, get_or, set, take, drop, refl, ap, sym, nat_cmp, Less, Option, None, Some, length-append, arith}
 use Rattle.std.specs.Prelude.{◌==◌, ◌||◌, cond, replicate, MatchOption}
 use Rattle.std.specs.Option.{option_to_list}
 use Rattle.std.specs.List.{AllByRecursion, filter}
 use Rattle.std.specs.List.Sorted.{IsStrictlyIncreasing, IsStrictlySortedBy}
 use Rattle.std.proofs.lemmas.Map.Keys.{IsStrictlyIncreasing-from_sorted}
 use Rattle.std.proofs.lemmas.Bool.{eq-eqb, ne_eqb, eqb-true, false≢true}
+use Rattle.std.proofs.lemmas.List.{append-nil, drop_all, length-drop, length-replicate, length-take-le, take-append-le, take_all, take_at}
+use borrow.Rule.Slice.PartMut.{post_of}
 use Rattle.std.proofs.lemmas.List.Elements.{filter-append}
 use Rattle.std.specs.Cmp.{nat_cmp_is}
 use Rattle.std.proofs.Math.ListN.{get_or-eq_default}
@@ -142,3 +144,63 @@ without_first (x ∷ xs) n ns = first_step (x == n) (contains_number ns x) x (wi
 pub without_none : (xs : List ℕ) → without xs [] ≡ xs
 without_none [] = refl
 without_none (x ∷ xs) = ap (λ (ys : List ℕ). x ∷ ys) (without_none xs)
+
+-- ---- cells that are 0 at the front
+
+-- a cell with a number stands behind them
+behind_zeros : (cells : List ℕ) (k j : ℕ) → take k cells ≡ replicate k 0 → 1 ≤ get_or cells j 0 → k ≤ j
+behind_zeros cells zero j e some = omega arith
+behind_zeros [] (suc k) j e some = omega (arith, some)
+behind_zeros (c ∷ cells) (suc k) zero e some = let gone = ap (λ (xs : List ℕ). get_or xs 0 0) e in omega (arith, some, gone)
+behind_zeros (c ∷ cells) (suc k) (suc j) e some = let more = behind_zeros cells k j (ap (drop 1) e) some in omega (arith, more)
+
+pub zeros_within : (cells : List ℕ) (k : ℕ) → take k cells ≡ replicate k 0 → k ≤ length cells
+zeros_within cells zero e = omega arith
+zeros_within [] (suc k) e = let long = ap length e in omega (arith, long)
+zeros_within (c ∷ cells) (suc k) e = let more = zeros_within cells k (ap (drop 1) e) in omega (arith, more)
+
+pub zeros-push : (cells more : List ℕ) (k : ℕ) → take k cells ≡ replicate k 0 → take k (cells ++ more) ≡ replicate k 0
+zeros-push cells more k e = take-append-le k cells more (zeros_within cells k e) ∙ e
+
+pub zeros-set : (cells : List ℕ) (k j : ℕ) → take k cells ≡ replicate k 0 → take k (set cells j 0) ≡ replicate k 0
+zeros-set cells zero j e = refl
+zeros-set [] (suc k) j e = e
+zeros-set (c ∷ cells) (suc k) zero e = ap (λ (xs : List ℕ). 0 ∷ drop 1 xs) e
+zeros-set (c ∷ cells) (suc k) (suc j) e =
+    let first = ap (λ (xs : List ℕ). get_or xs 0 0) e in
+    ap (λ (x : ℕ). x ∷ take k (set cells j 0)) first ∙ ap (λ (xs : List ℕ). 0 ∷ xs) (zeros-set cells k j (ap (drop 1) e))
+
+one_at_most : (last : Option ℕ) → length (option_to_list last) ≤ 1
+one_at_most None = omega arith
+one_at_most (Some x) = omega arith
+
+-- the last number stands in the last cell, so that the zeros are in front of it
+pub zeros-pop : (cells front : List ℕ) (last : Option ℕ) (k : ℕ) → cells ≡ front ++ option_to_list last → InPlace 1 cells → contains_number (filter is_number cells) (length cells) ≡ true → take k cells ≡ replicate k 0 → take k front ≡ replicate k 0
+zeros-pop [] front last k e h found zeros = absurd (false≢true found)
+zeros-pop (c ∷ cells) front last k e h found zeros =
+    let cell : get_or (c ∷ cells) (length cells) 0 ≡ length (c ∷ cells) = eqb-true _ _ (sym (contains_at 1 (c ∷ cells) (length cells) (length (c ∷ cells)) (omega arith) (omega arith) h) ∙ found) in
+    let low = behind_zeros (c ∷ cells) k (length cells) zeros (omega (arith, cell)) in
+    let count : length (c ∷ cells) ≡ length front + length (option_to_list last) = ap length e ∙ length-append front (option_to_list last) in
+    let one = one_at_most last in
+    sym (take-append-le k front (option_to_list last) (omega (arith, low, count, one))) ∙ ap (take k) (sym e) ∙ zeros
+
+-- zeros behind those at the front make all 0
+pub all_zeros : (cells : List ℕ) (k : ℕ) → take k cells ≡ replicate k 0 → take k cells ++ replicate (length cells - k) 0 ≡ replicate (length cells) 0
+all_zeros cells zero e = let all : length cells - 0 ≡ length cells = omega arith in ap (λ (n : ℕ). replicate n 0) all
+all_zeros [] (suc k) e = let long = ap length e in absurd (omega (arith, long))
+all_zeros (c ∷ cells) (suc k) e =
+    let first = ap (λ (xs : List ℕ). get_or xs 0 0) e in
+    let left : suc (length cells) - suc k ≡ length cells - k = omega arith in
+    ap (λ (n : ℕ). c ∷ (take k cells ++ replicate n 0)) left ∙ ap (λ (x : ℕ). x ∷ (take k cells ++ replicate (length cells - k) 0)) first ∙ ap (λ (xs : List ℕ). 0 ∷ xs) (all_zeros cells k (ap (drop 1) e))
+
+-- a fill of the part behind the zeros, as it is seen in the vector
+pub cleared_to : (cells now part : List ℕ) (k len : ℕ) → now ≡ cells → len ≡ length cells → part ≡ replicate (length (take (length now - k) (drop k now))) 0 → take k cells ≡ replicate k 0
+    → let whole : List ℕ = take k now ++ (part ++ post_of k (length now - k) now) in take len (whole ++ drop (length whole) cells) ≡ replicate len 0
+cleared_to cells now part k len same long filled zeros =
+    let count : length (take (length now - k) (drop k now)) ≡ length now - k = length-take-le (length now - k) (drop k now) (omega (arith, length-drop k now)) in
+    let end : post_of k (length now - k) now ≡ [] = drop_all (length now - k) (drop k now) (omega (arith, length-drop k now)) in
+    let whole : take k now ++ (part ++ post_of k (length now - k) now) ≡ replicate len 0 = rw (filled, count, end, append-nil, same, long) (all_zeros cells k zeros) in
+    ap (λ (xs : List ℕ). take len (xs ++ drop (length xs) cells)) whole ∙ take_at (replicate len 0) (drop (length (replicate len 0)) cells) len (length-replicate len 0)
+
+pub take_zeros : (k len : ℕ) → k ≡ len → take {A = ℕ} k (replicate len 0) ≡ replicate k 0
+take_zeros k len same = rw same (take_all len (replicate len 0) (omega (arith, length-replicate {A = ℕ} len 0)))

@@ -4,7 +4,7 @@
 //! Only `Mailbox::new` and `reserve_one` take memory: after `reserve_one` one `append` can't fail. `retract_last` takes the last
 //! arrival back, `consume` takes the numbers of a match out of the unconsumed ones and `clear` all, `add_late` counts a late
 //! message. `letters`, `is_live`, `late` and `latest` read, and `into_parts` hands everything on. A message is stored once. Each
-//! call takes constant time, `append` on average and `consume` for each number, but for `clear` and `into_parts`.
+//! call takes constant time, `append` and `clear` on average and `consume` for each number, but for `into_parts`.
 //!
 //! Contracts see a `Held`: the mail, of which each call has one equation between old and new, and for how many arrivals there
 //! is room. Times and sizes are not in the contracts. Tests make each call with ample memory.

@@ -13,16 +13,18 @@ use std::marker::Model;
 pub struct LiveNumbers {
     // The cell at place n - 1 has n, or 0 once n was taken out.
     cells: Vec<u32>,
+    // So many cells at the front are 0. `clear` goes on behind them, and so fills each cell once at most.
+    cleared: usize,
 }
 
 impl Model for LiveNumbers {
-    ghost use Rattle.mailbox_core.specs.Live.{Live, InPlace, live_of};
+    ghost use Rattle.mailbox_core.specs.Live.{Live, IsKept, live_of};
 
     ghost Value = { Live };
 
     ghost view = { live_of };
 
-    ghost invariant = { λ a. InPlace 1 a.cells.items };
+    ghost invariant = { IsKept };
 }
 
 impl LiveNumbers {
@@ -32,6 +34,7 @@ impl LiveNumbers {
     {
         LiveNumbers {
             cells: Vec::new(alloc),
+            cleared: 0,
         }
     }
 
@@ -113,7 +116,8 @@ impl LiveNumbers {
         ensures numbers { self.new.numbers ≡ [] }
         ensures room { self.new.room ≡ self.old.room }
     {
-        self.cells.fill(0);
+        self.cells[self.cleared..].fill(0);
+        self.cleared = self.cells.len();
     }
 
     /// What is true of the numbers of every list. It does nothing.
@@ -128,7 +132,7 @@ impl LiveNumbers {
     pub fn into_items(self) -> Items<u32>
         ensures left { result ≡ self.numbers }
     {
-        let LiveNumbers { mut cells } = self;
+        let LiveNumbers { mut cells, .. } = self;
         cells.retain(|cell| *cell != 0);
         Items::from_vec(cells)
     }
