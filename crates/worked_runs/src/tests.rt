@@ -2,7 +2,9 @@ ghost use Rattle.std.specs.Prelude.{◌≡◌, ◌<◌, IfOk, OnOk};
 ghost use Rattle.join_base.specs.Late.{HasCount};
 ghost use Rattle.join_base.specs.declared.message.Source.TheVariants as source;
 ghost use Rattle.script_types.specs.Typed.{IsTyped};
+ghost use Rattle.fair_semantics.specs.Fair.{after_all};
 ghost use Rattle.actor_turn.specs.Held.{AreLimits};
+ghost use Rattle.worked_runs.specs.Feeding.{from_feed};
 
 use actor_turn::Actor;
 use fair_semantics::{Ending, Limits, Outcome};
@@ -52,7 +54,8 @@ fn first_actor(alloc: Global, plan: &Plan, limits: Limits) -> Result<Actor, Fail
     Ok(actor)
 }
 
-// Brings the actor the messages of its feed. The answer is how each came out.
+// Brings the actor the messages of its feed. It then is as the fair semantics of these messages leaves it. The answer is
+// how each came out.
 fn outcomes<L: Ledger>(
     alloc: Global,
     actor: &mut Actor,
@@ -60,7 +63,9 @@ fn outcomes<L: Ledger>(
     steps: &mut Steps<L>,
 ) -> Result<Vec<Outcome>, Fail>
     requires { HasCount actor.old.state.late (source.Feed 1) }
-    ensures { OnOk result (HasCount actor.new.state.late (source.Feed 1)) }
+    ensures late { OnOk result (HasCount actor.new.state.late (source.Feed 1)) }
+    ensures setting { OnOk result (actor.new.setting ≡ actor.old.setting) }
+    ensures fair { OnOk result (actor.new.state ≡ after_all actor.old.setting actor.old.state (from_feed posts.now)) }
 {
     let mut outcomes = Vec::new(alloc);
     for (_, message) in posts.as_slice() {

@@ -1,0 +1,2 @@
+-- what the actor of a test is sent
+pub mod Feeding
