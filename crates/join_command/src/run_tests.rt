@@ -1,8 +1,6 @@
 //! Runs of several actors, and of actors that meet a limit, over inputs and a sink in memory.
 use crate::status::Status;
-use crate::top::join_main;
-use actor_pool::FreeGate;
-use join_base::{Bytes, MemoryInputs, MemorySink, Word, WordList};
+use crate::tests::{accepts, answers, inputs_of};
 use std::process::Abort;
 use std::test::Fail;
 
@@ -63,20 +61,9 @@ fn actors_post_stop_and_meet_their_limits(rt: HostRuntime) -> Result<(), Fail> {
         ),
     ];
     for (texts, script, feed, status, log) in cases {
-        let mut words = WordList::new(alloc);
-        for text in texts {
-            words.push(Word::from_text(alloc, text)?)?;
-        }
-        let mut inputs = MemoryInputs::new(alloc);
-        for (name, content) in [("s", script), ("f", feed)] {
-            let mut bytes = Bytes::new(alloc);
-            bytes.push_all(content)?;
-            inputs.put(alloc, name, bytes)?;
-        }
-        let mut out = MemorySink::new(alloc, 100_000, 100_000)?;
-        let found = join_main(&rt, alloc, &words, &mut inputs, &mut out, &FreeGate);
-        assert_eq!(rt; found, status);
-        assert_eq!(rt; out.bytes(), log);
+        let mut inputs = inputs_of(alloc, script, feed)?;
+        answers(&rt, alloc, texts, &mut inputs, status, log)?;
+        accepts(&rt, alloc, script, log)?;
     }
     assert_eq!(rt; Status::Limits.number(), 1);
     Ok(())

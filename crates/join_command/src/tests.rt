@@ -55,8 +55,8 @@ fn words_of(alloc: Global, texts: &[&str]) -> Result<WordList, Fail> {
     Ok(words)
 }
 
-// The script is the file s, and the feed the file f.
-fn inputs_of(alloc: Global, script: &[u8], feed: &[u8]) -> Result<MemoryInputs, Fail> {
+/// The script is the file s, and the feed the file f.
+pub fn inputs_of(alloc: Global, script: &[u8], feed: &[u8]) -> Result<MemoryInputs, Fail> {
     let mut inputs = MemoryInputs::new(alloc);
     inputs.put(alloc, "s", bytes_of(alloc, script)?)?;
     inputs.put(alloc, "f", bytes_of(alloc, feed)?)?;
@@ -80,8 +80,8 @@ fn gives<R: Abort + Threads + Wait + Sync>(
     Ok(())
 }
 
-// The same with a sink that takes all.
-fn answers<R: Abort + Threads + Wait + Sync>(
+/// The same with a sink that takes all.
+pub fn answers<R: Abort + Threads + Wait + Sync>(
     rt: &R,
     alloc: Global,
     words: &[&str],
@@ -91,6 +91,39 @@ fn answers<R: Abort + Threads + Wait + Sync>(
 ) -> Result<(), Fail> {
     let mut out = MemorySink::new(alloc, 100_000, 100_000)?;
     gives(rt, alloc, words, inputs, &mut out, status, output)
+}
+
+// The lines of a log that are arrivals, which begin with a digit.
+fn arrivals_in(log: &[u8]) -> u64 {
+    let mut count = 0u64;
+    let mut begins = true;
+    for byte in log.iter() {
+        if begins && byte.is_ascii_digit() {
+            count = count.saturating_add(1);
+        }
+        begins = *byte == b'\n';
+    }
+    count
+}
+
+/// A replay accepts the log with all its arrivals.
+pub fn accepts<R: Abort + Threads + Wait + Sync>(
+    rt: &R,
+    alloc: Global,
+    script: &[u8],
+    log: &[u8],
+) -> Result<(), Fail> {
+    let mut inputs = inputs_of(alloc, script, log)?;
+    let arrivals = arrivals_in(log).to_string(alloc)?;
+    let accepted = joined(alloc, &[b"accepted ", arrivals.as_bytes(), b"\n"])?;
+    answers(
+        rt,
+        alloc,
+        REPLAY,
+        &mut inputs,
+        Status::Done,
+        accepted.bytes(),
+    )
 }
 
 // A script and a feed with the log of their run, behind its first two lines.
@@ -139,6 +172,7 @@ fn scripts_run_on_their_feeds(rt: HostRuntime) -> Result<(), Fail> {
         let mut inputs = inputs_of(alloc, script, feed)?;
         let log = joined(alloc, &[HEAD, rest])?;
         answers(&rt, alloc, RUN, &mut inputs, Status::Done, log.bytes())?;
+        accepts(&rt, alloc, script, log.bytes())?;
     }
     assert_eq!(rt; Status::Done.number(), 0);
     Ok(())
@@ -400,6 +434,7 @@ fn rows_are_read(rt: HostRuntime) -> Result<(), Fail> {
         let mut inputs = inputs_of(alloc, KINDS, feed)?;
         let log = joined(alloc, &[HEAD, b"1 at 1 from feed 1 ", rest])?;
         answers(&rt, alloc, RUN, &mut inputs, Status::Done, log.bytes())?;
+        accepts(&rt, alloc, KINDS, log.bytes())?;
     }
     Ok(())
 }
@@ -501,7 +536,7 @@ fn words_are_a_command_or_are_refused(rt: HostRuntime) -> Result<(), Fail> {
     for words in taken {
         answers(&rt, alloc, words, &mut inputs, Status::Done, log.bytes())?;
     }
-    Ok(())
+    accepts(&rt, alloc, SCRIPT, log.bytes())
 }
 
 #[test]
@@ -649,7 +684,8 @@ fn pieces_of_any_size_make_one_output(rt: HostRuntime) -> Result<(), Fail> {
     let mut tens = MemorySink::new(alloc, 170, 10)?;
     gives(&rt, alloc, RUN, &mut inputs, &mut tens, Status::Done, LOG)?;
     let mut whole = MemorySink::new(alloc, 170, 170)?;
-    gives(&rt, alloc, RUN, &mut inputs, &mut whole, Status::Done, LOG)
+    gives(&rt, alloc, RUN, &mut inputs, &mut whole, Status::Done, LOG)?;
+    accepts(&rt, alloc, SCRIPT, LOG)
 }
 
 // A feed of a and b in turn, with the values 1 to 1,000.
@@ -693,5 +729,5 @@ fn a_thousand_rows_make_five_hundred_pairs(rt: HostRuntime) -> Result<(), Fail> 
     let last: &[u8] =
         b"\n1000 at 1000 from feed 1 b(1000)\nfire rule 1 take 999,1000\nprint \"hit 9991000\"\nend running left - partials 1\n";
     assert!(rt; log.bytes().ends_with(last));
-    Ok(())
+    accepts(&rt, alloc, SCRIPT, log.bytes())
 }
