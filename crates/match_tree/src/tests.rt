@@ -26,9 +26,10 @@ struct Arrival {
     value: i64,
 }
 
-// A join of the first kinds, of which the first two messages may have to be equal, and the first to be 1.
+// A join of the first of these kinds, whose first two messages may have to be equal, and the first to be 1.
 #[derive(Clone, Copy, Debug, PartialEq, Eq, Drop)]
 struct Join {
+    kinds: [u32; 3],
     patterns: u32,
     equal: bool,
     one: bool,
@@ -71,14 +72,15 @@ fn equality(alloc: Global, left: Operand, right: Operand) -> Result<Conjunct, Fa
     Ok(conjunct)
 }
 
-fn kinds(alloc: Global, count: u32) -> Result<Items<u32>, Fail>
-    ensures { IfOk result (λ ks. length ks ≡ count) }
+fn patterns(alloc: Global, join: Join) -> Result<Items<u32>, Fail>
+    requires { join.patterns ≤ 3 }
+    ensures { IfOk result (λ ks. length ks ≡ join.patterns) }
 {
-    let mut kinds = Items::new(alloc);
-    for kind in 0..count {
-        kinds.push(kind)?;
+    let mut patterns = Items::new(alloc);
+    for place in 0..join.patterns {
+        patterns.push(join.kinds[place as usize])?;
     }
-    Ok(kinds)
+    Ok(patterns)
 }
 
 // The first message's value has to be 1, where that is asked.
@@ -104,11 +106,12 @@ fn add_equal(alloc: Global, conjuncts: &mut ConjunctList, asked: bool) -> Result
 }
 
 fn definition(alloc: Global, join: Join) -> Result<Definition, Fail>
+    requires most { join.patterns ≤ 3 }
     ensures count { IfOk result (λ d. length d.patterns ≡ join.patterns) }
     ensures window { IfOk result (λ d. d.window ≡ join.window) }
     ensures samples { IfOk result (λ d. AreSamples d.conjuncts) }
 {
-    let patterns = kinds(alloc, join.patterns)?;
+    let patterns = patterns(alloc, join)?;
     let mut conjuncts = ConjunctList::new(alloc);
     add_one(alloc, &mut conjuncts, join.one)?;
     add_equal(alloc, &mut conjuncts, join.equal)?;
@@ -198,6 +201,11 @@ fn may_take(arrivals: &[Arrival], live: &[bool], oldest: u32, kind: u32, number:
     }
 }
 
+// Whether no message stands at two patterns; 0 stands for none.
+fn differ(first: u32, second: u32, third: u32) -> bool {
+    (first == 0 || first != second) && (third == 0 || third != first && third != second)
+}
+
 // Whether what is decided of the guard is true.
 fn holds(join: Join, arrivals: &[Arrival], first: u32, second: u32) -> bool {
     if first == 0 {
@@ -250,9 +258,10 @@ fn list_third(
     };
     let last = if join.patterns == 3 { recorded } else { 0 };
     for third in 0..last + 1 {
-        if may_take(arrivals, live, oldest, 0, first)
-            && may_take(arrivals, live, oldest, 1, second)
-            && may_take(arrivals, live, oldest, 2, third)
+        if may_take(arrivals, live, oldest, join.kinds[0], first)
+            && may_take(arrivals, live, oldest, join.kinds[1], second)
+            && may_take(arrivals, live, oldest, join.kinds[2], third)
+            && differ(first, second, third)
             && holds(join, arrivals, first, second)
         {
             if first > 0 && second > 0 && (third > 0 || join.patterns == 2) {
@@ -342,10 +351,13 @@ fn brings(kind: u32, value: i64) -> Arrival {
     Arrival { kind, value }
 }
 
+// A join whose patterns have a kind each.
 fn join_of(patterns: u32, equal: bool, one: bool, window: Option<u32>) -> Join
-    ensures { result ≡ record { patterns = patterns; equal = equal; one = one; window = window } }
+    ensures count { result.patterns ≡ patterns }
+    ensures window { result.window ≡ window }
 {
     Join {
+        kinds: [0, 1, 2],
         patterns,
         equal,
         one,
@@ -447,14 +459,24 @@ fn arrivals_fire_the_least_match_or_are_kept(rt: HostRuntime) -> Result<(), Fail
     Ok(())
 }
 
-fn script(seed: u32, patterns: u32) -> [Arrival; 10]
-    requires { 1 ≤ patterns }
-{
+// Kinds of which often two or three are one, so that a message may stand at more than one pattern.
+fn kinds_by(seed: u32) -> [u32; 3] {
+    match seed / 6 % 5 {
+        1 => [0, 0, 0],
+        2 => [0, 0, 1],
+        3 => [0, 1, 0],
+        4 => [0, 1, 1],
+        _ => [0, 1, 2],
+    }
+}
+
+fn script(seed: u32, kinds: [u32; 3]) -> [Arrival; 10] {
     let mut arrivals = [brings(0, 0); 10];
     let mut state = seed;
     for place in 0..10 {
         state = state.wrapping_mul(1664525).wrapping_add(1013904223);
-        arrivals[place] = brings((state >> 24) % patterns, ((state >> 16) % 2) as i64);
+        let kind = kinds[(state >> 24) as usize % 3];
+        arrivals[place] = brings(kind, ((state >> 16) % 2) as i64);
     }
     arrivals
 }
@@ -462,10 +484,11 @@ fn script(seed: u32, patterns: u32) -> [Arrival; 10]
 #[test]
 fn each_arrival_does_what_a_plain_listing_says(rt: HostRuntime) -> Result<(), Fail> {
     let alloc = rt.alloc();
-    for seed in 0..40 {
+    for seed in 0..60 {
         let window = if seed % 5 == 1 { Some(4) } else { None };
-        let join = join_of(2 + seed % 2, seed % 3 > 0, seed % 8 == 1, window);
-        let played = play::<Brand>(alloc, join, &script(seed, join.patterns), Blank::new(1))?;
+        let mut join = join_of(2 + seed % 2, seed % 3 > 0, seed % 8 == 1, window);
+        join.kinds = kinds_by(seed);
+        let played = play::<Brand>(alloc, join, &script(seed, join.kinds), Blank::new(1))?;
         assert!(rt; played.agrees);
     }
     Ok(())
