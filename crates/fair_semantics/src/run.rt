@@ -1,5 +1,9 @@
 //! What a run shows.
-use join_base::{Items, Line, Message, Numbers, Source, Value};
+ghost use Rattle.std.specs.Prelude.{◌≡◌, None, Some, IfOk, IsSome, MatchOption};
+
+use join_base::{Items, Line, Message, NoMemory, Numbers, Source, Value};
+use std::alloc::Global;
+use std::marker::Model;
 
 /// The limits of each actor of a run, both from 1 to 1,000,000.
 #[derive(Clone, Copy, PartialEq, Eq, Debug)]
@@ -56,6 +60,54 @@ pub struct Firing {
     pub effects: Items<Effect>,
 }
 
+/// The firing of an arrival, or none. A clause sees an optional firing.
+///
+/// It stands in a block of its own: many arrivals fire nothing, and then it takes the room of one word.
+#[derive(Drop)]
+pub struct Fired {
+    firing: Option<Box<Firing>>,
+}
+
+impl Model for Fired {
+    ghost use Rattle.std.specs.Prelude.{Option};
+    ghost use Rattle.fair_semantics.specs.declared.run.Firing.{Firing as OneFiring};
+    ghost use Rattle.fair_semantics.specs.Fired.{unboxed};
+
+    ghost Value = { Option OneFiring };
+
+    ghost view = { λ a. unboxed a.firing };
+}
+
+impl Fired {
+    /// No firing.
+    pub fn none() -> Fired
+        ensures none { result ≡ None }
+    {
+        Fired { firing: None }
+    }
+
+    /// This firing. `NoMemory` where there is no block for it.
+    pub fn new(alloc: Global, firing: Firing) -> Result<Fired, NoMemory>
+        ensures firing { IfOk result (λ fired. fired ≡ Some firing) }
+    {
+        let boxed = Box::new(alloc, firing)?;
+        Ok(Fired {
+            firing: Some(boxed),
+        })
+    }
+
+    /// The firing, where there is one.
+    #[inline]
+    pub fn get(&self) -> Option<&Firing>
+        ensures same { MatchOption result (self.now ≡ None) (λ firing. self.now ≡ Some firing.now) }
+    {
+        match &self.firing {
+            None => None,
+            Some(boxed) => Some(&**boxed),
+        }
+    }
+}
+
 /// A recorded arrival.
 #[derive(Drop)]
 pub struct Entry {
@@ -66,7 +118,7 @@ pub struct Entry {
     /// 1 more than the greater of the arrival's before it, or 0, and the one that the message carried.
     /// In a run of version 1 it is 0.
     pub stamp: u64,
-    pub firing: Option<Firing>,
+    pub firing: Fired,
 }
 
 /// The run of one actor.
