@@ -36,7 +36,7 @@ fn counts(run: &Run, actor: usize) -> (usize, usize, usize) {
         .entries
         .as_slice()
         .iter()
-        .filter(|entry| entry.firing.is_some())
+        .filter(|entry| entry.firing.get().is_some())
         .count();
     (own.entries.len(), firings, own.left.len())
 }

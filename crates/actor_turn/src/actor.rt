@@ -18,7 +18,7 @@ use crate::refused::Refused;
 use crate::run::{into_entries, reserve_entry};
 use crate::step::{fire, keep, record, spend};
 use crate::texts::rule_texts;
-use fair_semantics::{ActorRun, Ending, Entry, Firing, Limits, Outcome};
+use fair_semantics::{ActorRun, Ending, Entry, Fired, Limits, Outcome};
 use join_base::{Items, Message, NoMemory, Sort, Source, Stamped, Steps};
 use mailbox_core::Mailbox;
 use match_tree::MatchTree;
@@ -38,7 +38,7 @@ pub struct Actor {
     // The partial matches of each rule.
     trees: Vec<MatchTree>,
     // What each arrival fired, if it did.
-    firings: Vec<Option<Firing>>,
+    firings: Vec<Fired>,
     ending: Ending,
     // The posts that wait for each actor of the plan.
     outboxes: Vec<Outbox>,
@@ -235,7 +235,7 @@ impl Actor {
             steps,
         )?;
         let Some(chosen) = best_of(&self.trees) else {
-            self.firings.push(None).unwrap();
+            self.firings.push(Fired::none()).unwrap();
             let most = self.limits.partials;
             return Ok(keep(
                 &mut self.mail,
@@ -255,8 +255,8 @@ impl Actor {
             number,
             chosen,
         ) {
-            Ok(firing) => {
-                self.firings.push(Some(firing)).unwrap();
+            Ok(fired) => {
+                self.firings.push(fired).unwrap();
                 Ok(Outcome::Fired)
             }
             Err(NoMemory) => {
@@ -291,7 +291,7 @@ impl Actor {
     }
 
     /// What each recorded arrival fired, if it did.
-    pub fn firings(&self) -> &[Option<Firing>]
+    pub fn firings(&self) -> &[Fired]
         ensures fired { result.now ≡ map (λ entry. entry.firing) self.now.state.entries }
     {
         self.firings.as_slice()

@@ -4,7 +4,7 @@ ghost use Rattle.mailbox_core.specs.Mail.{received_of};
 ghost use Rattle.actor_turn.specs.Parts.{entries_of};
 
 use crate::room::give_room_back;
-use fair_semantics::{Entry, Firing};
+use fair_semantics::{Entry, Fired};
 use join_base::{Items, Message, NoMemory};
 use mailbox_core::Mark;
 use std::alloc::Global;
@@ -16,7 +16,7 @@ const GROWN: usize = 1024;
 /// Makes room for what one more arrival fires, and for the entries of all of them. It may leave room where there is no memory.
 pub fn reserve_entry(
     alloc: Global,
-    firings: &mut Vec<Option<Firing>>,
+    firings: &mut Vec<Fired>,
     entries: &mut Vec<Entry>,
     arrivals: usize,
 ) -> Result<(), NoMemory>
@@ -46,7 +46,7 @@ pub fn reserve_entry(
 pub fn into_entries(
     letters: Items<Message>,
     marks: Items<Mark>,
-    firings: Vec<Option<Firing>>,
+    firings: Vec<Fired>,
     room: Vec<Entry>,
 ) -> Items<Entry>
     requires marked { length marks ≡ length letters }

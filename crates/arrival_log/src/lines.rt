@@ -8,7 +8,7 @@ use crate::parts::{
 };
 use crate::room::ROOM;
 use crate::whole::{put_arrival, put_effect, put_entry, put_fire, put_front};
-use fair_semantics::{ActorRun, Effect, Entry, Firing, Run};
+use fair_semantics::{ActorRun, Effect, Entry, Fired, Firing, Run};
 use join_base::{Bytes, NoMemory, Source, write_quoted};
 use script_types::{ActorPlan, Plan, write_actor_name};
 
@@ -91,11 +91,11 @@ fn write_firing(
     text: &mut Bytes,
     room: &mut [u8; ROOM],
     plan: &Plan,
-    firing: &Option<Firing>,
+    fired: &Fired,
 ) -> Result<(), NoMemory>
-    ensures { OnOk result (text.new ≡ text.old ++ firing_lines plan.now firing.now) }
+    ensures { OnOk result (text.new ≡ text.old ++ firing_lines plan.now fired.now) }
 {
-    match firing {
+    match fired.get() {
         Some(firing) => {
             write_fire(text, room, firing)?;
             write_effects(text, room, plan, firing.effects.as_slice())

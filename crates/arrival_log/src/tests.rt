@@ -3,7 +3,7 @@ ghost use Rattle.join_base.specs.Text.{is_name};
 ghost use Rattle.arrival_log.specs.Samples.{hit, hit_plan, hit_run, joiner, keeper, one_field, one_value, post, post_plan, post_run, poster, ruleless};
 
 use crate::print_log;
-use fair_semantics::{ActorRun, Effect, Ending, Entry, Firing, Limits, Run};
+use fair_semantics::{ActorRun, Effect, Ending, Entry, Fired, Firing, Limits, Run};
 use join_base::{
     Bytes, Fields, Items, Line, Message, Name, NoMemory, Numbers, Sort, Source, Text, Value,
 };
@@ -86,14 +86,14 @@ fn joiner(alloc: Global) -> Result<ActorRun, Fail>
         source: Source::Feed(1),
         message: message(alloc, 0, Value::Int(1))?,
         stamp: 1,
-        firing: None,
+        firing: Fired::none(),
     })?;
     entries.push(Entry {
         number: 2,
         source: Source::Feed(1),
         message: message(alloc, 1, Value::Int(2))?,
         stamp: 2,
-        firing: Some(hit(alloc)?),
+        firing: Fired::from_box(Box::new(alloc, hit(alloc)?)?),
     })?;
     Ok(ActorRun {
         entries,
@@ -179,7 +179,7 @@ fn poster(alloc: Global) -> Result<ActorRun, Fail>
         source: Source::Feed(2),
         message: message(alloc, 0, Value::Int(0))?,
         stamp: 0,
-        firing: Some(post(alloc)?),
+        firing: Fired::from_box(Box::new(alloc, post(alloc)?)?),
     })?;
     let mut late = Items::new(alloc);
     late.push((Source::Feed(1), 5))?;
@@ -203,7 +203,7 @@ fn keeper(alloc: Global) -> Result<ActorRun, Fail>
         source: Source::Actor(0),
         message: message(alloc, 0, Value::Int(-7))?,
         stamp: 0,
-        firing: None,
+        firing: Fired::none(),
     })?;
     let note = Text::from_bytes(alloc, b"a \"b\"")?;
     entries.push(Entry {
@@ -211,7 +211,7 @@ fn keeper(alloc: Global) -> Result<ActorRun, Fail>
         source: Source::Feed(1),
         message: message(alloc, 1, Value::Words(note))?,
         stamp: 0,
-        firing: None,
+        firing: Fired::none(),
     })?;
     let mut left = Items::new(alloc);
     left.push(1)?;

@@ -11,7 +11,7 @@ ghost use Rattle.arrival_log.specs.LogText.{arrival_line, effect_line, entry_lin
 use crate::room::{
     FRONT, ROOM, put_number, put_numbers, put_stamp, put_text, put_value, put_values, put_words,
 };
-use fair_semantics::{Effect, Entry, Firing};
+use fair_semantics::{Effect, Entry, Fired, Firing};
 use join_base::{Message, Source, Value};
 use script_types::Plan;
 
@@ -202,11 +202,11 @@ fn put_firing(room: &mut [u8; ROOM], plan: &Plan, firing: &Firing) -> Option<usi
 }
 
 // The lines of what an arrival fired, or nothing where there is no firing.
-fn put_fired(room: &mut [u8; ROOM], plan: &Plan, fired: &Option<Firing>) -> Option<usize>
+fn put_fired(room: &mut [u8; ROOM], plan: &Plan, fired: &Fired) -> Option<usize>
     ensures start { IfSome result (λ start. start ≤ 512) }
     ensures written { IfSome result (λ start. drop start room.new ≡ firing_lines plan.now fired.now) }
 {
-    match fired {
+    match fired.get() {
         None => Some(ROOM),
         Some(firing) => put_firing(room, plan, firing),
     }

@@ -28,7 +28,7 @@ fn firing_count(entries: &[Entry]) -> usize
 {
     let mut count = 0;
     for entry in entries {
-        if entry.firing.is_some() {
+        if entry.firing.get().is_some() {
             count += 1;
         }
     }

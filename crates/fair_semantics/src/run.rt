@@ -1,8 +1,7 @@
 //! What a run shows.
-ghost use Rattle.std.specs.Prelude.{◌≡◌, None, Some, IfOk, IsSome, MatchOption};
+ghost use Rattle.std.specs.Prelude.{◌≡◌, None, Some, MatchOption};
 
-use join_base::{Items, Line, Message, NoMemory, Numbers, Source, Value};
-use std::alloc::Global;
+use join_base::{Items, Line, Message, Numbers, Source, Value};
 use std::marker::Model;
 
 /// The limits of each actor of a run, both from 1 to 1,000,000.
@@ -86,14 +85,13 @@ impl Fired {
         Fired { firing: None }
     }
 
-    /// This firing. `NoMemory` where there is no block for it.
-    pub fn new(alloc: Global, firing: Firing) -> Result<Fired, NoMemory>
-        ensures firing { IfOk result (λ fired. fired ≡ Some firing) }
+    /// The firing in this block.
+    pub fn from_box(firing: Box<Firing>) -> Fired
+        ensures firing { result ≡ Some firing.value }
     {
-        let boxed = Box::new(alloc, firing)?;
-        Ok(Fired {
-            firing: Some(boxed),
-        })
+        Fired {
+            firing: Some(firing),
+        }
     }
 
     /// The firing, where there is one.

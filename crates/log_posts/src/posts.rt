@@ -5,7 +5,7 @@ ghost use Rattle.fair_semantics.specs.Linked.{effect_for, entry_posts, firing_ef
 ghost use Rattle.log_posts.specs.Posts.{has_message, line_stamp, posts_made};
 
 use crate::same::same_message;
-use fair_semantics::{Effect, Entry, Firing};
+use fair_semantics::{Effect, Entry, Fired};
 use join_base::{Items, Message, NoMemory};
 use std::alloc::Global;
 use std::marker::Model;
@@ -79,13 +79,13 @@ fn push_effects<'a>(
 
 fn push_firing<'a>(
     posts: &mut Items<Posted<'a>>,
-    firing: &'a Option<Firing>,
+    fired: &'a Fired,
     to: u32,
     stamp: u64,
 ) -> Result<(), NoMemory>
-    ensures { OnOk result (posts.new ≡ posts.old ++ filter_map (effect_for to stamp) (firing_effects firing.now)) }
+    ensures { OnOk result (posts.new ≡ posts.old ++ filter_map (effect_for to stamp) (firing_effects fired.now)) }
 {
-    match firing {
+    match fired.get() {
         Some(firing) => push_effects(posts, firing.effects.as_slice(), to, stamp),
         None => Ok(()),
     }

@@ -4,7 +4,7 @@ ghost use Rattle.std.specs.Cmp.Lexicographic.{pointwise};
 ghost use Rattle.fair_semantics.specs.Linked.{same_source};
 ghost use Rattle.log_posts.specs.Same.{same_effect, same_entries, same_entry, same_fired, same_firing, same_message, same_value};
 
-use fair_semantics::{Effect, Entry, Firing};
+use fair_semantics::{Effect, Entry, Fired, Firing};
 use join_base::{Message, Source, Value};
 
 // What lists of it are compared by.
@@ -89,10 +89,10 @@ fn same_firing(own: &Firing, other: &Firing) -> bool
 }
 
 /// Whether two firings are equal: their rules, what they took, and their effects in order. So are two of none.
-pub fn same_fired(own: &Option<Firing>, other: &Option<Firing>) -> bool
+pub fn same_fired(own: &Fired, other: &Fired) -> bool
     ensures { result ≡ same_fired own.now other.now }
 {
-    match (own, other) {
+    match (own.get(), other.get()) {
         (None, None) => true,
         (Some(firing), Some(second)) => same_firing(firing, second),
         _ => false,

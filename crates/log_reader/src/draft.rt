@@ -5,7 +5,7 @@ ghost use Rattle.log_lines.specs.Gives.{Gives};
 ghost use Rattle.log_lines.specs.Forms.{entry_with};
 ghost use Rattle.log_reader.specs.Draft.{acts, arrives, begins, ends, fires, follows, is_late, is_open, open_entry, opening, step, takes_entries, with_effect};
 
-use fair_semantics::{ActorRun, Effect, Ending, Entry, Firing};
+use fair_semantics::{ActorRun, Effect, Ending, Entry, Fired, Firing};
 use join_base::{Items, Numbers, Source};
 use log_lines::{Arrival, Head, LineFault, LogLine};
 use std::alloc::Global;
@@ -74,7 +74,7 @@ fn takes_entries(reached: &Open) -> bool
 }
 
 // An arrival with what it fired.
-fn entry_with(arrival: Arrival, firing: Option<Firing>) -> Entry
+fn entry_with(arrival: Arrival, firing: Fired) -> Entry
     ensures { result ≡ entry_with arrival firing }
 {
     let Arrival {
@@ -111,15 +111,15 @@ pub fn trimmed(firing: Firing) -> Firing
 }
 
 // The entries with the open one.
-fn held(entries: Items<Entry>, reached: Open) -> Result<Items<Entry>, LineFault>
+fn held(alloc: Global, entries: Items<Entry>, reached: Open) -> Result<Items<Entry>, LineFault>
     ensures { Gives result (Some (entries ++ open_entry reached)) }
 {
     let mut entries = entries;
     match reached {
-        Open::Arrived(arrival) => entries.push(entry_with(arrival, None))?,
+        Open::Arrived(arrival) => entries.push(entry_with(arrival, Fired::none()))?,
         Open::Fired(arrival, firing) => {
-            let firing = trimmed(firing);
-            entries.push(entry_with(arrival, Some(firing)))?
+            let firing = Box::new(alloc, trimmed(firing))?;
+            entries.push(entry_with(arrival, Fired::from_box(firing)))?
         }
         Open::Heading => {}
         Open::Entries => {}
@@ -176,7 +176,7 @@ fn begins(draft: Draft, actor: u32) -> Result<Draft, LineFault>
     })
 }
 
-fn arrives(draft: Draft, arrival: Arrival) -> Result<Draft, LineFault>
+fn arrives(alloc: Global, draft: Draft, arrival: Arrival) -> Result<Draft, LineFault>
     ensures { Gives result (arrives draft arrival) }
 {
     if !takes_entries(&draft.reached) {
@@ -189,7 +189,7 @@ fn arrives(draft: Draft, arrival: Arrival) -> Result<Draft, LineFault>
         late,
         reached,
     } = draft;
-    let entries = held(entries, reached)?;
+    let entries = held(alloc, entries, reached)?;
     Ok(Draft {
         head,
         actors,
@@ -266,7 +266,7 @@ fn with_effect(firing: Firing, effect: Effect) -> Result<Firing, LineFault>
     })
 }
 
-fn is_late(draft: Draft, source: Source, count: u64) -> Result<Draft, LineFault>
+fn is_late(alloc: Global, draft: Draft, source: Source, count: u64) -> Result<Draft, LineFault>
     ensures { Gives result (is_late draft source count) }
 {
     if !is_open(&draft.reached) || !follows(draft.head.feeds, &draft.reached, source) {
@@ -279,7 +279,7 @@ fn is_late(draft: Draft, source: Source, count: u64) -> Result<Draft, LineFault>
         late,
         reached,
     } = draft;
-    let entries = held(entries, reached)?;
+    let entries = held(alloc, entries, reached)?;
     let mut late = late;
     late.push((source, count))?;
     Ok(Draft {
@@ -310,7 +310,7 @@ fn ends(
         late,
         reached,
     } = draft;
-    let entries = held(entries, reached)?;
+    let entries = held(alloc, entries, reached)?;
     let mut actors = actors;
     actors.push(ActorRun {
         entries,
@@ -334,10 +334,10 @@ pub fn step(alloc: Global, draft: Draft, line: LogLine) -> Result<Draft, LineFau
 {
     match line {
         LogLine::Heading(actor) => begins(draft, actor),
-        LogLine::Arrives(arrival) => arrives(draft, arrival),
+        LogLine::Arrives(arrival) => arrives(alloc, draft, arrival),
         LogLine::Fires { rule, taken } => fires(alloc, draft, rule, taken),
         LogLine::Does(effect) => acts(draft, effect),
-        LogLine::IsLate(source, count) => is_late(draft, source, count),
+        LogLine::IsLate(source, count) => is_late(alloc, draft, source, count),
         LogLine::Ends {
             ending,
             left,

@@ -15,7 +15,7 @@ ghost use Rattle.log_replay.specs.Shared.{without_entries};
 use crate::replaying::forget_fired;
 use crate::shared::{Replayed, Shared, without_entries};
 use actor_turn::{Actor, give_room_back};
-use fair_semantics::{ActorRun, Entry, Firing, Limits, Run};
+use fair_semantics::{ActorRun, Entry, Fired, Limits, Run};
 use join_base::{Items, NoMemory, Steps};
 use log_posts::{same_fired, with_stamps};
 use script_types::Plan;
@@ -23,7 +23,7 @@ use std::alloc::Global;
 use std::sync::ledger::Ledger;
 
 // Whether the arrival behind so many others is recorded, with this number and firing.
-fn is_recorded(actor: &Actor, before: u32, number: u32, firing: &Option<Firing>) -> bool
+fn is_recorded(actor: &Actor, before: u32, number: u32, firing: &Fired) -> bool
     ensures { result ≡ is_recorded actor.now.state.entries before number firing.now }
 {
     if number <= before || actor.arrivals() != number {

@@ -16,7 +16,7 @@ fn entry_size(entry: &Entry) -> u64
     requires { entry_size entry.now < 2 ^ 64 }
     ensures { result ≡ entry_size entry.now }
 {
-    match &entry.firing {
+    match entry.firing.get() {
         Some(firing) => 2 + firing.effects.len() as u64,
         None => 1,
     }

@@ -37,7 +37,7 @@ fn counts(run: &Run, actor: usize) -> (usize, usize, usize) {
     };
     let mut firings = 0usize;
     for entry in own.entries.as_slice() {
-        if entry.firing.is_some() {
+        if entry.firing.get().is_some() {
             firings = firings.saturating_add(1);
         }
     }

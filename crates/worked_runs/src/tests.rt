@@ -7,7 +7,7 @@ ghost use Rattle.actor_turn.specs.Held.{AreLimits};
 ghost use Rattle.worked_runs.specs.Feeding.{from_feed};
 
 use actor_turn::Actor;
-use fair_semantics::{Ending, Firing, Limits, Outcome};
+use fair_semantics::{Ending, Fired, Limits, Outcome};
 use join_base::{Fields, Message, Posts, Source, Steps};
 use script_check::check_script;
 use script_reader::read_script;
@@ -402,8 +402,8 @@ fn take_out(letters: &mut [Letter], taken: [u32; 3]) {
 }
 
 // What an arrival fired, as a match.
-fn fired(firing: &Option<Firing>) -> Option<Match> {
-    let Some(firing) = firing else {
+fn match_in(fired: &Fired) -> Option<Match> {
+    let Some(firing) = fired.get() else {
         return None;
     };
     let mut taken = [0; 3];
@@ -416,14 +416,14 @@ fn fired(firing: &Option<Firing>) -> Option<Match> {
 }
 
 // Whether each arrival fired the least match of those that waited.
-fn are_least(rules: &[Rule; 2], letters: [Letter; 9], firings: &[Option<Firing>]) -> bool {
+fn are_least(rules: &[Rule; 2], letters: [Letter; 9], firings: &[Fired]) -> bool {
     let mut letters = letters;
     let mut same = firings.len() == 8;
     for place in 0..8 {
         letters[place + 1].waits = true;
         let first = least(&letters, &rules[0], 1, None);
         let best = least(&letters, &rules[1], 2, first);
-        same &= firings.get(place).map(fired) == Some(best);
+        same &= firings.get(place).map(match_in) == Some(best);
         if let Some(found) = best {
             take_out(&mut letters, found.taken);
         }
