@@ -255,8 +255,8 @@ impl Actor {
             number,
             chosen,
         ) {
-            Ok(fired) => {
-                self.firings.push(fired).unwrap();
+            Ok(firing) => {
+                self.firings.push(Fired::from_box(firing)).unwrap();
                 Ok(Outcome::Fired)
             }
             Err(NoMemory) => {

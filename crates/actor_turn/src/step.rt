@@ -17,7 +17,7 @@ use crate::body::{run_body, stops};
 use crate::outbox::Outbox;
 use crate::refused::Refused;
 use crate::sent::send;
-use fair_semantics::{Ending, Fired, Firing, Outcome};
+use fair_semantics::{Ending, Firing, Outcome};
 use join_base::{Items, Message, NoMemory, Numbers, Source, Steps};
 use mailbox_core::Mailbox;
 use match_tree::MatchTree;
@@ -145,7 +145,7 @@ pub fn fire(
     outboxes: &mut [Outbox],
     number: u32,
     chosen: Candidate,
-) -> Result<Fired, NoMemory>
+) -> Result<Box<Firing>, NoMemory>
     requires few { number < 2 ^ 32 - 1 }
     requires numbered { 1 ≤ chosen.rule }
     requires exists { chosen.rule ≤ length rules.now }
@@ -153,7 +153,7 @@ pub fn fire(
     requires recorded { All (IsRecorded mail.old.mail.arrivals) chosen.taken }
     requires reserved { AllByRecursion (HasReserve number) trees.old }
 
-    ensures firing { IfOk result (λ fired. fired ≡ firing_of rules.now (letters_of mail.old.mail.arrivals) (Some chosen)) }
+    ensures firing { IfOk result (λ f. Some f.value ≡ firing_of rules.now (letters_of mail.old.mail.arrivals) (Some chosen)) }
     ensures mail { OnOk result (mail.new.mail ≡ with_live mail.old.mail (if stops (body_at rules.now chosen.rule) then [] else without mail.old.mail.live chosen.taken)) }
     ensures trees { OnOk result (trees.new ≡ (if stops (body_at rules.now chosen.rule) then map cleared_tree trees.old else map (fired_at number chosen.taken) trees.old)) }
     ensures ending { OnOk result (ending.new ≡ (if stops (body_at rules.now chosen.rule) then Ending.Stopped else ending.old)) }
@@ -189,5 +189,5 @@ pub fn fire(
         number,
         &firing.taken,
     );
-    Ok(Fired::from_box(firing))
+    Ok(firing)
 }

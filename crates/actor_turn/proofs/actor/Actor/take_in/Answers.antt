@@ -78,7 +78,7 @@ kept g c =
     let now = c.deref_mut-in_default-best_of.ensures.value ∙ again in
     let best : best_of offered ≡ None = ap best_of (sym (c.deref.ensures.value ∙ again)) ∙ sym c.best_of.ensures ∙ c.in_default-best_of.is in
     let rising = subst (λ (m : Mail). IsStrictlyIncreasing m.live) e.recorded e.ascending in
-    let firings : c.push.new.self.items ≡ a.firings.items ++ None ∷ [] = rw (c.push.ensures.items, c.unwrap.ensures) (ap (λ (fs : List (Option Firing)). fs ++ None ∷ []) c.reserve_entry.ensures.firings) in
+    let firings : c.push.new.self.items ≡ a.firings.items ++ None ∷ [] = rw (c.push.ensures.items, c.unwrap.ensures, c.none.ensures.none) (ap (λ (fs : List (Option Firing)). fs ++ None ∷ []) c.reserve_entry.ensures.firings) in
     let keeps = subst (λ (ts : List Tree). Keeps c.in_ok-number.number a.limits.partials ts c.keep.new.trees c.record.new.mail.mail c.keep.new.mail.mail a.ending c.keep.new.ending c.keep.result) now c.keep.ensures in
     let P : List (Option Firing) → Type 0 = λ fs. IsDone (setting_in a) (arrival_at a c.args.source c.args.message c.args.stamp) None c.keep.new.mail.mail fs c.keep.new.ending c.keep.new.trees c.keep.result in
     subst P (sym firings)
@@ -99,7 +99,7 @@ may g c =
     may_fire (length a.outboxes.items) (setting_in a) a.mail.mail a.firings.items a.ending a.trees.items i.told i.rest c.args.source c.args.message c.args.stamp takes offered (e.same ∙ c.deref_mut.ensures.value) e.reserved running c.in-Some.chosen best
 
 -- what stands when it has fired
-fired : (g : _) (c : After-unwrap-in-Ok-fire g) → IsDone (setting_in c.self.inside) (arrival_at c.self.inside c.args.source c.args.message c.args.stamp) (Some c.in-Ok-fire.firing) c.fire.new.mail.mail c.push-in-Ok-fire.new.self.items c.fire.new.ending c.fire.new.trees Fired
+fired : (g : _) (c : After-unwrap-in-Ok-fire g) → IsDone (setting_in c.self.inside) (arrival_at c.self.inside c.args.source c.args.message c.args.stamp) (Some c.in-Ok-fire.firing.value) c.fire.new.mail.mail c.push-in-Ok-fire.new.self.items c.fire.new.ending c.fire.new.trees Fired
 fired g c =
     let a = c.self.inside in
     let i = c.self.invariant in
@@ -112,9 +112,9 @@ fired g c =
     let best : best_of offered ≡ Some c.in-Some.chosen = ap best_of (sym (c.deref.ensures.value ∙ again)) ∙ sym c.best_of.ensures ∙ c.in-Some.is in
     let f = c.in-Ok-fire.ensures in
     let body = body_at a.rules c.in-Some.chosen.rule in
-    let firings : c.push-in-Ok-fire.new.self.items ≡ a.firings.items ++ Some c.in-Ok-fire.firing ∷ [] = rw (c.push-in-Ok-fire.ensures.items, c.unwrap-in-Ok-fire.ensures) (ap (λ (fs : List (Option Firing)). fs ++ Some c.in-Ok-fire.firing ∷ []) c.reserve_entry.ensures.firings) in
+    let firings : c.push-in-Ok-fire.new.self.items ≡ a.firings.items ++ Some c.in-Ok-fire.firing.value ∷ [] = rw (c.push-in-Ok-fire.ensures.items, c.unwrap-in-Ok-fire.ensures, c.from_box.ensures.firing) (ap (λ (fs : List (Option Firing)). fs ++ Some c.in-Ok-fire.firing.value ∷ []) c.reserve_entry.ensures.firings) in
     let trees = subst (λ (ts : List Tree). c.fire.new.trees ≡ (if stops body then map cleared_tree ts else map (fired_at c.in_ok-number.number c.in-Some.chosen.taken) ts)) (c.deref_mut-2.ensures.value ∙ again) f.trees in
-    fires_done (length a.outboxes.items) (setting_in a) a.mail.mail a.firings.items a.ending a.trees.items i.told i.rest c.args.source c.args.message c.args.stamp takes offered (e.same ∙ c.deref_mut.ensures.value) e.reserved running c.in-Some.chosen best c.in_ok-number.number (Some c.in-Ok-fire.firing) c.record.new.mail.mail c.fire.new.mail.mail c.push-in-Ok-fire.new.self.items c.fire.new.ending c.fire.new.trees
+    fires_done (length a.outboxes.items) (setting_in a) a.mail.mail a.firings.items a.ending a.trees.items i.told i.rest c.args.source c.args.message c.args.stamp takes offered (e.same ∙ c.deref_mut.ensures.value) e.reserved running c.in-Some.chosen best c.in_ok-number.number (Some c.in-Ok-fire.firing.value) c.record.new.mail.mail c.fire.new.mail.mail c.push-in-Ok-fire.new.self.items c.fire.new.ending c.fire.new.trees
     e.number e.recorded f.firing f.mail trees f.ending firings
 
 -- ---- recording
@@ -176,7 +176,7 @@ invariant_of-self-in_default-best_of g c =
     let left = take_at c.keep.new.trees (drop (length c.keep.new.trees) (with_items a.trees c.record.new.trees).items) a.trees.len long in
     let letters = ap length c.letters-arrivals.ensures.letters ∙ length-map a.mail.mail.arrivals (λ (r : Received). r.message) in
     let place = c.in-Ok.ensures.room in
-    let firings : c.push.new.self.items ≡ a.firings.items ++ None ∷ [] = rw (c.push.ensures.items, c.unwrap.ensures) (ap (λ (fs : List (Option Firing)). fs ++ None ∷ []) c.reserve_entry.ensures.firings) in
+    let firings : c.push.new.self.items ≡ a.firings.items ++ None ∷ [] = rw (c.push.ensures.items, c.unwrap.ensures, c.none.ensures.none) (ap (λ (fs : List (Option Firing)). fs ++ None ∷ []) c.reserve_entry.ensures.firings) in
     let more = ap length firings ∙ length-append a.firings.items (None ∷ []) in
     let room : length c.keep.new.mail.mail.arrivals ≤ vec_capacity c.reserve_entry.new.entries = omega (arith, done.at_rest.fired, i.rest.fired) in
     record {
@@ -239,8 +239,8 @@ invariant_of-self-in-Ok-fire g c =
     let left = take_at c.fire.new.trees (drop (length c.fire.new.trees) (with_items a.trees c.record.new.trees).items) a.trees.len long-2 in
     let letters = ap length c.letters-arrivals.ensures.letters ∙ length-map a.mail.mail.arrivals (λ (r : Received). r.message) in
     let place = c.in-Ok.ensures.room in
-    let firings : c.push-in-Ok-fire.new.self.items ≡ a.firings.items ++ Some c.in-Ok-fire.firing ∷ [] = rw (c.push-in-Ok-fire.ensures.items, c.unwrap-in-Ok-fire.ensures) (ap (λ (fs : List (Option Firing)). fs ++ Some c.in-Ok-fire.firing ∷ []) c.reserve_entry.ensures.firings) in
-    let more = ap length firings ∙ length-append a.firings.items (Some c.in-Ok-fire.firing ∷ []) in
+    let firings : c.push-in-Ok-fire.new.self.items ≡ a.firings.items ++ Some c.in-Ok-fire.firing.value ∷ [] = rw (c.push-in-Ok-fire.ensures.items, c.unwrap-in-Ok-fire.ensures, c.from_box.ensures.firing) (ap (λ (fs : List (Option Firing)). fs ++ Some c.in-Ok-fire.firing.value ∷ []) c.reserve_entry.ensures.firings) in
+    let more = ap length firings ∙ length-append a.firings.items (Some c.in-Ok-fire.firing.value ∷ []) in
     let room : length c.fire.new.mail.mail.arrivals ≤ vec_capacity c.reserve_entry.new.entries = omega (arith, done.at_rest.fired, i.rest.fired) in
     record {
       told = subst (λ (n : ℕ). IsTold n (setting_in a)) same_count i.told;
@@ -289,14 +289,14 @@ returns-in-Ok-fire-clause-outbox g c =
     let i = c.self.invariant in
     let long-3 : length c.fire.new.outboxes ≡ a.outboxes.len = omega (arith, c.fire.auto.outboxes, c.deref_mut-3.ensures.len) in
     let boxes = take_at c.fire.new.outboxes (drop (length c.fire.new.outboxes) a.outboxes.items) a.outboxes.len long-3 in
-    let entry : Entry = entry_with (arrival_at a c.args.source c.args.message c.args.stamp) (Some c.in-Ok-fire.firing) in
+    let entry : Entry = entry_with (arrival_at a c.args.source c.args.message c.args.stamp) (Some c.in-Ok-fire.firing.value) in
     let before : Mail = c.record.new.mail.mail in
     let outbox = (held_of a).outbox in
     let f = c.in-Ok-fire.ensures in
-    let effects : effects_of (letters_of before.arrivals) c.in-Some.chosen.taken (body_at a.rules c.in-Some.chosen.rule) ≡ c.in-Ok-fire.firing.effects = ap firing_effects (sym f.firing) in
+    let effects : effects_of (letters_of before.arrivals) c.in-Some.chosen.taken (body_at a.rules c.in-Some.chosen.rule) ≡ c.in-Ok-fire.firing.value.effects = ap firing_effects (sym f.firing) in
     let stamp = stamp_same (length a.outboxes.items) (setting_in a) a.mail.mail a.firings.items a.ending a.trees.items i.told i.rest c.args.source c.args.message c.args.stamp before c.in_ok-number.ensures.recorded in
     let after : List (List Stamped) = map (λ (o : Queue). o.posts) (with_items a.outboxes c.fire.new.outboxes).items in
-    let posts : after ≡ delivered (sent_by (latest before.arrivals) c.in-Ok-fire.firing.effects) outbox = ap (λ (os : List Queue). map (λ (o : Queue). o.posts) os) boxes ∙ f.posts ∙ (λ j. delivered (sent_by (latest before.arrivals) (effects j)) (map (λ (o : Queue). o.posts) (c.deref_mut-3.ensures.value j))) in
+    let posts : after ≡ delivered (sent_by (latest before.arrivals) c.in-Ok-fire.firing.value.effects) outbox = ap (λ (os : List Queue). map (λ (o : Queue). o.posts) os) boxes ∙ f.posts ∙ (λ j. delivered (sent_by (latest before.arrivals) (effects j)) (map (λ (o : Queue). o.posts) (c.deref_mut-3.ensures.value j))) in
     let news = (fired g (goal.at.returns-in-Ok-fire-clause-outbox g c).After-unwrap-in-Ok-fire).entries in
     subst (λ (h : Held). map (λ (o : Queue). o.posts) (with_items a.outboxes c.fire.new.outboxes).items ≡ posts_behind 0 (new_entries h.state (state_of c.fire.new.mail.mail c.push-in-Ok-fire.new.self.items c.fire.new.ending)) h.outbox) c.self.view_is
-    (posts ∙ fired_posts entry c.in-Ok-fire.firing (latest before.arrivals) outbox refl stamp ∙ ap (λ (es : List Entry). posts_behind 0 es outbox) (sym news))
+    (posts ∙ fired_posts entry c.in-Ok-fire.firing.value (latest before.arrivals) outbox refl stamp ∙ ap (λ (es : List Entry). posts_behind 0 es outbox) (sym news))
