@@ -8,5 +8,5 @@ pub mod Step
 pub mod Body
 -- what the crates above ask of the parts of a body
 pub mod Ready
--- what a private field holds
+-- what the private field of `Fired` holds
 pub mod Fired

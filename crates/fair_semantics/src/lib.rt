@@ -2,8 +2,9 @@
 //! several actors that are linked by their posts.
 //!
 //! A crate of definitions: its types are those of a run, from `Run` to `Effect`, and a contract sees each as the record of its
-//! fields. A run is right where it is linked: each actor did the fair steps of what the others and the feeds sent it. What such a
-//! run keeps is proved by a call with an empty body, `stamps_law`. Nothing here runs, so nothing is tested; examples are computed.
+//! fields, but `Fired` as an optional firing. A run is right where it is linked: each actor did the fair steps of what the others
+//! and the feeds sent it. What such a run keeps is proved by a call with an empty body, `stamps_law`. Nothing is tested here;
+//! examples are computed.
 #![tactic(auto)]
 
 mod law;
