@@ -10,7 +10,8 @@ use script_lint::{Finding, lint};
 use script_types::{Plan, write_actor_name, write_kind_name};
 use std::alloc::Global;
 
-fn write_count(text: &mut Bytes, count: u64) -> Result<(), NoMemory>
+/// Appends the decimal form of a count.
+pub fn write_count(text: &mut Bytes, count: u64) -> Result<(), NoMemory>
     ensures { OnOk result (text.new ≡ text.old ++ decimal count) }
 {
     write_number(text, i128::from(count))

@@ -12,7 +12,7 @@ ghost use Rattle.join_command.specs.Replying.{AreRunParts, IsRunnable, verdict_o
 ghost use Rattle.join_command.specs.Verdict.{limits_of};
 ghost use Rattle.join_command.specs.Writing.{Writes};
 
-use crate::lint_text::print_findings;
+use crate::lint_text::{print_findings, write_count};
 use crate::reply::Reply;
 use crate::run::run_feeds;
 use crate::status::Status;
@@ -54,8 +54,7 @@ fn too_long_line(alloc: Global, file: u32) -> Result<Bytes, NoMemory>
 {
     let mut bytes = Bytes::new(alloc);
     bytes.push_all(b"refused file ")?;
-    let digits = file.to_string(alloc)?;
-    bytes.push_all(digits.as_bytes())?;
+    write_count(&mut bytes, u64::from(file))?;
     bytes.push_all(b" too long\n")?;
     Ok(bytes)
 }
@@ -87,8 +86,7 @@ fn script_line(alloc: Global, place: u64, cause: ScriptCause) -> Result<Bytes, N
 {
     let mut bytes = Bytes::new(alloc);
     bytes.push_all(b"refused script ")?;
-    let digits = place.to_string(alloc)?;
-    bytes.push_all(digits.as_bytes())?;
+    write_count(&mut bytes, place)?;
     bytes.push_all(b" ")?;
     bytes.push_all(cause_name(cause))?;
     bytes.push_all(b"\n")?;
@@ -115,11 +113,9 @@ fn feed_line(alloc: Global, feed: u32, row: u64, cause: FeedCause) -> Result<Byt
 {
     let mut bytes = Bytes::new(alloc);
     bytes.push_all(b"refused feed ")?;
-    let digits = feed.to_string(alloc)?;
-    bytes.push_all(digits.as_bytes())?;
+    write_count(&mut bytes, u64::from(feed))?;
     bytes.push_all(b" row ")?;
-    let digits = row.to_string(alloc)?;
-    bytes.push_all(digits.as_bytes())?;
+    write_count(&mut bytes, row)?;
     bytes.push_all(b" ")?;
     bytes.push_all(row_cause_name(cause))?;
     bytes.push_all(b"\n")?;
@@ -142,8 +138,7 @@ fn log_line(alloc: Global, line: u64, cause: LogCause) -> Result<Bytes, NoMemory
 {
     let mut bytes = Bytes::new(alloc);
     bytes.push_all(b"refused log line ")?;
-    let digits = line.to_string(alloc)?;
-    bytes.push_all(digits.as_bytes())?;
+    write_count(&mut bytes, line)?;
     bytes.push_all(b" ")?;
     bytes.push_all(log_cause_name(cause))?;
     bytes.push_all(b"\n")?;
@@ -156,8 +151,7 @@ fn accepted_line(alloc: Global, arrivals: u64) -> Result<Bytes, NoMemory>
 {
     let mut bytes = Bytes::new(alloc);
     bytes.push_all(b"accepted ")?;
-    let digits = arrivals.to_string(alloc)?;
-    bytes.push_all(digits.as_bytes())?;
+    write_count(&mut bytes, arrivals)?;
     bytes.push_all(b"\n")?;
     Ok(bytes)
 }

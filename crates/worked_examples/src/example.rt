@@ -124,18 +124,31 @@ fn accepted_line(alloc: Global, arrivals: u64) -> Result<Bytes, NoMemory> {
     Ok(line)
 }
 
-// Whether a replay of the script accepts the log with so many arrivals.
+// Whether a replay of the script accepts the log with its arrivals.
 fn is_accepted<R: Threads + Wait + Sync>(
     rt: &R,
     alloc: Global,
     script: &[u8],
     log: &[u8],
-    arrivals: u64,
 ) -> Result<bool, NoMemory> {
     let files = [("script", script), ("log", log)];
     let (status, out) = answer_to(rt, alloc, REPLAY, &files)?;
-    let accepted = accepted_line(alloc, arrivals)?;
+    let accepted = accepted_line(alloc, arrivals_in(log))?;
     Ok(status == Status::Done && out.bytes() == accepted.bytes())
+}
+
+fn are_accepted<R: Threads + Wait + Sync>(
+    rt: &R,
+    alloc: Global,
+    script: &[u8],
+    logs: &[&[u8]],
+) -> Result<bool, NoMemory> {
+    for log in logs {
+        if !is_accepted(rt, alloc, script, log)? {
+            return Ok(false);
+        }
+    }
+    Ok(true)
 }
 
 // The lines of a log that are arrivals, which begin with a digit.
@@ -167,20 +180,28 @@ pub fn is_right<R: Threads + Wait + Sync>(
     if *word != "run" || !matches!(status, Status::Done | Status::Limits) {
         return Ok(true);
     }
-    is_accepted(rt, alloc, script, out.bytes(), arrivals_in(out.bytes()))
+    is_accepted(rt, alloc, script, out.bytes())
 }
 
-/// Whether the words print a log that is accepted with so many arrivals.
-pub fn is_some_log<R: Threads + Wait + Sync>(
+// How often a run is made whose log varies with the threads.
+const RUNS: u64 = 5;
+
+/// Whether each of several runs of the words prints one of the logs. All of these are to be accepted, with their arrivals.
+pub fn is_one_of<R: Threads + Wait + Sync>(
     rt: &R,
     alloc: Global,
     words: &[&str],
     files: &[(&str, &[u8])],
-    arrivals: u64,
+    logs: &[&[u8]],
 ) -> Result<bool, NoMemory> {
-    let (status, out) = answer_to(rt, alloc, words, files)?;
+    for _ in 0..RUNS {
+        let (status, out) = answer_to(rt, alloc, words, files)?;
+        if status != Status::Done || !logs.iter().any(|log| *log == out.bytes()) {
+            return Ok(false);
+        }
+    }
     let Some((_, script)) = files.first() else {
         return Ok(false);
     };
-    Ok(status == Status::Done && is_accepted(rt, alloc, script, out.bytes(), arrivals)?)
+    are_accepted(rt, alloc, script, logs)
 }

@@ -1,8 +1,8 @@
 //! Runs the program on worked examples over files in memory, and tells where it prints something else than the tables say,
 //! or ends with another status.
 //!
-//! Each log that a run prints is replayed too, and is to be accepted with its arrivals. Nothing is proved here but that it
-//! is safe and ends.
+//! Where the log of a run varies with the threads, the tables list all that are right. Each log that is printed or listed is
+//! replayed too, and is to be accepted with its arrivals. Nothing is proved here but that it is safe and ends.
 #![tactic(auto)]
 
 mod example;
@@ -11,14 +11,15 @@ mod logs;
 mod made;
 mod runs;
 mod scripts;
+mod varying;
 mod words;
 
-use crate::example::{Example, is_right, is_some_log};
+use crate::example::{Example, is_one_of, is_right};
 use crate::made::{
     SPACES, Spaces, a_building_is_run, a_feed_is_too_long, actors_answer_to_the_limit,
     brackets_are_refused, spaces_are_right, thousand_rows_are_joined,
 };
-use crate::runs::Varying;
+use crate::varying::Varying;
 use crate::words::refused;
 use join_base::NoMemory;
 use std::alloc::Global;
@@ -85,7 +86,7 @@ fn tell_varying<R: Print + Threads + Wait + Sync>(
     runs: &[Varying],
 ) -> io::Result<()> {
     for run in runs {
-        let found = is_some_log(rt, alloc, run.words, run.files, run.arrivals);
+        let found = is_one_of(rt, alloc, run.words, run.files, run.logs);
         tally.tell(rt, run.name, found)?;
     }
     Ok(())
@@ -136,7 +137,7 @@ fn main(rt: HostRuntime) -> io::Result<()> {
     tell_examples(&rt, alloc, &mut tally, feeds::EXAMPLES)?;
     tell_examples(&rt, alloc, &mut tally, runs::EXAMPLES)?;
     tell_examples(&rt, alloc, &mut tally, logs::EXAMPLES)?;
-    tell_varying(&rt, alloc, &mut tally, runs::VARYING)?;
+    tell_varying(&rt, alloc, &mut tally, varying::VARYING)?;
     tell_spaces(&rt, alloc, &mut tally, SPACES)?;
     tell_made(&rt, alloc, &mut tally)?;
     println!(rt;

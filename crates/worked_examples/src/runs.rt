@@ -15,46 +15,6 @@ const CONJUNCTS: &[u8] =
 const GREATER: &[u8] =
     b"message a(x: int) message b(x: int) actor m { when a(x) & a(y) if x > y { print x y; } }";
 
-/// A run whose log varies with the schedule of the threads, and its arrivals.
-#[derive(Clone, Copy)]
-pub struct Varying {
-    pub name: &'static str,
-    pub words: &'static [&'static str],
-    pub files: &'static [(&'static str, &'static [u8])],
-    pub arrivals: u64,
-}
-
-pub const VARYING: &[Varying] = &[
-    Varying {
-        name: "same feed twice",
-        words: &["run", "script", "feed-1", "feed-1"],
-        files: &[("script", PAIRS), ("feed-1", b"m,a,1\n")],
-        arrivals: 2,
-    },
-    Varying {
-        name: "two by two",
-        words: &["run", "script", "feed-1", "feed-2"],
-        files: &[
-            ("script", PAIRS),
-            ("feed-1", b"m,a,1\nm,a,2\n"),
-            ("feed-2", b"m,b,3\nm,b,4\n"),
-        ],
-        arrivals: 4,
-    },
-    Varying {
-        name: "two posters one target",
-        words: RUN,
-        files: &[
-            (
-                "script",
-                b"message g(n: int) actor x { when g(n) { post d g(n); } } actor y { when g(n) { post d g(n); } } actor d { when g(n) { post e g(n); } } actor e { when g(n) { } }",
-            ),
-            ("feed", b"x,g,1\ny,g,2\n"),
-        ],
-        arrivals: 6,
-    },
-];
-
 pub const EXAMPLES: &[Example<'static>] = &[
     Example {
         name: "at the limit of partials",

@@ -1,0 +1,175 @@
+//! Runs whose log varies with the threads, and all of their right logs.
+
+use crate::example::{PAIRS, RUN};
+
+/// A run that ends without a fault, and all logs that it may print.
+#[derive(Clone, Copy)]
+pub struct Varying {
+    pub name: &'static str,
+    pub words: &'static [&'static str],
+    pub files: &'static [(&'static str, &'static [u8])],
+    pub logs: &'static [&'static [u8]],
+}
+
+pub const VARYING: &[Varying] = &[
+    // One message from each feed, in either order.
+    Varying {
+        name: "same feed twice",
+        words: &["run", "script", "feed-1", "feed-1"],
+        files: &[("script", PAIRS), ("feed-1", b"m,a,1\n")],
+        logs: &[
+            b"joinlog 2 arrivals 50000 partials 65536 feeds 2\n\
+                actor m\n\
+                1 at 1 from feed 1 a(1)\n\
+                2 at 2 from feed 2 a(1)\n\
+                end running left 1,2 partials 3\n",
+            b"joinlog 2 arrivals 50000 partials 65536 feeds 2\n\
+                actor m\n\
+                1 at 1 from feed 2 a(1)\n\
+                2 at 2 from feed 1 a(1)\n\
+                end running left 1,2 partials 3\n",
+        ],
+    },
+    // The six ways to merge two messages with two. The older of a kind is taken first, so the pairs are the same in all.
+    Varying {
+        name: "two by two",
+        words: &["run", "script", "feed-1", "feed-2"],
+        files: &[
+            ("script", PAIRS),
+            ("feed-1", b"m,a,1\nm,a,2\n"),
+            ("feed-2", b"m,b,3\nm,b,4\n"),
+        ],
+        logs: &[
+            b"joinlog 2 arrivals 50000 partials 65536 feeds 2\n\
+                actor m\n\
+                1 at 1 from feed 1 a(1)\n\
+                2 at 2 from feed 1 a(2)\n\
+                3 at 3 from feed 2 b(3)\n\
+                fire rule 1 take 1,3\n\
+                print \"hit 13\"\n\
+                4 at 4 from feed 2 b(4)\n\
+                fire rule 1 take 2,4\n\
+                print \"hit 24\"\n\
+                end running left - partials 1\n",
+            b"joinlog 2 arrivals 50000 partials 65536 feeds 2\n\
+                actor m\n\
+                1 at 1 from feed 1 a(1)\n\
+                2 at 2 from feed 2 b(3)\n\
+                fire rule 1 take 1,2\n\
+                print \"hit 13\"\n\
+                3 at 3 from feed 1 a(2)\n\
+                4 at 4 from feed 2 b(4)\n\
+                fire rule 1 take 3,4\n\
+                print \"hit 24\"\n\
+                end running left - partials 1\n",
+            b"joinlog 2 arrivals 50000 partials 65536 feeds 2\n\
+                actor m\n\
+                1 at 1 from feed 1 a(1)\n\
+                2 at 2 from feed 2 b(3)\n\
+                fire rule 1 take 1,2\n\
+                print \"hit 13\"\n\
+                3 at 3 from feed 2 b(4)\n\
+                4 at 4 from feed 1 a(2)\n\
+                fire rule 1 take 4,3\n\
+                print \"hit 24\"\n\
+                end running left - partials 1\n",
+            b"joinlog 2 arrivals 50000 partials 65536 feeds 2\n\
+                actor m\n\
+                1 at 1 from feed 2 b(3)\n\
+                2 at 2 from feed 1 a(1)\n\
+                fire rule 1 take 2,1\n\
+                print \"hit 13\"\n\
+                3 at 3 from feed 1 a(2)\n\
+                4 at 4 from feed 2 b(4)\n\
+                fire rule 1 take 3,4\n\
+                print \"hit 24\"\n\
+                end running left - partials 1\n",
+            b"joinlog 2 arrivals 50000 partials 65536 feeds 2\n\
+                actor m\n\
+                1 at 1 from feed 2 b(3)\n\
+                2 at 2 from feed 1 a(1)\n\
+                fire rule 1 take 2,1\n\
+                print \"hit 13\"\n\
+                3 at 3 from feed 2 b(4)\n\
+                4 at 4 from feed 1 a(2)\n\
+                fire rule 1 take 4,3\n\
+                print \"hit 24\"\n\
+                end running left - partials 1\n",
+            b"joinlog 2 arrivals 50000 partials 65536 feeds 2\n\
+                actor m\n\
+                1 at 1 from feed 2 b(3)\n\
+                2 at 2 from feed 2 b(4)\n\
+                3 at 3 from feed 1 a(1)\n\
+                fire rule 1 take 3,1\n\
+                print \"hit 13\"\n\
+                4 at 4 from feed 1 a(2)\n\
+                fire rule 1 take 4,2\n\
+                print \"hit 24\"\n\
+                end running left - partials 1\n",
+        ],
+    },
+    // The third actor takes the two posts in either order, and the fourth one takes what the third one posts in that order.
+    Varying {
+        name: "two posters one target",
+        words: RUN,
+        files: &[
+            (
+                "script",
+                b"message g(n: int) actor x { when g(n) { post d g(n); } } actor y { when g(n) { post d g(n); } } actor d { when g(n) { post e g(n); } } actor e { when g(n) { } }",
+            ),
+            ("feed", b"x,g,1\ny,g,2\n"),
+        ],
+        logs: &[
+            b"joinlog 2 arrivals 50000 partials 65536 feeds 1\n\
+                actor x\n\
+                1 at 1 from feed 1 g(1)\n\
+                fire rule 1 take 1\n\
+                post d g(1)\n\
+                end running left - partials 1\n\
+                actor y\n\
+                1 at 1 from feed 1 g(2)\n\
+                fire rule 1 take 1\n\
+                post d g(2)\n\
+                end running left - partials 1\n\
+                actor d\n\
+                1 at 2 from actor x g(1)\n\
+                fire rule 1 take 1\n\
+                post e g(1)\n\
+                2 at 3 from actor y g(2)\n\
+                fire rule 1 take 2\n\
+                post e g(2)\n\
+                end running left - partials 1\n\
+                actor e\n\
+                1 at 3 from actor d g(1)\n\
+                fire rule 1 take 1\n\
+                2 at 4 from actor d g(2)\n\
+                fire rule 1 take 2\n\
+                end running left - partials 1\n",
+            b"joinlog 2 arrivals 50000 partials 65536 feeds 1\n\
+                actor x\n\
+                1 at 1 from feed 1 g(1)\n\
+                fire rule 1 take 1\n\
+                post d g(1)\n\
+                end running left - partials 1\n\
+                actor y\n\
+                1 at 1 from feed 1 g(2)\n\
+                fire rule 1 take 1\n\
+                post d g(2)\n\
+                end running left - partials 1\n\
+                actor d\n\
+                1 at 2 from actor y g(2)\n\
+                fire rule 1 take 1\n\
+                post e g(2)\n\
+                2 at 3 from actor x g(1)\n\
+                fire rule 1 take 2\n\
+                post e g(1)\n\
+                end running left - partials 1\n\
+                actor e\n\
+                1 at 3 from actor d g(2)\n\
+                fire rule 1 take 1\n\
+                2 at 4 from actor d g(1)\n\
+                fire rule 1 take 2\n\
+                end running left - partials 1\n",
+        ],
+    },
+];
