@@ -44,7 +44,8 @@ one_none source (x ∷ xs) (inr h) none = one_none source xs h.1 none.1
 
 -- ---- the state
 
--- what came from each source is what was recorded and then a rest, and the state is the fair semantics of the entries and then the rests
+-- what came from each source is what was recorded and then a rest, and the state is the fair semantics of the entries
+-- and then the rests
 pub record Stands (setting : Setting) (feeds actors : ℕ) (posts : Source → List Stamped) (state : State) : Type 0 where
   pub in_order : (source : Source) → taken_from source state.entries ≡ take (length (taken_from source state.entries)) (messages_of (posts source))
   pub late : (source : Source) → Contains (sources feeds actors) source → late_count state.late source ≡ min (length (rest_of posts state.entries source)) (2 ^ 64 - 1)

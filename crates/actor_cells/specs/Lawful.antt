@@ -98,8 +98,8 @@ sources_in tag = map (λ entry. entry.0) tag.links.inward
 abbrev pub targets_in : CellTag → List ℕ
 targets_in tag = map (λ entry. entry.0) tag.links.outward
 
--- a link from a source is one of a feed or an actor that there is, and one to a target of an actor that there is; no two have one source or one target;
--- and each actor that a body posts to has a link
+-- a link from a source is one of a feed or an actor that there is, and one to a target of an actor that there is; no
+-- two have one source or one target; and each actor that a body posts to has a link
 pub record IsTag (tag : CellTag) : Type 0 where
   pub known : AllByRecursion (IsAmong tag.feeds tag.actors) (sources_in tag)
   pub different : AreDifferent (sources_in tag)
@@ -122,9 +122,9 @@ module _ (c : Cell) where
   abbrev pub all_sources : List Source
   all_sources = sources (feeds_in c) (actors_in c)
 
-  -- what came over a link is the messages of the entries from its source and then a rest, whose length is the late count;
-  -- the state is the fair semantics of the entries and then the rests;
-  -- and what went over the link to a target, and then what waits for it, is what the entries posted to it
+  -- what came over a link is the messages of the entries from its source and then a rest, whose length is the late
+  -- count; the state is the fair semantics of the entries and then the rests; and what went over the link to a target,
+  -- and then what waits for it, is what the entries posted to it
   pub record IsLawful : Type 0 where
     pub tag : IsTag (cell_tag c)
     pub outboxes : length (held_in c).outbox ≡ actors_in c

@@ -12,12 +12,13 @@ use turn_lock::TurnCell;
 /// An actor with the links into it and out of it.
 #[derive(Drop)]
 pub struct Cell {
-    /// Behind a pointer, so that a cell moves into and out of its lock in a few instructions. Contracts see it by `held_in`.
+    /// Behind a pointer, so that a cell moves into and out of its lock in a few instructions. Contracts see it by
+    /// `held_in`.
     pub actor: Box<Actor>,
     pub inward: Vec<Inward>,
     pub outward: Vec<Outward>,
-    /// The place of the actor's link to itself among those inward, or one behind them where it posts nothing to itself. No clause
-    /// rests on it.
+    /// The place of the actor's link to itself among those inward, or one behind them where it posts nothing to itself.
+    /// No clause rests on it.
     pub own: usize,
     /// The actors that the last `serve` sent something to. No clause rests on it.
     pub moved: ActorSet,
@@ -25,8 +26,8 @@ pub struct Cell {
     pub held: ActorSet,
 }
 
-/// What stays of a cell: what its actor was told, how many feeds and actors there are, and its links with their sources and
-/// targets. Contracts read it, and no value of it is ever made.
+/// What stays of a cell: what its actor was told, how many feeds and actors there are, and its links with their sources
+/// and targets. Contracts read it, and no value of it is ever made.
 pub struct CellTag {
     pub sorts: LinkedList<LinkedList<Sort>>,
     pub rules: LinkedList<Rule>,

@@ -1,18 +1,18 @@
 //! Cells: an actor with the links into it and out of it, which is served on one thread at a time.
 //!
-//! `prepare` makes the cells of a plan and a poster for each feed, with all links between them. `Cell::serve` brings what a cell's
-//! inward links hold to its actor, at most `Cell::MOST` messages a call, and moves the posts of each of them to their links. What the
-//! actor posts to itself comes first, up to `Cell::OWN` in a row. `Cells::serve` does so for one of the cells that `prepare` made. No
-//! call waits.
+//! `prepare` makes the cells of a plan and a poster for each feed, with all links between them. `Cell::serve` brings
+//! what a cell's inward links hold to its actor, at most `Cell::MOST` messages a call, and moves the posts of each of
+//! them to their links. What the actor posts to itself comes first, up to `Cell::OWN` in a row. `Cells::serve` does so
+//! for one of the cells that `prepare` made. No call waits.
 //!
-//! A contract sees of a cell its actor (`held_in`), its tag (`cell_tag`), its history (`history_of`), its tally (`tally_of`), and
-//! whether it is lawful (`IsLawful`): what came over its links is what its actor recorded and then a rest, the actor's state is the
-//! fair semantics of that, and what went over its links and waits in outboxes is what the bodies posted. That the trees of a lawful
-//! cell hold the partial matches, each once, is part of the type `Actor`. A cell is a `TurnCell`, so it can lie behind a lock, and
-//! small, since its actor lies in a `Box`.
+//! A contract sees of a cell its actor (`held_in`), its tag (`cell_tag`), its history (`history_of`), its tally
+//! (`tally_of`), and whether it is lawful (`IsLawful`): what came over its links is what its actor recorded and then a
+//! rest, the actor's state is the fair semantics of that, and what went over its links and waits in outboxes is what
+//! the bodies posted. That the trees of a lawful cell hold the partial matches, each once, is part of the type `Actor`.
+//! A cell is a `TurnCell`, so it can lie behind a lock, and small, since its actor lies in a `Box`.
 //!
-//! Only tested: that the calls answer `Ok` where memory is ample, and that a look at a link shows what the other end sent. Not said:
-//! in which order the messages of several links come.
+//! Only tested: that the calls answer `Ok` where memory is ample, and that a look at a link shows what the other end
+//! sent. Not said: in which order the messages of several links come.
 #![tactic(auto)]
 
 mod actor_set;

@@ -19,9 +19,10 @@ use join_base::NoMemory;
 use script_types::Plan;
 use std::alloc::Global;
 
-/// The cells of a plan before their first arrivals, one for each actor in order, and a poster for each feed. There is a link from
-/// each feed to each actor, and from each actor to each one that its bodies post to, each with room for `ring` messages.
-/// Its caller is told too that the fixed texts of the plan's rules are texts and their numbers are of 64 bits.
+/// The cells of a plan before their first arrivals, one for each actor in order, and a poster for each feed. There is a
+/// link from each feed to each actor, and from each actor to each one that its bodies post to, each with room for
+/// `ring` messages. Its caller is told too that the fixed texts of the plan's rules are texts and their numbers are of
+/// 64 bits.
 pub fn prepare(
     alloc: Global,
     plan: &Plan,

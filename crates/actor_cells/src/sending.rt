@@ -100,8 +100,8 @@ impl Cell {
         self.note(moved, held);
     }
 
-    /// Moves posts where the outboxes may hold some: those that a firing has just made, or those that were left before. For most
-    /// arrivals there are none.
+    /// Moves posts where the outboxes may hold some: those that a firing has just made, or those that were left before.
+    /// For most arrivals there are none.
     #[inline(always)]
     pub(crate) fn send_rest(&mut self, fired: bool)
         requires lawful { IsLawful self.old }

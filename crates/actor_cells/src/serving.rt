@@ -23,8 +23,9 @@ pub enum Turned {
     Dry,
 }
 
-// Takes the message that waits first on a link, and hands it over to the actor. The answer is what became of it, or `None` where
-// the link showed nothing. Without memory the message is given back to the link, where it waits first again.
+// Takes the message that waits first on a link, and hands it over to the actor. The answer is what became of it, or
+// `None` where the link showed nothing. Without memory the message is given back to the link, where it waits first
+// again.
 fn bring_one<L: Ledger>(
     alloc: Global,
     actor: &mut Actor,
@@ -74,8 +75,9 @@ impl Cell {
         bring_one(alloc, &mut self.actor, one.source, &mut one.link, steps)
     }
 
-    // Brings the message that waits first on the link at a place, and moves the posts that it made to their links. So what an actor
-    // posts to itself stands on its own link when that is looked at next. Each look at a link goes through it.
+    // Brings the message that waits first on the link at a place, and moves the posts that it made to their links. So
+    // what an actor posts to itself stands on its own link when that is looked at next. Each look at a link goes
+    // through it.
     #[inline(always)]
     fn bring_and_send<L: Ledger>(
         &mut self,
@@ -147,7 +149,8 @@ impl Cell {
         Ok(own + 1)
     }
 
-    // Looks at each inward link once and takes its first message and the posts to itself that follow, until so many were taken.
+    // Looks at each inward link once and takes its first message and the posts to itself that follow, until so many
+    // were taken.
     fn take_round<L: Ledger>(
         &mut self,
         alloc: Global,
@@ -198,10 +201,10 @@ impl Cell {
         unreachable!()
     }
 
-    /// Moves posts from the outboxes to their links as far as room is known, brings messages of the inward links to the actor in
-    /// rounds, and moves the posts that each of them made. What the actor posts to itself comes before the next message of another
-    /// link, up to `OWN` in a row. `More` exactly where `MOST` messages were taken.
-    /// After `NoMemory` the message that was refused still waits first on its link, and the earlier ones have arrived.
+    /// Moves posts from the outboxes to their links as far as room is known, brings messages of the inward links to the
+    /// actor in rounds, and moves the posts that each of them made. What the actor posts to itself comes before the
+    /// next message of another link, up to `OWN` in a row. `More` exactly where `MOST` messages were taken. After
+    /// `NoMemory` the message that was refused still waits first on its link, and the earlier ones have arrived.
     pub fn serve<L: Ledger>(
         &mut self,
         alloc: Global,

@@ -7,8 +7,8 @@ use crate::helper::Helper;
 use crate::pool::Pool;
 use std::sync::Wait;
 
-/// Announces that an actor is ready: marks it and, where it was not marked, puts its ticket. Where the queue is full the mark is
-/// taken back. It takes no memory and may wait.
+/// Announces that an actor is ready: marks it and, where it was not marked, puts its ticket. Where the queue is full
+/// the mark is taken back. It takes no memory and may wait.
 pub fn announce<R: Wait>(rt: &R, pool: &Pool, helper: &mut Helper, actor: u32)
     requires own { IsHelperOf pool.now helper.old }
     requires exists { actor < actor_count pool.now }
@@ -23,8 +23,8 @@ pub fn announce<R: Wait>(rt: &R, pool: &Pool, helper: &mut Helper, actor: u32)
     }
 }
 
-// Whether the latest turn of the helper left something to do for the actor. What an actor posted to itself was brought in its turn,
-// unless that had to end before. No clause rests on the answer.
+// Whether the latest turn of the helper left something to do for the actor. What an actor posted to itself was brought
+// in its turn, unless that had to end before. No clause rests on the answer.
 fn is_due(helper: &Helper, actor: u32) -> bool {
     let noted = &helper.noted;
     if noted.actor == actor {
@@ -47,8 +47,8 @@ fn announce_if_due<R: Wait>(rt: &R, pool: &Pool, helper: &mut Helper, actor: u32
     announce(rt, pool, helper, actor);
 }
 
-/// Flags and announces each actor for which the latest turn of the helper left something to do. The flag is for a seat that is
-/// at the actor: it finds it as it gives its turn back.
+/// Flags and announces each actor for which the latest turn of the helper left something to do. The flag is for a seat
+/// that is at the actor: it finds it as it gives its turn back.
 pub(crate) fn announce_due<R: Wait>(rt: &R, pool: &Pool, helper: &mut Helper)
     requires own { IsHelperOf pool.now helper.old }
     ensures goes_on { GoesOn pool.now helper.old helper.new }

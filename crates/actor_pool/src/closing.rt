@@ -49,9 +49,9 @@ fn join_all(
 }
 
 impl Pool {
-    /// Closes the pool when all its posters are back and the first helper has no other out: the seats of the posters are joined,
-    /// and the lock gives its cells in order, each lawful and with its tag, with the ends of the posters. The history of each
-    /// goes on from what the helper had seen.
+    /// Closes the pool when all its posters are back and the first helper has no other out: the seats of the posters
+    /// are joined, and the lock gives its cells in order, each lawful and with its tag, with the ends of the posters.
+    /// The history of each goes on from what the helper had seen.
     ///
     /// It does not wait.
     pub fn close(

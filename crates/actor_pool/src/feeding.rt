@@ -110,8 +110,9 @@ fn post_waiting<R: Wait, L: Ledger>(
     Ok(())
 }
 
-/// Posts all posts of a feed in order, each with the stamp 0, and announces its actor each time. Where a link is full it takes a
-/// turn at that actor, or yields where another seat is at it, and posts again. From then on the feed has ended, whatever the answer.
+/// Posts all posts of a feed in order, each with the stamp 0, and announces its actor each time. Where a link is full
+/// it takes a turn at that actor, or yields where another seat is at it, and posts again. From then on the feed has
+/// ended, whatever the answer.
 ///
 /// At `NoMemory` the posts of a beginning of the list were sent. It may wait.
 pub fn feed<R: Wait>(

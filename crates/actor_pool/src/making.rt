@@ -20,8 +20,8 @@ use script_types::Plan;
 use std::alloc::Global;
 
 impl Pool {
-    /// The pool of a plan, with its actors before their first arrivals; a poster for each feed, of which there are 1 to 16; and the
-    /// first helper. Each link has room for `ring` messages, 1 to 4096.
+    /// The pool of a plan, with its actors before their first arrivals; a poster for each feed, of which there are 1 to
+    /// 16; and the first helper. Each link has room for `ring` messages, 1 to 4096.
     ///
     /// Its caller is told too that the fixed texts of the plan's rules are texts and their numbers are of 64 bits.
     pub fn new(

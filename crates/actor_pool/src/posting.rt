@@ -11,8 +11,8 @@ use cell_links::Full;
 use join_base::Message;
 
 impl Poster {
-    /// Sends a message to an actor, and flags it. `Full` hands the message back, and comes only where this end knew of no free
-    /// slot on that link; then nothing was sent and no actor was flagged.
+    /// Sends a message to an actor, and flags it. `Full` hands the message back, and comes only where this end knew of
+    /// no free slot on that link; then nothing was sent and no actor was flagged.
     ///
     /// It takes no memory and does not wait.
     pub fn post(&mut self, pool: &Pool, actor: u32, message: Message) -> Result<(), Full>

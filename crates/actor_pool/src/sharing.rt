@@ -21,8 +21,8 @@ impl Noted {
 }
 
 impl Helper {
-    /// Makes a helper for another thread. It has seen what the first helper has seen, and has done nothing. The first helper
-    /// counts one more out.
+    /// Makes a helper for another thread. It has seen what the first helper has seen, and has done nothing. The first
+    /// helper counts one more out.
     ///
     /// At `NoMemory` the first helper is as it was. It does not wait.
     pub fn split(&mut self, pool: &Pool) -> Result<Helper, NoMemory>
@@ -43,8 +43,8 @@ impl Helper {
         })
     }
 
-    /// Ends a helper that `split` made. Of each actor, what either of the two has seen begins what the first helper has seen from
-    /// then on. What the two passes did is added up, and the first helper counts one fewer out.
+    /// Ends a helper that `split` made. Of each actor, what either of the two has seen begins what the first helper has
+    /// seen from then on. What the two passes did is added up, and the first helper counts one fewer out.
     ///
     /// It takes no memory and does not wait.
     pub fn join(&mut self, pool: &Pool, other: Helper)

@@ -40,12 +40,12 @@ fn serve_noted<L: Ledger>(
     served
 }
 
-/// Tries once for the turn of an actor. Who gets it moves posts from the actor's outboxes to their links, brings what waits on
-/// its inward links to it, at most 256 messages, and gives the turn back.
+/// Tries once for the turn of an actor. Who gets it moves posts from the actor's outboxes to their links, brings what
+/// waits on its inward links to it, at most 256 messages, and gives the turn back.
 ///
-/// `More` comes exactly where 256 messages were taken, and `Dry` only where each inward link was looked at and showed none:
-/// the tallies that the seat keeps, as found and as left, show it. `Busy` comes exactly where the one claim found another
-/// seat at the actor. At `NoMemory` the earlier messages of this turn have arrived. It does not wait.
+/// `More` comes exactly where 256 messages were taken, and `Dry` only where each inward link was looked at and showed
+/// none: the tallies that the seat keeps, as found and as left, show it. `Busy` comes exactly where the one claim found
+/// another seat at the actor. At `NoMemory` the earlier messages of this turn have arrived. It does not wait.
 pub fn turn<L: Ledger>(
     alloc: Global,
     pool: &Pool,

@@ -107,9 +107,9 @@ fn work_on<R: Wait, G: Gate, L: Ledger>(
     unreachable!()
 }
 
-/// Takes tickets, and at each of them a turn at its actor, until all feeds have ended and no ticket is found after that. It calls
-/// `enter` of the gate before each turn. After a turn it announces the actors that the turn sent to, and the same actor where it
-/// may have more to do. The worker's number is counted from 1.
+/// Takes tickets, and at each of them a turn at its actor, until all feeds have ended and no ticket is found after
+/// that. It calls `enter` of the gate before each turn. After a turn it announces the actors that the turn sent to, and
+/// the same actor where it may have more to do. The worker's number is counted from 1.
 ///
 /// At `NoMemory` the turn was given back. It may wait.
 pub fn work<R: Wait, G: Gate>(

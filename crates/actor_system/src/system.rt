@@ -184,9 +184,9 @@ impl<'p> System<'p> {
         Ok(taken)
     }
 
-    /// Brings the first post of each link to its actor: target by target, and for each its feeds before its actors. The answer is
-    /// whether a post was taken, which is so exactly where one waited.
-    /// After `NoMemory` the post that was refused waits first as before, and the earlier ones have arrived.
+    /// Brings the first post of each link to its actor: target by target, and for each its feeds before its actors. The
+    /// answer is whether a post was taken, which is so exactly where one waited. After `NoMemory` the post that was
+    /// refused waits first as before, and the earlier ones have arrived.
     pub fn step<L: Ledger>(&mut self, alloc: Global, steps: &mut Steps<L>) -> Result<bool, NoMemory>
         ensures served { OnOk result (Served self.old (links_of self.old) self.new) }
         ensures taken { IfOk result (λ taken. taken ≡ some_waits self.old) }

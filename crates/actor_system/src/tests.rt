@@ -41,7 +41,8 @@ fn counts(run: &Run, actor: usize) -> (usize, usize, usize) {
     (own.entries.len(), firings, own.left.len())
 }
 
-// In a group of three rows the motion fires with the light or with the contact, and the other is left. Each firing posts to the desk.
+// In a group of three rows the motion fires with the light or with the contact, and the other is left. Each firing
+// posts to the desk.
 #[test]
 fn a_thousand_rows_come_to_the_same_as_on_threads(rt: HostRuntime) -> Result<(), Fail> {
     let run = run_building::<Brand>(rt.alloc(), Blank::new(1))?;

@@ -1,4 +1,5 @@
--- A running actor that takes a message: what its calls may ask for, and what stands when the message was kept or has fired.
+-- A running actor that takes a message: what its calls may ask for, and what stands when the message was kept or has
+-- fired.
 use Rattle.std.proofs.Common.{◌≡◌, ◌∙◌, inl, inr, ℕ, zero, suc, ◌+◌, ◌<◌, ◌≤◌, max, List, [], ◌∷◌, ◌++◌, map, length, drop, length-append, Bool, true, false, Option, Some, None, refl, sym, ap, subst, arith}
 use Rattle.std.specs.Prelude.{All, not, nat_le, nat_lt, if◌then◌else◌}
 use Rattle.std.specs.List.{AllByRecursion}

@@ -1,4 +1,5 @@
--- What well typed rules allow: their definitions may be tested on messages that fit, and their bodies can run at every match.
+-- What well typed rules allow: their definitions may be tested on messages that fit, and their bodies can run at every
+-- match.
 use Rattle.std.proofs.Common.{◌≡◌, ℕ, ◌-◌, ◌≤◌, List, [], ◌∷◌, map, true, Option, None, Some, sym, subst, length, arith}
 use Rattle.std.specs.Prelude.{All}
 use Rattle.std.specs.List.{AllByRecursion}

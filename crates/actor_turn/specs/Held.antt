@@ -13,7 +13,8 @@ use Rattle.fair_semantics.specs.Fits.{IsFrom1To}
 use Rattle.fair_semantics.specs.Linked.{entry_posts}
 use Rattle.fair_semantics.specs.Step.{Setting, State, letters_of, definitions_of, opening, is_running, is_refused}
 
--- what it was told and its state; for each actor of the plan the posts that wait for it, in order, and whether the post that was taken last may be brought back
+-- what it was told and its state; for each actor of the plan the posts that wait for it, in order, and whether the post
+-- that was taken last may be brought back
 pub record Held : Type 0 where
   pub setting : Setting
   pub state : State

@@ -29,14 +29,16 @@ held_of a = record {
 abbrev pub HasFewFields : List Sort → Type 0
 HasFewFields types = length types ≤ 8
 
--- what it was told: limits that it can be given, kinds of few fields, and at most 16 rules that are well typed, where there are so many actors
+-- what it was told: limits that it can be given, kinds of few fields, and at most 16 rules that are well typed, where
+-- there are so many actors
 pub record IsTold (actors : ℕ) (setting : Setting) : Type 0 where
   pub limits : AreLimits setting.limits
   pub fields : AllByRecursion HasFewFields setting.sorts
   pub few : length setting.rules ≤ 16
   pub typed : AllByRecursion (IsTypedRule actors setting.sorts) setting.rules
 
--- a firing or none for each arrival; the recorded messages fit; the trees hold the partial matches, each once, and there are not too many
+-- a firing or none for each arrival; the recorded messages fit; the trees hold the partial matches, each once, and
+-- there are not too many
 pub record IsAtRest (setting : Setting) (m : Mail) (firings : List (Option Firing)) (end : Ending) (trees : List Tree) : Type 0 where
   pub fired : AreFired m firings
   pub fitting : AllByRecursion (λ message. fits setting.sorts message ≡ true) (mail.letters_of m.arrivals)

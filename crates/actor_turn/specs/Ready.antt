@@ -7,7 +7,8 @@ use Rattle.script_types.specs.declared.plan.Statement.TheVariants as statement
 use Rattle.pattern_core.specs.Choice.{slots_of}
 use Rattle.fair_semantics.specs.Ready.{ItemReady, OperandReady}
 
--- a print of at most 16 such items, a post of at most 8 such operands to one of so many actors, or a reply to one of the numbers that are taken
+-- a print of at most 16 such items, a post of at most 8 such operands to one of so many actors, or a reply to one of
+-- the numbers that are taken
 abbrev pub StatementReady : ℕ → List Message → List ℕ → Statement → Type 0
 StatementReady actors letters taken (statement.Print items) = AllByRecursion (ItemReady letters (slots_of taken)) items × (length items ≤ 16)
 StatementReady actors letters taken (statement.Post target kind operands) = (target < actors) × AllByRecursion (OperandReady letters (slots_of taken)) operands × (length operands ≤ 8)

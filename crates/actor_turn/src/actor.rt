@@ -72,9 +72,9 @@ fn runs(ending: Ending) -> bool
 }
 
 impl Actor {
-    /// The actor of the plan with this index, counted from 0, before its first arrival. It has so many feeds.
-    /// Its caller is told too that the fixed texts of its rules are texts and their numbers are of 64 bits, as their types say.
-    /// `NoMemory` where there is no memory for what it keeps of the plan.
+    /// The actor of the plan with this index, counted from 0, before its first arrival. It has so many feeds. Its
+    /// caller is told too that the fixed texts of its rules are texts and their numbers are of 64 bits, as their types
+    /// say. `NoMemory` where there is no memory for what it keeps of the plan.
     pub fn new(
         alloc: Global,
         plan: &Plan,
@@ -143,8 +143,8 @@ impl Actor {
         Outcome::Spent
     }
 
-    /// One fair step with any message, of a source that exists, and the stamp that it carries. The posts of a body wait in the
-    /// outboxes of their targets from then on. Where the actor runs and takes the message, it records a copy.
+    /// One fair step with any message, of a source that exists, and the stamp that it carries. The posts of a body wait
+    /// in the outboxes of their targets from then on. Where the actor runs and takes the message, it records a copy.
     /// `NoMemory` comes only where the actor runs and takes the message, and then the actor is as it was.
     pub fn arrive<L: Ledger>(
         &mut self,
@@ -175,8 +175,8 @@ impl Actor {
         }
     }
 
-    /// The same step with a message that is handed over, and so is not copied. `Refused` comes only where there is no memory and
-    /// the actor runs and takes the message. It has the message, and the actor is as it was.
+    /// The same step with a message that is handed over, and so is not copied. `Refused` comes only where there is no
+    /// memory and the actor runs and takes the message. It has the message, and the actor is as it was.
     pub fn receive<L: Ledger>(
         &mut self,
         alloc: Global,
@@ -297,8 +297,8 @@ impl Actor {
         self.firings.as_slice()
     }
 
-    /// Takes the first of the posts that wait for an actor of the plan, which may be brought back. `None` exactly where none
-    /// waits, and then nothing changes.
+    /// Takes the first of the posts that wait for an actor of the plan, which may be brought back. `None` exactly where
+    /// none waits, and then nothing changes.
     pub fn take_post(&mut self, target: u32) -> Option<Stamped>
         requires exists { target < length self.old.outbox }
 

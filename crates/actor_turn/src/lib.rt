@@ -1,9 +1,9 @@
 //! One actor: its fair steps over a mailbox and trees of partial matches, and the run that it shows.
 //!
 //! `Actor::new` makes it, `arrive` is one fair step with a copy of a message and `receive` one with the message itself,
-//! `take_post` and `return_post` are for those who carry its posts, and `into_run` gives its run. A contract sees what it was
-//! told, its state, and the posts that wait for each actor. Between two arrivals its trees hold the partial matches, each once,
-//! and no complete match waits. `give_room_back` is for lists that are emptied item by item.
+//! `take_post` and `return_post` are for those who carry its posts, and `into_run` gives its run. A contract sees what
+//! it was told, its state, and the posts that wait for each actor. Between two arrivals its trees hold the partial
+//! matches, each once, and no complete match waits. `give_room_back` is for lists that are emptied item by item.
 #![tactic(auto)]
 
 mod actor;

@@ -9,11 +9,13 @@ use join_base::{Items, Message, NoMemory};
 use mailbox_core::Mark;
 use std::alloc::Global;
 
-// From so many arrivals on, room for entries is grown. Less is made anew, since an empty vector has nothing to move. A large block
-// moves without its bytes, and where it were let go of, the allocator would no longer give later blocks of its size back.
+// From so many arrivals on, room for entries is grown. Less is made anew, since an empty vector has nothing to move. A
+// large block moves without its bytes, and where it were let go of, the allocator would no longer give later blocks of
+// its size back.
 const GROWN: usize = 1024;
 
-/// Makes room for what one more arrival fires, and for the entries of all of them. It may leave room where there is no memory.
+/// Makes room for what one more arrival fires, and for the entries of all of them. It may leave room where there is no
+/// memory.
 pub fn reserve_entry(
     alloc: Global,
     firings: &mut Vec<Fired>,
@@ -41,8 +43,8 @@ pub fn reserve_entry(
     Ok(())
 }
 
-/// The entries of letters, their marks and what they fired, put into the room that was made for them. It takes no memory, and
-/// gives back the room of the three lists as they grow shorter.
+/// The entries of letters, their marks and what they fired, put into the room that was made for them. It takes no
+/// memory, and gives back the room of the three lists as they grow shorter.
 pub fn into_entries(
     letters: Items<Message>,
     marks: Items<Mark>,

@@ -8,8 +8,8 @@ use fair_semantics::Effect;
 use join_base::{NoMemory, Stamped};
 use std::alloc::Global;
 
-/// Puts copies of the posts among effects, each with the stamp, behind those that wait for their targets, one after the other.
-/// Without memory the outboxes have the posts that they had.
+/// Puts copies of the posts among effects, each with the stamp, behind those that wait for their targets, one after the
+/// other. Without memory the outboxes have the posts that they had.
 pub fn send(
     alloc: Global,
     outboxes: &mut [Outbox],

@@ -41,8 +41,8 @@ pub fn spend(mail: &mut Mailbox, trees: &mut [MatchTree], ending: &mut Ending, s
     *ending = Ending::Spent;
 }
 
-/// Records a message with the stamp that it carried, offers its number to the trees, and gives the number. Where there is no
-/// memory, all is as it was, and the message comes back.
+/// Records a message with the stamp that it carried, offers its number to the trees, and gives the number. Where there
+/// is no memory, all is as it was, and the message comes back.
 pub fn record<L: Ledger>(
     mail: &mut Mailbox,
     trees: &mut [MatchTree],
@@ -79,8 +79,8 @@ pub fn record<L: Ledger>(
     }
 }
 
-/// The recorded message with the number is kept, since no match is complete. The actor jams where it would keep more partial
-/// matches than `most`.
+/// The recorded message with the number is kept, since no match is complete. The actor jams where it would keep more
+/// partial matches than `most`.
 pub fn keep(
     mail: &mut Mailbox,
     trees: &mut [MatchTree],
@@ -134,8 +134,8 @@ fn let_go(
     prune_all(trees, taken);
 }
 
-/// The match that was chosen fires at the recorded message with the number: its numbers leave, the body runs, and its posts
-/// wait in the outboxes. Where there is no memory, all is as it was, but for room.
+/// The match that was chosen fires at the recorded message with the number: its numbers leave, the body runs, and its
+/// posts wait in the outboxes. Where there is no memory, all is as it was, but for room.
 pub fn fire(
     alloc: Global,
     rules: &Items<Rule>,

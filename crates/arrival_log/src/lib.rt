@@ -3,12 +3,12 @@
 //! - `print_log` appends the log text of a run that fits its plan, in the run's version. Without memory the bytes are
 //!   as they were.
 //! - `write_head` and `write_actor` append its first line and the section of an actor, and `write_heading`,
-//!   `write_entry` and `write_last_lines` the parts of a section, for a caller that wants the text piece by piece. Without
-//!   memory some of a piece may stay appended.
+//!   `write_entry` and `write_last_lines` the parts of a section, for a caller that wants the text piece by piece.
+//!   Without memory some of a piece may stay appended.
 //!
 //! A contract sees the text as a function of the plan and the run, `log_text` (specs/LogText), and its pieces as
-//! `head_line`, `actor_lines` and the parts of these. That it reads back as that run is a matter of `log_reader`. Only tested: that
-//! `print_log` answers `Ok` where memory is ample, on two whole logs.
+//! `head_line`, `actor_lines` and the parts of these. That it reads back as that run is a matter of `log_reader`. Only
+//! tested: that `print_log` answers `Ok` where memory is ample, on two whole logs.
 #![tactic(auto)]
 
 mod lines;

@@ -123,7 +123,8 @@ fn write_arrival(
     write_message(text, plan, &entry.message)
 }
 
-// The lines of an arrival with this stamp in place of its own, and of what it fired, in one piece where the room takes them.
+// The lines of an arrival with this stamp in place of its own, and of what it fired, in one piece where the room takes
+// them.
 fn write_entry_in(
     text: &mut Bytes,
     room: &mut [u8; ROOM],

@@ -1,5 +1,5 @@
-//! Lines put together in a room, each before a place of it. The answer is where the line begins, or `None` where it has a
-//! text that needs escapes or is too long for the room.
+//! Lines put together in a room, each before a place of it. The answer is where the line begins, or `None` where it has
+//! a text that needs escapes or is too long for the room.
 ghost use Rattle.std.specs.Prelude.{◌≡◌, ◌≤◌, ◌+◌, ◌∷◌, [], ◌++◌, codes, drop, length, IfSome, Some};
 ghost use Rattle.std.specs.Fmt.{decimal};
 ghost use Rattle.std.specs.List.{flat_map};
@@ -212,7 +212,8 @@ fn put_fired(room: &mut [u8; ROOM], plan: &Plan, fired: &Fired) -> Option<usize>
     }
 }
 
-/// The lines of an arrival, with this stamp in place of its own, and of what it fired, where that has at most one effect.
+/// The lines of an arrival, with this stamp in place of its own, and of what it fired, where that has at most one
+/// effect.
 pub(crate) fn put_entry(
     room: &mut [u8; ROOM],
     plan: &Plan,

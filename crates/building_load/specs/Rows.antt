@@ -1,4 +1,5 @@
--- The feed of a hall. Its rows come in groups of three, a motion, a light and a contact in one room; two rows are 10 apart in time.
+-- The feed of a hall. Its rows come in groups of three, a motion, a light and a contact in one room; two rows are 10
+-- apart in time.
 use Rattle.std.specs.Prelude.{ℕ, zero, suc, ◌-◌, ◌*◌, ◌/◌, ◌%◌, List, [], ◌∷◌, pos, map}
 use Rattle.join_base.specs.declared.message.Message.{Message}
 use Rattle.join_base.specs.declared.message.Value.{Value}

@@ -232,8 +232,8 @@ fn actors(alloc: Global) -> Result<Items<ActorPlan>, NoMemory>
     Ok(actors)
 }
 
-/// The plan of the building, which is well typed: its kinds are motion, light and contact, which the halls take, and on and alarm,
-/// which the desk takes; its actors are hall1 to hall4 and desk.
+/// The plan of the building, which is well typed: its kinds are motion, light and contact, which the halls take, and on
+/// and alarm, which the desk takes; its actors are hall1 to hall4 and desk.
 pub fn load_plan(alloc: Global) -> Result<Plan, NoMemory>
     ensures plan { IfOk result (λ plan. plan ≡ building.load_plan) }
     ensures typed { IfOk result IsTyped }

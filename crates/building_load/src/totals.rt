@@ -91,9 +91,9 @@ fn write_actors(
     Ok(())
 }
 
-/// Appends the summary of a run over feeds of so many rows: `load N feeds F`, and for each actor the line
-/// `actor NAME arrivals N firings N late N left N partials N`, with the number of its arrivals, of those that fired, of the messages
-/// that were late, of those that are left, and of its partial matches. After `NoMemory` nothing was appended.
+/// Appends the summary of a run over feeds of so many rows: `load N feeds F`, and for each actor the line `actor NAME
+/// arrivals N firings N late N left N partials N`, with the number of its arrivals, of those that fired, of the
+/// messages that were late, of those that are left, and of its partial matches. After `NoMemory` nothing was appended.
 pub fn summary(
     alloc: Global,
     rows: u32,

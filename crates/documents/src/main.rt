@@ -2,8 +2,8 @@
 //! people of a refusal what they show, and accepts the logs.
 //!
 //! The examples are the data of this crate, and README.md and the documents under docs/ show them behind marks, where
-//! `.ci/documents` compares them with the files. So no output behind a mark can grow old unseen. Nothing is proved here but that it
-//! is safe, and ends where `join_main` does.
+//! `.ci/documents` compares them with the files. So no output behind a mark can grow old unseen. Nothing is proved here
+//! but that it is safe, and ends where `join_main` does.
 #![tactic(auto)]
 
 mod example;

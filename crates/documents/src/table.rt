@@ -1,8 +1,8 @@
 //! The examples: the file that holds what is printed, and the words that print it.
 
-/// What the words print, to the byte. Beside what it posts to itself, each actor of these scripts gets its messages from one source
-/// alone, or from the second only after all of the first, so there is one log. The desk of `load` gets them from four, and the
-/// summary counts them alone. A plan is a script, and its own plan.
+/// What the words print, to the byte. Beside what it posts to itself, each actor of these scripts gets its messages
+/// from one source alone, or from the second only after all of the first, so there is one log. The desk of `load` gets
+/// them from four, and the summary counts them alone. A plan is a script, and its own plan.
 pub const PRINTED: &[(&str, &[&str])] = &[
     ("guide/01.refused", &["check", "guide/01.join"]),
     ("guide/02.plan", &["check", "guide/02.join"]),

@@ -1,4 +1,5 @@
--- What one more adds: messages to a chain of fair steps, a number to those that rise by one, and an entry to the latest stamp.
+-- What one more adds: messages to a chain of fair steps, a number to those that rise by one, and an entry to the latest
+-- stamp.
 use Rattle.std.proofs.Common.{◌≡◌, ◌∙◌, ℕ, zero, suc, ◌+◌, List, [], ◌∷◌, ◌++◌, refl, ap, arith}
 use Rattle.fair_semantics.specs.declared.run.Entry.{Entry}
 use Rattle.fair_semantics.specs.Step.{last_stamp, latest_stamp, State, Setting, fair_step}

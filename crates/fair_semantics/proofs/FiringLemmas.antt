@@ -1,4 +1,5 @@
--- What the body of a well typed rule makes of messages that fit fits the plan: prints, posts and replies, and so what a choice fires.
+-- What the body of a well typed rule makes of messages that fit fits the plan: prints, posts and replies, and so what a
+-- choice fires.
 use Rattle.std.proofs.Common.{◌≡◌, ◌∙◌, ℕ, ◌+◌, ◌-◌, ◌^◌, ◌<◌, ◌≤◌, List, [], ◌∷◌, length, map, true, Option, None, Some, refl, ap, sym, subst, arith}
 use Rattle.std.specs.Prelude.{All, IfSome}
 use Rattle.std.specs.List.{AllByRecursion, list_any}

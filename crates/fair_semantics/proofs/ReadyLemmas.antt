@@ -1,4 +1,5 @@
--- The variables of well typed rules have values of their types where the messages fit: needs suit, and items and operands are ready.
+-- The variables of well typed rules have values of their types where the messages fit: needs suit, and items and
+-- operands are ready.
 use Rattle.std.proofs.Common.{◌≡◌, ◌∙◌, ℕ, zero, suc, List, [], ◌∷◌, true, Option, None, Some, refl, ap, sym, slice_get, slice_index}
 use Rattle.std.specs.List.{AllByRecursion}
 use Rattle.std.specs.Option.{option_and_then}

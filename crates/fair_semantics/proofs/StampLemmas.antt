@@ -1,4 +1,5 @@
--- In a linked run with stamps each stamp but 1 is 1 more than another, and so none is greater than the number of arrivals.
+-- In a linked run with stamps each stamp but 1 is 1 more than another, and so none is greater than the number of
+-- arrivals.
 use Rattle.std.proofs.Common.{◌≡◌, ◌∙◌, ◌⊎◌, inl, inr, ℕ, zero, suc, ◌+◌, ◌<◌, ◌≤◌, max, List, [], ◌∷◌, ◌++◌, length, map, Bool, true, false, cond, Option, None, Some, slice_get, refl, ap, sym, subst, arith}
 use Rattle.std.specs.Prelude.{if◌then◌else◌, nat_le, ◌==◌}
 use Rattle.std.specs.List.Sorted.{IsStrictlyIncreasing}

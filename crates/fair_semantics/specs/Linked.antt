@@ -1,4 +1,5 @@
--- A linked run: what each actor took from each source is what the source sent it, in order, and each actor did the fair steps.
+-- A linked run: what each actor took from each source is what the source sent it, in order, and each actor did the fair
+-- steps.
 use Rattle.std.specs.Prelude.{◌≡◌, ℕ, zero, suc, ◌+◌, ◌-◌, ◌^◌, min, max, List, [], ◌∷◌, ◌++◌, Bool, false, not, ◌==◌, Option, None, Some, map, length, take, drop, slice_get, if◌then◌else◌, Contains}
 use Rattle.std.specs.List.{filter_map, flat_map, list_any}
 use Rattle.join_base.specs.declared.message.Message.{Message}
@@ -118,7 +119,8 @@ abbrev pub brought_first : (List Sent → Bool) → List (List Sent) → List (L
 brought_first leads [] = []
 brought_first leads (rest ∷ rests) = if leads rest then rest ∷ rests else behind_first leads rest (brought_first leads rests)
 
--- the rests in the order in which they come: first one that begins with a message that does not fit, or where there is none one that begins with the greatest stamp
+-- the rests in the order in which they come: first one that begins with a message that does not fit, or where there is
+-- none one that begins with the greatest stamp
 abbrev pub rests_in_order : List (List Sort) → List (List Sent) → List (List Sent)
 rests_in_order sorts rests = if list_any (starts_unfit sorts) rests then brought_first (starts_unfit sorts) rests else brought_first (starts_with (greatest_start rests)) rests
 

@@ -1,4 +1,5 @@
--- What an item and an operand ask of the messages of a match: each variable has a recorded message and a value of its type.
+-- What an item and an operand ask of the messages of a match: each variable has a recorded message and a value of its
+-- type.
 use Rattle.std.specs.Prelude.{List, [], ◌∷◌}
 use Rattle.join_base.specs.declared.message.Message.{Message}
 use Rattle.join_base.specs.declared.message.Sort.TheVariants as sort

@@ -16,7 +16,8 @@ use Rattle.fair_semantics.specs.Linked.{arrived, posts_of, IsLinked}
 abbrev pub arrivals_of : List ActorRun → List Entry
 arrivals_of runs = flat_map (λ run. run.entries) runs
 
--- in a linked run with stamps each stamp is at most the number of all arrivals, since each smaller one is that of another arrival
+-- in a linked run with stamps each stamp is at most the number of all arrivals, since each smaller one is that of
+-- another arrival
 abbrev pub StampsAreFew : Type 0
 StampsAreFew = (plan : Plan) (limits : Limits) (feeds : List (List (ℕ × Message))) (run : Run) → IsLinked plan limits feeds run → run.version ≡ 2 → (entry : Entry) → IsIn entry (arrivals_of run.actors) → entry.stamp ≤ length (arrivals_of run.actors)
 
@@ -24,7 +25,8 @@ StampsAreFew = (plan : Plan) (limits : Limits) (feeds : List (List (ℕ × Messa
 abbrev pub StampsRise : Type 0
 StampsRise = (plan : Plan) (limits : Limits) (feeds : List (List (ℕ × Message))) (run : Run) → IsLinked plan limits feeds run → run.version ≡ 2 → (actor : ℕ) (own : ActorRun) → slice_get run.actors actor ≡ Some own → IsStrictlyIncreasing (map (λ entry. entry.stamp) own.entries)
 
--- and the stamp of an arrival is greater than the one that its message carried, which is that of the arrival whose body posted it
+-- and the stamp of an arrival is greater than the one that its message carried, which is that of the arrival whose body
+-- posted it
 abbrev pub StampsFollow : Type 0
 StampsFollow = (plan : Plan) (limits : Limits) (feeds : List (List (ℕ × Message))) (run : Run) → IsLinked plan limits feeds run → run.version ≡ 2 → (actor : ℕ) (own : ActorRun) → slice_get run.actors actor ≡ Some own → (place : ℕ) (entry : Entry) (sent : Sent)
     → slice_get own.entries place ≡ Some entry → slice_get (arrived (λ source. posts_of feeds run.actors source actor) own.entries) place ≡ Some sent → sent.1.stamp < entry.stamp

@@ -171,6 +171,7 @@ abbrev pub step_by : Bool → Setting → State → Source → Message → ℕ �
 step_by false setting state source message stamp = late_step state source
 step_by true setting state source message stamp = running_step (is_refused setting state message stamp) setting state source message stamp
 
--- the fair step with a message and the stamp that it carries, by the first case that applies: late, spent, fired, jammed or kept
+-- the fair step with a message and the stamp that it carries, by the first case that applies: late, spent, fired,
+-- jammed or kept
 abbrev pub fair_step : Setting → State → Source → Message → ℕ → Stepped
 fair_step setting state source message stamp = step_by (is_running state.ending) setting state source message stamp

@@ -15,7 +15,8 @@ use Rattle.join_command.specs.Files.{File, Absent, Long, Holds, file_of}
 use Rattle.join_command.specs.Verdict.{Feeds, FeedsAnswer, Given, Missing, Refused, Verdict, and_then, behind, feed_answer, feeds_answer, fetched, in_front, posts_or}
 use Rattle.join_command.specs.Loading.{LoadsFeed, LoadsFeeds, StopsFeeds, Tells, stopped_by}
 
--- the names asked so far, and the posts of the feeds in front of those that are left, of which the first has this number
+-- the names asked so far, and the posts of the feeds in front of those that are left, of which the first has this
+-- number
 pub record FeedsSoFar (plan : Plan) (names : List (List ℕ)) (before now : Told) (number : ℕ) (feeds : Feeds) (left : List (List ℕ)) : Type 0 where
   pub asked : List (List ℕ)
   pub told_is : now ≡ record { files = before.files; asked = before.asked ++ asked }

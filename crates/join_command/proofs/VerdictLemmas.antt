@@ -22,7 +22,8 @@ use Rattle.join_command.specs.Command.{command_of}
 use Rattle.join_command.specs.Files.{File, Absent, Long, Holds, file_of, log_of}
 use Rattle.join_command.specs.Verdict.{Verdict, Accepts, Checks, Lints, LogRefused, OfLog, checked_as, ScriptRefused, GivesPlan, IsScriptFault, OfCommand, OfScript, OfWords, OneVerdict, ScriptGives, ScriptStops, feeds_answer, limits_of, run_of}
 
--- a script spells one tree or has one fault, the tree has one plan or one fault, and a log is that of one run or has one line at fault
+-- a script spells one tree or has one fault, the tree has one plan or one fault, and a log is that of one run or has
+-- one line at fault
 pub record HaveOneAnswer : Type 0 where
   pub tree : reader.OneTree
   pub unread : reader.NoBoth

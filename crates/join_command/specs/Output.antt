@@ -90,7 +90,8 @@ meets_limits run = list_any (λ (actor : ActorRun). met_limit actor.ending) run.
 abbrev pub run_status : Run → Status
 run_status run = if meets_limits run then status.Limits else status.Done
 
--- the output is the log, of version 2, of a run that is linked to the feeds and that is that of one schedule of single steps
+-- the output is the log, of version 2, of a run that is linked to the feeds and that is that of one schedule of single
+-- steps
 pub record IsLog (plan : Plan) (limits : Limits) (feeds : Feeds) (answer : Status) (output : List ℕ) : Type 0 where
   pub run : Run
   pub version : run.version ≡ 2
@@ -103,7 +104,8 @@ pub record IsLog (plan : Plan) (limits : Limits) (feeds : Feeds) (answer : Statu
 abbrev pub load_limits : Limits
 load_limits = record { arrivals = 50000; partials = 65536 }
 
--- the output is the summary of a run of the building that is linked to its feeds of so many rows, and that is that of one schedule
+-- the output is the summary of a run of the building that is linked to its feeds of so many rows, and that is that of
+-- one schedule
 pub record IsSummary (rows : ℕ) (answer : Status) (output : List ℕ) : Type 0 where
   pub run : Run
   pub version : run.version ≡ 2

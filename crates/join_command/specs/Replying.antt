@@ -29,7 +29,8 @@ verdict_of (reply.Run plan options feeds) = Runs plan (limits_of options) feeds
 verdict_of (reply.Load rows) = Loads rows
 verdict_of (reply.Accepted arrivals) = Accepts arrivals
 
--- a plan that is looked at is well typed, one that runs has its parts and numbers in their ranges, and feeds of the building have 1 to 20,000 rows
+-- a plan that is looked at is well typed, one that runs has its parts and numbers in their ranges, and feeds of the
+-- building have 1 to 20,000 rows
 abbrev pub IsRunnable : Reply → Type 0
 IsRunnable (reply.Check plan) = Unit {0}
 IsRunnable (reply.Lint plan) = IsTyped plan

@@ -1,4 +1,5 @@
--- What words and files come to: the first refusal in the order in which the files are fetched, a plan that is checked or looked at, a run, the building's run, or a log that is accepted.
+-- What words and files come to: the first refusal in the order in which the files are fetched, a plan that is checked
+-- or looked at, a run, the building's run, or a log that is accepted.
 use Rattle.std.specs.Prelude.{◌≡◌, ◌⊎◌, ℕ, ◌+◌, List, [], ◌∷◌, ◌++◌, Option, None, Some, Result, Ok, Err}
 use Rattle.join_base.specs.declared.message.Message.{Message}
 use Rattle.join_base.specs.Outside.{Files}
@@ -30,7 +31,8 @@ Words = List (List ℕ)
 abbrev pub Feeds : Type 0
 Feeds = List (List (ℕ × Message))
 
--- The script is the first file, feed K is the file K + 1, and a log is the second; feeds, records and lines are counted from 1.
+-- The script is the first file, feed K is the file K + 1, and a log is the second; feeds, records and lines are counted
+-- from 1.
 pub data Verdict : Type 0 where
   Usage : Verdict
   TooLong : (file : ℕ) → Verdict
@@ -182,7 +184,8 @@ OneVerdict = (words : Words) (files : Files) (one other : Verdict) → IsVerdict
 abbrev pub IsBeginning : {X : Type 0} → List X → List X → Type 0
 IsBeginning {X} front all = (rest : List X) × (front ++ rest ≡ all)
 
--- `run` asks for the script, and once the script gives a plan for the feeds in order, up to the first that gives no posts
+-- `run` asks for the script, and once the script gives a plan for the feeds in order, up to the first that gives no
+-- posts
 pub data MayAskRun (files : Files) (run : RunWords) : List (List ℕ) → Type 0 where
   asks_nothing : MayAskRun files run []
   asks_script : MayAskRun files run (run.script ∷ [])

@@ -1,16 +1,16 @@
 //! The top call: what the words of the command line and the files come to, over any inputs and any sink.
 //!
-//! - `join_main` carries out the command that the words are, writes its output and answers a `Status`. Its contract says that output
-//!   and status are those of the verdict on the words and the files (specs/Verdict, specs/Answer), that only the files of the
-//!   command were fetched, in order (specs/Top), and why a fault is answered.
-//! - `command_of` gives the command that the words are, `write_all` writes bytes piece by piece, and `MAX_FILE` and `MAX_LOG` are the
-//!   most bytes of a file, for what a program tells people besides.
+//! - `join_main` carries out the command that the words are, writes its output and answers a `Status`. Its contract
+//!   says that output and status are those of the verdict on the words and the files (specs/Verdict, specs/Answer),
+//!   that only the files of the command were fetched, in order (specs/Top), and why a fault is answered.
+//! - `command_of` gives the command that the words are, `write_all` writes bytes piece by piece, and `MAX_FILE` and
+//!   `MAX_LOG` are the most bytes of a file, for what a program tells people besides.
 //!
 //! `join_main` runs a script on threads, past a `Gate`, and may wait for them.
 //!
-//! A contract sees the files and the bytes written where the inputs and the sink tell them (`Inputs`, `Sink` of `join_base`), and of
-//! the words their bytes. Only tested: that the calls answer something else than `NoMemory` where memory is ample, and that the
-//! log of a run is that of what its threads did.
+//! A contract sees the files and the bytes written where the inputs and the sink tell them (`Inputs`, `Sink` of
+//! `join_base`), and of the words their bytes. Only tested: that the calls answer something else than `NoMemory` where
+//! memory is ample, and that the log of a run is that of what its threads did.
 #![tactic(auto)]
 
 mod command;

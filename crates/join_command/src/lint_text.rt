@@ -72,8 +72,8 @@ fn write_report(text: &mut Bytes, plan: &Plan, found: &[Finding]) -> Result<(), 
 }
 
 /// Appends the findings of a plan, a line for each, in their order: `dead ACTOR rule R`, `narrow ACTOR rule R`,
-/// `shadowed ACTOR rule R by B` or `idle KIND`, and then `lint N` with their number. Definitions are counted from 1. After
-/// `NoMemory` nothing was appended.
+/// `shadowed ACTOR rule R by B` or `idle KIND`, and then `lint N` with their number. Definitions are counted from 1.
+/// After `NoMemory` nothing was appended.
 pub fn print_findings(alloc: Global, plan: &Plan, out: &mut Bytes) -> Result<(), NoMemory>
     requires typed { IsTyped plan.now }
     ensures ok { OnOk result (out.new ≡ out.old ++ lint_text plan.now) }

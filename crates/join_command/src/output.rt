@@ -224,7 +224,8 @@ fn run_output<R: Threads + Wait + Sync, G: Gate>(
     let mut bytes = Bytes::new(alloc);
     print_log(alloc, plan, &run, &mut bytes)?;
     let status = run_status(&run);
-    // The system takes its memory back as the program ends, at once. Message by message it costs up to a seventh of a run.
+    // The system takes its memory back as the program ends, at once. Message by message it costs up to a seventh of a
+    // run.
     mem::forget(run);
     Ok((status, bytes))
 }
@@ -303,7 +304,8 @@ pub fn output_of<R: Threads + Wait + Sync, G: Gate>(
     }
 }
 
-/// Writes the bytes to the sink, as many at a time as it takes, in at most one write for each byte. A write that fails ends it.
+/// Writes the bytes to the sink, as many at a time as it takes, in at most one write for each byte. A write that fails
+/// ends it.
 pub fn write_all<S: Sink>(out: &mut S, bytes: &[u8]) -> Result<(), Failed>
     ensures told { Writes (S.taken out.old) (S.taken out.new) bytes.now result }
     ensures cause { WriteCause (S.faults out.old) (S.faults out.new) result }

@@ -26,9 +26,9 @@ fn limits_of(options: RunOptions) -> Limits
     }
 }
 
-/// The run of the plan on its feeds, over all actors, within the limits of the options, by as many workers and over links with
-/// as much room as they say. It is linked to the feeds, and it is that of one schedule of single steps: the logs of its actors
-/// may be read as those of a run on one thread, step after step. It may wait.
+/// The run of the plan on its feeds, over all actors, within the limits of the options, by as many workers and over
+/// links with as much room as they say. It is linked to the feeds, and it is that of one schedule of single steps: the
+/// logs of its actors may be read as those of a run on one thread, step after step. It may wait.
 pub fn run_feeds<R: Threads + Wait + Sync, G: Gate>(
     rt: &R,
     alloc: Global,

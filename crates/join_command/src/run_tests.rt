@@ -11,7 +11,8 @@ type Case<'a> = (&'a [&'a str], &'a [u8], &'a [u8], Status, &'a [u8]);
 fn actors_post_stop_and_meet_their_limits(rt: HostRuntime) -> Result<(), Fail> {
     let alloc = rt.alloc();
     let cases: [Case<'_>; 6] = [
-        // Two actors answer each other, over links with room for one message, until one has no place for a further arrival.
+        // Two actors answer each other, over links with room for one message, until one has no place for a further
+        // arrival.
         (
             &["run", "--arrivals", "3", "--ring", "1", "s", "f"],
             b"message ping(n: int) actor p { when ping(n) { post q ping(n + 1); } } actor q { when ping(n) { post p ping(n + 1); } }",

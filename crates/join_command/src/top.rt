@@ -91,23 +91,23 @@ fn prepare<R: Threads + Wait + Sync, I: Inputs, G: Gate>(
     }
 }
 
-/// Carries out the command that the words are; `words` leaves out the program's name. `run SCRIPT FEED..` fetches the script
-/// and then 1 to 16 feeds in order, runs the script on the posts of the feeds within the limits that `--arrivals` and
-/// `--partials` give, and writes the log of that run. Each feed is posted by a thread of its own, and `--workers` threads work,
-/// over links of `--ring` places. `check SCRIPT` fetches the script, and writes its plan. `lint SCRIPT`
-/// fetches the script, and writes a line for each definition that can never fire and for each kind that no other one takes,
-/// and then their number. `replay SCRIPT LOG` fetches the script and then the log, and writes how many arrivals the log has.
-/// `load N` fetches nothing, runs the building of `building_load` on feeds of N rows as a `run` without options does, and writes
-/// the summary of that run.
+/// Carries out the command that the words are; `words` leaves out the program's name. `run SCRIPT FEED..` fetches the
+/// script and then 1 to 16 feeds in order, runs the script on the posts of the feeds within the limits that
+/// `--arrivals` and `--partials` give, and writes the log of that run. Each feed is posted by a thread of its own, and
+/// `--workers` threads work, over links of `--ring` places. `check SCRIPT` fetches the script, and writes its plan.
+/// `lint SCRIPT` fetches the script, and writes a line for each definition that can never fire and for each kind that
+/// no other one takes, and then their number. `replay SCRIPT LOG` fetches the script and then the log, and writes how
+/// many arrivals the log has. `load N` fetches nothing, runs the building of `building_load` on feeds of N rows as a
+/// `run` without options does, and writes the summary of that run.
 ///
 /// The first refusal ends the call: `Usage` where the words are no command, `TooLong` where a file has more than
-/// 16,777,216 bytes, or a log more than 268,435,456, `ScriptRefused` where the script has a fault, `FeedRefused` where a feed
-/// has a record in fault, and `LogRefused` where a line of the log is in fault; each writes one line. `Limits` comes in place
-/// of `Done` exactly where an actor of the run was jammed or spent, and the log is written in both cases. After `ReadFault` and
-/// `NoMemory` nothing was written, and after `WriteFault` a beginning of the output.
+/// 16,777,216 bytes, or a log more than 268,435,456, `ScriptRefused` where the script has a fault, `FeedRefused` where
+/// a feed has a record in fault, and `LogRefused` where a line of the log is in fault; each writes one line. `Limits`
+/// comes in place of `Done` exactly where an actor of the run was jammed or spent, and the log is written in both
+/// cases. After `ReadFault` and `NoMemory` nothing was written, and after `WriteFault` a beginning of the output.
 ///
-/// Each worker enters the gate just before it tries for an actor. The call may wait, and where it runs a script it waits for its
-/// threads. The memory of a run that was written stays taken until the program ends.
+/// Each worker enters the gate just before it tries for an actor. The call may wait, and where it runs a script it
+/// waits for its threads. The memory of a run that was written stays taken until the program ends.
 pub fn join_main<R: Threads + Wait + Sync, I: Inputs, S: Sink, G: Gate>(
     rt: &R,
     alloc: Global,
@@ -117,9 +117,9 @@ pub fn join_main<R: Threads + Wait + Sync, I: Inputs, S: Sink, G: Gate>(
     gate: &G,
 ) -> Status
     // The status and the bytes written are those of the verdict on the words and the files. For a run they are the log
-    // of a run that is linked to the posts of the feeds and is that of one schedule of single steps, for a check the text of the
-    // script's plan, for a lint that of its findings, for `load` the summary of such a run of the building, and for a replay
-    // the number of arrivals of the log, which is that of a run no line of which is in fault.
+    // of a run that is linked to the posts of the feeds and is that of one schedule of single steps, for a check the
+    // text of the script's plan, for a lint that of its findings, for `load` the summary of such a run of the building,
+    // and for a replay the number of arrivals of the log, which is that of a run no line of which is in fault.
     ensures answer { AnswersWhereTold words.now (I.tells inputs.old) (S.taken out.old) (I.tells inputs.new) (S.taken out.new) result }
 
     // Inputs that tell were asked only for names that the order fetches, whatever the sink tells.
@@ -129,7 +129,8 @@ pub fn join_main<R: Threads + Wait + Sync, I: Inputs, S: Sink, G: Gate>(
     ensures reads { CountsFault Status.ReadFault result (I.faults inputs.old) (I.faults inputs.new) }
     ensures writes { CountsFault Status.WriteFault result (S.faults out.old) (S.faults out.new) }
 
-    // Where no fault was counted, the status is that of the verdict that the words and the files have, or there was no memory.
+    // Where no fault was counted, the status is that of the verdict that the words and the files have, or there was no
+    // memory.
     ensures complete { CompletesWhereTold words.now (I.tells inputs.old) (I.faults inputs.old) (I.faults inputs.new) (S.faults out.old) (S.faults out.new) result }
 
     ensures words_refused { RefusesWords words.now result }

@@ -1,4 +1,5 @@
--- Numbers as a log has them: decimal, without leading zeros, and an integer with `-` where it is negative, but never `-0`.
+-- Numbers as a log has them: decimal, without leading zeros, and an integer with `-` where it is negative, but never
+-- `-0`.
 use Rattle.std.specs.Prelude.{ℕ, ℤ, Bool, not, ◌==◌, ◌||◌, List, length, slice_index, Option, if◌then◌else◌}
 use Rattle.join_base.specs.Integer.{natural_of, integer_of}
 use Rattle.log_lines.specs.Gives.{where_true}

@@ -1,14 +1,14 @@
 //! The posts that the entries of a log make, and what they make of the actor that they are for.
 //!
 //! - `same_entries` says whether entries are equal but for their stamps, and `same_fired` whether firings are.
-//! - `posts_made` makes the posts from one actor to another, which are a link. `has_message` says whether a post is the one
-//!   that arrived, and `is_from` whether an arrival is from an actor.
-//! - `lates_made` makes the late counts of an actor and `stamps_in` the stamps of its arrivals, both by the links to it.
-//!   `with_stamps` puts stamps in place of those of entries.
+//! - `posts_made` makes the posts from one actor to another, which are a link. `has_message` says whether a post is the
+//!   one that arrived, and `is_from` whether an arrival is from an actor.
+//! - `lates_made` makes the late counts of an actor and `stamps_in` the stamps of its arrivals, both by the links to
+//!   it. `with_stamps` puts stamps in place of those of entries.
 //!
-//! A contract sees each answer as a function of entries and links (specs/Same, Posts, Lates and Stamps). Where memory is
-//! wanted, `NoMemory` is the one refusal. There are no tests here: those of `join_command` replay whole logs, and the
-//! program `log_tests` changed ones.
+//! A contract sees each answer as a function of entries and links (specs/Same, Posts, Lates and Stamps). Where memory
+//! is wanted, `NoMemory` is the one refusal. There are no tests here: those of `join_command` replay whole logs, and
+//! the program `log_tests` changed ones.
 #![tactic(auto)]
 
 mod lates;

@@ -110,8 +110,8 @@ impl Same for Entry {
     }
 }
 
-/// Whether the entries are equal but for their stamps: as many, and each with the number, the source, the message and the
-/// firing of the one at its place.
+/// Whether the entries are equal but for their stamps: as many, and each with the number, the source, the message and
+/// the firing of the one at its place.
 pub fn same_entries(own: &[Entry], other: &[Entry]) -> bool
     ensures { result ≡ same_entries own.now other.now }
 {

@@ -76,8 +76,8 @@ fn stamps_made(
     Ok(stamps)
 }
 
-/// The stamps of the arrivals of an actor, in order, by the posts to it from each actor. Version 1 has none, so each is 0
-/// there. An arrival from an actor is from one of these.
+/// The stamps of the arrivals of an actor, in order, by the posts to it from each actor. Version 1 has none, so each is
+/// 0 there. An arrival from an actor is from one of these.
 pub fn stamps_in(
     alloc: Global,
     version: u32,

@@ -69,8 +69,8 @@ fn run_of(draft: Draft) -> Run
 }
 
 /// The run whose log the bytes are: `print_log` of it gives these bytes. Where they are the log of no run of the plan,
-/// the answer is the line at fault, from 1 on: the first whole line that may not stand where it stands, or one more than
-/// the number of whole lines.
+/// the answer is the line at fault, from 1 on: the first whole line that may not stand where it stands, or one more
+/// than the number of whole lines.
 ///
 /// The bytes are read in one pass.
 pub fn read_log(alloc: Global, plan: &Plan, bytes: &[u8]) -> Result<Run, LogFault>

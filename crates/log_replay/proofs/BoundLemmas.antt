@@ -1,4 +1,5 @@
--- In a linked run whose feeds fit, each message that is under way fits and carries a stamp far below the greatest. So what is behind an actor's arrivals is there only where it is full or has ended.
+-- In a linked run whose feeds fit, each message that is under way fits and carries a stamp far below the greatest. So
+-- what is behind an actor's arrivals is there only where it is full or has ended.
 use Rattle.std.proofs.Common.{◌≡◌, ◌∙◌, ◌⊎◌, inl, inr, ℕ, zero, suc, ◌+◌, ◌*◌, ◌<◌, ◌≤◌, max, List, [], ◌∷◌, ◌++◌, length, length-append, map, drop, Bool, true, false, Option, None, Some, slice_get, refl, ap, sym, subst, arith}
 use Rattle.std.specs.Prelude.{if◌then◌else◌, nat_le, not, ◌||◌, ◌==◌, IfSome}
 use Rattle.std.specs.List.{AllByRecursion, cons_option, filter_map, flat_map}

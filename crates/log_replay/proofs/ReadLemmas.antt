@@ -1,4 +1,5 @@
--- A run that is its own expected run: each actor recorded each of its arrivals, with the stamps that the fair steps give.
+-- A run that is its own expected run: each actor recorded each of its arrivals, with the stamps that the fair steps
+-- give.
 use Rattle.std.proofs.Common.{◌≡◌, ◌∙◌, inl, inr, ℕ, suc, ◌+◌, ◌<◌, ◌≤◌, max, List, [], ◌∷◌, ◌++◌, length, length-append, map, Bool, true, false, Some, slice_get, refl, ap, sym, subst, arith}
 use Rattle.std.specs.Prelude.{if◌then◌else◌, nat_lt, nat_le, not, ◌||◌, ◌==◌}
 use Rattle.std.specs.List.{AllByRecursion}

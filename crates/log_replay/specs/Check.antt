@@ -26,8 +26,8 @@ numbered (Some place) = Some (place + 1)
 abbrev pub arrival_count : Run → ℕ
 arrival_count run = length (arrivals_of run.actors)
 
--- the bytes are the log of a run no line of whose log is in fault, and that has so many arrivals; it is linked to the feeds that it
--- shows, and with stamps it is that of one schedule of single steps
+-- the bytes are the log of a run no line of whose log is in fault, and that has so many arrivals; it is linked to the
+-- feeds that it shows, and with stamps it is that of one schedule of single steps
 pub record IsAcceptedLog (plan : Plan) (bytes : List ℕ) (count : ℕ) : Type 0 where
   pub run : Run
   pub log : IsLogOf plan bytes run
@@ -42,7 +42,8 @@ pub record IsDifferingLog (plan : Plan) (bytes : List ℕ) (line : ℕ) : Type 0
   pub log : IsLogOf plan bytes run
   pub first : IsFirstInFault plan run line
 
--- accepted with the number of arrivals; no log, with the line at fault; a log that differs from that of its expected run, or whose posts do; or there was no memory
+-- accepted with the number of arrivals; no log, with the line at fault; a log that differs from that of its expected
+-- run, or whose posts do; or there was no memory
 abbrev pub Checks : Plan → List ℕ → Result ℕ LogRefusal → Type 0
 Checks plan bytes (Ok count) = IsAcceptedLog plan bytes count
 Checks plan bytes (Err (Bad line)) = IsNoLog plan bytes × IsFaultLine plan bytes line

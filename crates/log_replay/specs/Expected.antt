@@ -41,7 +41,8 @@ bare entry = (entry.source, record { message = entry.message; stamp = 0 })
 abbrev pub stepped : Plan → Run → ℕ → State
 stepped plan run actor = fair plan actor run.limits run.feeds (map bare (read_entries run actor))
 
--- the posts from one actor to another by its expected entries, each with the stamp that was read at the entry that makes it
+-- the posts from one actor to another by its expected entries, each with the stamp that was read at the entry that
+-- makes it
 abbrev pub expected_posts : Plan → Run → ℕ → ℕ → List Stamped
 expected_posts plan run from to = flat_map (entry_posts to) (stamped_as (stepped plan run from).entries (read_entries run from))
 
@@ -67,7 +68,8 @@ expected_late plan run actor =
 abbrev pub some_late : Late → Bool
 some_late late = list_any (λ n. not (n == 0)) late.feeds || list_any (λ n. not (n == 0)) late.actors
 
--- the state with these late counts: where the actor runs and one is above 0, it is full, and the late message has spent it
+-- the state with these late counts: where the actor runs and one is above 0, it is full, and the late message has spent
+-- it
 abbrev pub settled : State → Late → State
 settled state late =
     if is_running state.ending && some_late late then record { entries = state.entries; live = []; ending = ending.Spent; late = late }

@@ -58,7 +58,8 @@ texts_of lines = map (λ (l : Line). l.text) lines
 
 -- ---- which of them are in fault
 
--- an arrival from an actor, behind k others from it, is that actor's post to this one behind k others, by its expected entries
+-- an arrival from an actor, behind k others from it, is that actor's post to this one behind k others, by its expected
+-- entries
 abbrev pub IsPosted : Plan → Run → ℕ → List Entry → Entry → Type 0
 IsPosted plan run actor before entry = (from : ℕ) → entry.source ≡ Actor from → slice_get (messages_of (expected_posts plan run from actor)) (length (taken_from (Actor from) before)) ≡ Some entry.message
 
@@ -71,7 +72,8 @@ Keeps plan run (arrives actor before entry) = IsPosted plan run actor before ent
 Keeps plan run (ends actor) = LacksNone plan run actor
 Keeps plan run other = Unit {0}
 
--- the line at a place, from 0, is right: what it says of posts holds, and it is the line there of the expected run's text; past the last line, that text has none either
+-- the line at a place, from 0, is right: what it says of posts holds, and it is the line there of the expected run's
+-- text; past the last line, that text has none either
 pub record IsRight (plan : Plan) (run : Run) (place : ℕ) : Type 0 where
   pub keeps : IfSome (slice_get (lines_of plan run) place) (λ (l : Line). Keeps plan run l.mark)
   pub same : slice_get (texts_of (lines_of plan run)) place ≡ slice_get (texts_of (lines_of plan (expected_run plan run))) place

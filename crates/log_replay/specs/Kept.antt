@@ -1,4 +1,5 @@
--- What the lines of a run say of posts, beside its expected run: the first that does not hold. Lines are counted from 0.
+-- What the lines of a run say of posts, beside its expected run: the first that does not hold. Lines are counted from
+-- 0.
 use Rattle.std.specs.Prelude.{ℕ, ◌+◌, min, List, [], ◌∷◌, Bool, false, ◌&&◌, nat_lt, Option, None, Some, length, slice_get, if◌then◌else◌}
 use Rattle.join_base.specs.declared.message.Source.TheVariants.{Actor}
 use Rattle.join_base.specs.declared.message.Stamped.{Stamped}
@@ -33,8 +34,8 @@ abbrev pub sections_size : List ActorRun → ℕ
 sections_size [] = 0
 sections_size (own ∷ runs) = section_size own + sections_size runs
 
--- Of the entries from this line on, where so many of the posts from an actor were taken: the first entry from it that is not its next
--- post, or the end line, behind so many late ones, where the section is to run on and lacks a post.
+-- Of the entries from this line on, where so many of the posts from an actor were taken: the first entry from it that
+-- is not its next post, or the end line, behind so many late ones, where the section is to run on and lacks a post.
 abbrev pub link_fault : List Stamped → ℕ → Bool → ℕ → ℕ → ℕ → List Entry → Option ℕ
 link_fault posts from runs_on late line taken [] = if runs_on && nat_lt taken (length posts) then Some (line + late) else None
 link_fault posts from runs_on late line taken (entry ∷ entries) =

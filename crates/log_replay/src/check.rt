@@ -28,7 +28,8 @@ fn arrival_count(run: &Run) -> u64
     count
 }
 
-// The run whose log the bytes are, and what its actors make of its arrivals. It is read, and held, beside what they make.
+// The run whose log the bytes are, and what its actors make of its arrivals. It is read, and held, beside what they
+// make.
 fn replay_beside<L: Ledger>(
     alloc: Global,
     plan: &Plan,
@@ -45,8 +46,8 @@ fn replay_beside<L: Ledger>(
     }
 }
 
-// The run whose log the bytes are, and what its actors make of its arrivals. Where some actor makes something else of them than was
-// read, the bytes are read once more.
+// The run whose log the bytes are, and what its actors make of its arrivals. Where some actor makes something else of
+// them than was read, the bytes are read once more.
 #[tactic(auto, using(crate::proofs::HandedLemmas::handed_is))]
 fn read_and_replay<L: Ledger>(
     alloc: Global,
@@ -65,14 +66,14 @@ fn read_and_replay<L: Ledger>(
     }
 }
 
-/// Checks the bytes as the log of a run of the plan. The answer is the number of arrivals over all actors. `Bad` comes exactly where
-/// the bytes are the log of no run of the plan, and has the line at fault. `Differs` comes exactly where they are the log of a run and
-/// some line of it is in fault, and has the first one.
+/// Checks the bytes as the log of a run of the plan. The answer is the number of arrivals over all actors. `Bad` comes
+/// exactly where the bytes are the log of no run of the plan, and has the line at fault. `Differs` comes exactly where
+/// they are the log of a run and some line of it is in fault, and has the first one.
 ///
-/// An accepted log is that of a run which is linked to feeds: each actor did the fair steps with its arrivals, and each post arrived or
-/// was late. With stamps it may be read as the log of a run on one thread, step after step: some schedule over those feeds has it.
-/// The bytes are read in one pass, and the run is replayed once. Where some actor makes something else of its arrivals than was read,
-/// both are done twice.
+/// An accepted log is that of a run which is linked to feeds: each actor did the fair steps with its arrivals, and each
+/// post arrived or was late. With stamps it may be read as the log of a run on one thread, step after step: some
+/// schedule over those feeds has it. The bytes are read in one pass, and the run is replayed once. Where some actor
+/// makes something else of its arrivals than was read, both are done twice.
 pub fn check_log<L: Ledger>(
     alloc: Global,
     plan: &Plan,

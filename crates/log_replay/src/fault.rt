@@ -26,11 +26,12 @@ fn numbered(place: Option<u64>) -> Option<u64>
     }
 }
 
-/// The number of the first line in fault of the log of a run, from 1 on, or `None` where no line is. The bytes are that log, and the
-/// other runs are its expected run.
+/// The number of the first line in fault of the log of a run, from 1 on, or `None` where no line is. The bytes are that
+/// log, and the other runs are its expected run.
 ///
-/// The log of the expected run is written and compared entry by entry, and each arrival from an actor is compared with that
-/// actor's next post. So the time is that of both logs, and for each actor that of all arrivals and effects once more.
+/// The log of the expected run is written and compared entry by entry, and each arrival from an actor is compared with
+/// that actor's next post. So the time is that of both logs, and for each actor that of all arrivals and effects once
+/// more.
 pub(crate) fn first_fault(
     alloc: Global,
     plan: &Plan,

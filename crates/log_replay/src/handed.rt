@@ -1,4 +1,5 @@
-//! The replay of a run that is handed over: its messages go to the actors, and of what was read and what was made, one is kept.
+//! The replay of a run that is handed over: its messages go to the actors, and of what was read and what was made, one
+//! is kept.
 ghost use Rattle.std.specs.Prelude.{◌≡◌, ◌+◌, ◌∷◌, [], ◌++◌, ◌<◌, ◌≤◌, length, max, true, IfOk, IfSome, OnOk};
 ghost use Rattle.join_base.specs.Late.{HasCount};
 ghost use Rattle.join_base.specs.declared.message.Source.{Source};
@@ -77,7 +78,8 @@ struct Made {
     stamps: Items<u64>,
 }
 
-// The run that an actor shows behind the fair steps over the read arrivals, where it records each as it was read but for its stamp.
+// The run that an actor shows behind the fair steps over the read arrivals, where it records each as it was read but
+// for its stamp.
 fn made_as_read<L: Ledger>(
     alloc: Global,
     plan: &Plan,
@@ -172,11 +174,11 @@ fn shared(alloc: Global, made: Made) -> (Items<Entry>, Shared)
     (with_stamps(entries, stamps.as_slice()), shared)
 }
 
-/// What the actors of a run make of its arrivals, where each records them as they were read but for their stamps. `None` where some
-/// actor does not, and then the run is gone.
+/// What the actors of a run make of its arrivals, where each records them as they were read but for their stamps.
+/// `None` where some actor does not, and then the run is gone.
 ///
-/// Each message is handed to its actor, and what was read of an arrival is let go of as soon as it was found again. So beside the
-/// run itself there is no more than one actor, without its messages and effects.
+/// Each message is handed to its actor, and what was read of an arrival is let go of as soon as it was found again. So
+/// beside the run itself there is no more than one actor, without its messages and effects.
 pub(crate) fn handed<L: Ledger>(
     alloc: Global,
     plan: &Plan,

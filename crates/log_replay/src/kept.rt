@@ -34,8 +34,8 @@ fn section_size(own: &ActorRun) -> u64
     size + own.late.len() as u64
 }
 
-// The first line that does not hold of the posts from an actor: of the entries, the first at this line, or the end line behind them
-// and the late ones, where the section is to run on.
+// The first line that does not hold of the posts from an actor: of the entries, the first at this line, or the end line
+// behind them and the late ones, where the section is to run on.
 fn link_fault(
     posts: &[Posted],
     from: u32,
@@ -111,7 +111,8 @@ pub(crate) fn earlier(first: Option<u64>, second: Option<u64>) -> Option<u64>
     }
 }
 
-// The first line of the section of an actor that does not hold of the posts of some actor. The section begins at this line.
+// The first line of the section of an actor that does not hold of the posts of some actor. The section begins at this
+// line.
 fn section_fault(
     alloc: Global,
     run: &Run,

@@ -16,7 +16,8 @@ pub fn accepted_law()
     ensures { LinkedIsAccepted }
 {}
 
-/// Conversely a run that is its own expected run, and no line of whose log is in fault, is linked to the feeds that it shows.
+/// Conversely a run that is its own expected run, and no line of whose log is in fault, is linked to the feeds that it
+/// shows.
 pub fn linked_law()
     ensures { ExpectedIsLinked }
 {}
@@ -31,9 +32,9 @@ pub fn fits_law()
     ensures { ExpectedFits }
 {}
 
-/// A run that fits the plan, and no line of whose log is in fault, is its own expected run, and is linked with its stamps to the feeds
-/// that it shows: what its actors took from each, and a copy of an actor's first message for each late one of it. In version 2 it is
-/// that of one schedule of single steps over those feeds.
+/// A run that fits the plan, and no line of whose log is in fault, is its own expected run, and is linked with its
+/// stamps to the feeds that it shows: what its actors took from each, and a copy of an actor's first message for each
+/// late one of it. In version 2 it is that of one schedule of single steps over those feeds.
 pub fn converse_law()
     ensures expected { AcceptedIsExpected }
     ensures linked { AcceptedIsLinked }

@@ -9,11 +9,12 @@
 //!
 //! A contract says by `Checks` (specs/Check) what an answer means, by `expected_run` (specs/Expected) what is expected,
 //! and by `IsAccepted` and `IsFirstInFault` (specs/Fault) which lines are in fault. Steps are counted as in
-//! `actor_turn`, and no clause bounds them here. Beside the bytes and the run that was read, the memory of `check_log` is
-//! that of one actor at a time, of what differs, and, as text, of one entry or of the lines behind an actor's entries.
-//! Where each actor records its arrivals as they were read, an actor and its section share their messages and effects.
-//! Beside the run that was read, the memory of `replay` is that of the run that it gives. There are no tests here: those
-//! of `join_command` replay whole logs, and the program `log_tests` replays changed ones and compares expected runs.
+//! `actor_turn`, and no clause bounds them here. Beside the bytes and the run that was read, the memory of `check_log`
+//! is that of one actor at a time, of what differs, and, as text, of one entry or of the lines behind an actor's
+//! entries. Where each actor records its arrivals as they were read, an actor and its section share their messages and
+//! effects. Beside the run that was read, the memory of `replay` is that of the run that it gives. There are no tests
+//! here: those of `join_command` replay whole logs, and the program `log_tests` replays changed ones and compares
+//! expected runs.
 #![tactic(auto)]
 
 mod apart;

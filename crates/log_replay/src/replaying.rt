@@ -111,10 +111,10 @@ pub(crate) fn kept_runs<L: Ledger>(
     Ok(runs)
 }
 
-/// The expected run of a run that was read, where this is kept of what its actors make of its arrivals: what they do by the fair step
-/// with the sources and messages of their entries, in order, under its limits. Its late counts are, of an actor that has ended or
-/// is full, the read ones for the feeds and for the actors their posts beyond those that arrived; its stamps are those of the version.
-/// It fits the plan.
+/// The expected run of a run that was read, where this is kept of what its actors make of its arrivals: what they do by
+/// the fair step with the sources and messages of their entries, in order, under its limits. Its late counts are, of an
+/// actor that has ended or is full, the read ones for the feeds and for the actors their posts beyond those that
+/// arrived; its stamps are those of the version. It fits the plan.
 pub(crate) fn expected_runs(
     alloc: Global,
     plan: &Plan,

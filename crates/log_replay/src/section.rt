@@ -97,8 +97,9 @@ fn behind_head(alloc: Global, bytes: &[u8], run: &Run) -> Result<Progress, NoMem
     Ok(behind(bytes, start, text.bytes()))
 }
 
-/// How many lines end in front of the first difference of the bytes and the log of the expected run, or `None` where they are one.
-/// That log is written in pieces, each no more than the lines of one entry or those behind the entries of an actor.
+/// How many lines end in front of the first difference of the bytes and the log of the expected run, or `None` where
+/// they are one. That log is written in pieces, each no more than the lines of one entry or those behind the entries of
+/// an actor.
 pub(crate) fn parted_at(
     alloc: Global,
     plan: &Plan,

@@ -1,9 +1,10 @@
 //! Replays logs that are changed in each small way, and tells whether the answers are the ones worked out by hand.
 //!
-//! Each byte of a log is replaced by every other byte, the log is cut behind each byte, each line is dropped, doubled and exchanged
-//! with the next, some are replaced by others, and some whole logs stand for themselves. What each is to come to stands in the
-//! tables, from the form of the lines and from what the actors do, and not from any answer. So does the log of the expected run of each
-//! log, and of some that are changed in a line. Nothing is proved here but that it is safe and ends.
+//! Each byte of a log is replaced by every other byte, the log is cut behind each byte, each line is dropped, doubled
+//! and exchanged with the next, some are replaced by others, and some whole logs stand for themselves. What each is to
+//! come to stands in the tables, from the form of the lines and from what the actors do, and not from any answer. So
+//! does the log of the expected run of each log, and of some that are changed in a line. Nothing is proved here but
+//! that it is safe and ends.
 #![tactic(auto)]
 
 mod answer;

@@ -1,7 +1,7 @@
 //! Logs, and what each change of them is to come to.
 //!
-//! Below each line stands a mark for each of its bytes. A `.` is a byte in whose place no other may stand: with another the line
-//! is none. What else may stand in place of a byte is said by the rows of its mark.
+//! Below each line stands a mark for each of its bytes. A `.` is a byte in whose place no other may stand: with another
+//! the line is none. What else may stand in place of a byte is said by the rows of its mark.
 
 use crate::answer::Answer;
 
@@ -23,7 +23,8 @@ pub enum Wanted {
 /// In place of a byte with this mark, these bytes come to this.
 pub type Mark = (u8, &'static [u8], Wanted);
 
-/// A line with its marks, and what comes of the log where the line is dropped, stands twice, or stands behind the next one.
+/// A line with its marks, and what comes of the log where the line is dropped, stands twice, or stands behind the next
+/// one.
 #[derive(Clone, Copy)]
 pub struct Line {
     pub text: &'static str,

@@ -1,4 +1,5 @@
--- Helpers and posters may be sent to another thread, and threads may share a pool: type by type, from what holds itself upwards. `search` finds each step, and not the whole.
+-- Helpers and posters may be sent to another thread, and threads may share a pool: type by type, from what holds itself
+-- upwards. `search` finds each step, and not the whole.
 use denote.RattleType.{RattleType}
 use denote.Param.Send.{IsSend, IsSync, sendable}
 use denote.Struct.Field.{Field, row_field, u32-field, u64-field}

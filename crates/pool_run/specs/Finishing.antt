@@ -16,7 +16,8 @@ use Rattle.actor_pool.specs.declared.poster.Poster.{Poster}
 use Rattle.actor_pool.specs.Helpers.{SeatView}
 use Rattle.actor_pool.specs.Posters.{feed_links}
 
--- a feed for each poster: its posts to each actor of the plan are what the poster sent there; and their values are in range
+-- a feed for each poster: its posts to each actor of the plan are what the poster sent there; and their values are in
+-- range
 pub record AreSent (plan : Plan) (posters : List Poster) (feeds : List (List (ℕ × Message))) : Type 0 where
   pub count : length feeds ≡ length posters
   pub values : FeedsFit feeds

@@ -45,9 +45,9 @@ fn finish_in<L: Ledger>(
     settle(alloc, plan, limits, cells, ends, &mut steps)
 }
 
-/// Closes a pool that has all its parts, brings what still waits to the actors, and gives the run that they show. The run is linked
-/// to the feeds whose posts to each actor are what the posters sent, and it is that of one schedule of single steps. The arrivals of
-/// each actor go on from what the helper had seen of it.
+/// Closes a pool that has all its parts, brings what still waits to the actors, and gives the run that they show. The
+/// run is linked to the feeds whose posts to each actor are what the posters sent, and it is that of one schedule of
+/// single steps. The arrivals of each actor go on from what the helper had seen of it.
 ///
 /// It does not wait. `NoMemory` comes where there was none, for an arrival or for the lists that it needs.
 pub fn finish(

@@ -44,7 +44,8 @@ fn counts(run: &Run, actor: usize) -> (usize, usize, usize) {
     (own.entries.len(), firings, own.left.len())
 }
 
-// In a group of three rows the motion fires with the light or with the contact, and the other is left. Each firing posts to the desk.
+// In a group of three rows the motion fires with the light or with the contact, and the other is left. Each firing
+// posts to the desk.
 #[test]
 fn a_thousand_rows_come_to_the_same(rt: HostRuntime) -> Result<(), Fail> {
     for (ring, workers) in [(1, 0), (1, 1), (1, 8), (64, 1), (64, 8)] {

@@ -1,7 +1,7 @@
 //! The threads of a run: one for each feed, and one for each worker.
 //!
-//! Each starts the next one and then does its own part. Where no thread can be made, `join` does the parts behind one after it, in the
-//! same thread. So feeds stand before workers, which wait until all feeds have ended.
+//! Each starts the next one and then does its own part. Where no thread can be made, `join` does the parts behind one
+//! after it, in the same thread. So feeds stand before workers, which wait until all feeds have ended.
 ghost use Rattle.std.specs.Prelude.{◌≡◌, ◌≤◌, All, IfOk, length};
 ghost use Rattle.std.specs.Thread.{IsSync};
 ghost use Rattle.pool_run.specs.Parts.{AreReturned, IsFed, IsPart, IsSpare};

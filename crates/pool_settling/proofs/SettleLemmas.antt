@@ -1,4 +1,5 @@
--- From drained actors to actors that can be given anything, and from actors with no post in an outbox to the run that they show.
+-- From drained actors to actors that can be given anything, and from actors with no post in an outbox to the run that
+-- they show.
 use Rattle.std.proofs.Common.{◌≡◌, ◌∙◌, ◌⊎◌, inl, inr, ℕ, zero, suc, ◌+◌, ◌<◌, ◌≤◌, List, [], ◌∷◌, ◌++◌, length, map, Bool, true, false, Option, None, Some, slice_get, refl, ap, sym, subst, arith}
 use Rattle.std.specs.Prelude.{if◌then◌else◌, nat_lt}
 use Rattle.std.specs.List.{AllByRecursion, flat_map}

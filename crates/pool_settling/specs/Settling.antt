@@ -14,7 +14,8 @@ use Rattle.cell_links.specs.Ends.{poster_links, sent_to}
 use Rattle.actor_cells.specs.declared.cell.Cell.{Cell}
 use Rattle.actor_cells.specs.Lawful.{history_of, noted}
 
--- a feed for each poster: its posts to each actor of the plan are what the poster sent there, and then those left of it; and their values are in range
+-- a feed for each poster: its posts to each actor of the plan are what the poster sent there, and then those left of
+-- it; and their values are in range
 pub record AreFeedsWith (plan : Plan) (posters : List Poster) (rest feeds : List (List (ℕ × Message))) : Type 0 where
   pub count : length feeds ≡ length posters
   pub values : FeedsFit feeds

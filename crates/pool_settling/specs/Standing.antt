@@ -25,8 +25,9 @@ sources_of held = sources (feed_count held) (actor_count held)
 abbrev pub arrivals_of : Held → List (Source × Message)
 arrivals_of held = map noted held.state.entries
 
--- what the actor took from a source begins what came from there, and the others are late; its state is the fair semantics of its arrivals and then the rests;
--- and what went to a target and then what waits for it is what its bodies posted there
+-- what the actor took from a source begins what came from there, and the others are late; its state is the fair
+-- semantics of its arrivals and then the rests; and what went to a target and then what waits for it is what its bodies
+-- posted there
 pub record StandsBy (came : Source → List Stamped) (went : ℕ → List Stamped) (held : Held) : Type 0 where
   pub outboxes : length held.outbox ≡ actor_count held
   pub known : (source : Source) → (came source ≡ []) ⊎ IsAmong (feed_count held) (actor_count held) source

@@ -125,8 +125,9 @@ fn drain_all<L: Ledger>(
     Ok(())
 }
 
-/// Lets both ends of each link meet, and brings what the link holds to its actor. The answer is the actors of the cells, to which all
-/// has come that went over the links. `NoMemory` where there is none for the lists of ends, or for an arrival.
+/// Lets both ends of each link meet, and brings what the link holds to its actor. The answer is the actors of the
+/// cells, to which all has come that went over the links. `NoMemory` where there is none for the lists of ends, or for
+/// an arrival.
 pub fn drain_links<L: Ledger>(
     alloc: Global,
     cells: Vec<Cell>,

@@ -119,8 +119,8 @@ fn bring_round<L: Ledger>(
     Ok(found)
 }
 
-/// Brings what waits in outboxes, in rounds, until none holds a post. It comes to that, since each round that finds a post leaves less
-/// work.
+/// Brings what waits in outboxes, in rounds, until none holds a post. It comes to that, since each round that finds a
+/// post leaves less work.
 pub fn bring_posts<L: Ledger>(
     alloc: Global,
     actors: &mut Vec<Actor>,

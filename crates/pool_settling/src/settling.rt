@@ -21,12 +21,13 @@ use script_types::Plan;
 use std::alloc::Global;
 use std::sync::ledger::Ledger;
 
-/// The run that the cells of a plan come to, wherever serving left them: all that their links hold arrives, then what is left of the
-/// feeds, and then what the outboxes hold, until none holds a post.
+/// The run that the cells of a plan come to, wherever serving left them: all that their links hold arrives, then what
+/// is left of the feeds, and then what the outboxes hold, until none holds a post.
 ///
-/// `rest` has, for the first feeds in order, the posts that their posters did not send. Those for no actor of the plan are passed over.
-/// The run is linked to the feeds whose posts to each actor are what the poster sent there, and then those of its list in `rest`.
-/// `NoMemory` comes only where there was none: for the lists of ends and runs, or for an arrival.
+/// `rest` has, for the first feeds in order, the posts that their posters did not send. Those for no actor of the plan
+/// are passed over. The run is linked to the feeds whose posts to each actor are what the poster sent there, and then
+/// those of its list in `rest`. `NoMemory` comes only where there was none: for the lists of ends and runs, or for an
+/// arrival.
 pub fn settle_with<L: Ledger>(
     alloc: Global,
     plan: &Plan,

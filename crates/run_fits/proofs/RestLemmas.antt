@@ -1,4 +1,5 @@
--- Between two arrivals no match waits: a choice takes the newest number, and what a firing leaves has no more partial matches than there were.
+-- Between two arrivals no match waits: a choice takes the newest number, and what a firing leaves has no more partial
+-- matches than there were.
 use Rattle.std.proofs.Common.{◌≡◌, ◌∙◌, ℕ, ◌+◌, ◌≤◌, List, [], ◌∷◌, length, true, None, Some, refl, arith}
 use Rattle.std.specs.List.{AllByRecursion}
 use Rattle.std.specs.List.Sorted.{IsStrictlyIncreasing}

@@ -30,7 +30,8 @@ use Rattle.fair_semantics.proofs.StepLemmas.{number_of_newest}
 use Rattle.run_fits.specs.RestLaw.{TakesNewest}
 use Rattle.run_fits.proofs.RestLemmas.{CanRest, IsResting, cleared_rests, fired_rests, none_chosen, takes_newest}
 
--- between two arrivals: the live numbers are recorded, no match waits among them, and each firing took the newest number
+-- between two arrivals: the live numbers are recorded, no match waits among them, and each firing took the newest
+-- number
 pub record IsStill (rules : List Rule) (state : State) : Type 0 where
   pub recorded : All (IsRecorded (letters_of state.entries)) state.live
   pub rests : AllByRecursion (IsResting (letters_of state.entries) state.live) (definitions_of rules)

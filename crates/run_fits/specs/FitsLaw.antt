@@ -28,7 +28,8 @@ pub record LimitsFit (limits : Limits) : Type 0 where
 abbrev pub RulesFit : Plan → Limits → ℕ → Type 0
 RulesFit plan limits actor = AllByRecursion RuleFits (setting_of plan actor limits).rules
 
--- whatever messages an actor of a well typed plan is given, of which each fits or only its kind and the types of its fields do not, its run fits
+-- whatever messages an actor of a well typed plan is given, of which each fits or only its kind and the types of its
+-- fields do not, its run fits
 abbrev pub FairRunFits : Type 0
 FairRunFits = (plan : Plan) (actor : ℕ) (limits : Limits) (version feeds : ℕ) (sent : List Sent) → IsTyped plan → RulesFit plan limits actor → VersionFits plan version → LimitsFit limits
     → AllByRecursion (SentFits plan feeds) sent → ActorRunFits plan version feeds (in_version version (fair_run plan actor limits feeds sent))

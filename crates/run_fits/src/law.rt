@@ -2,8 +2,8 @@
 ghost use Rattle.run_fits.specs.FitsLaw.{FairRunFits, FairRunsFit};
 ghost use Rattle.run_fits.specs.RestLaw.{FiringsTakeNewest, NoneWaitsBetween};
 
-/// The run that the fair semantics makes of messages whose sources exist and whose values are in range fits the plan, and
-/// so does a run whose actors have such runs.
+/// The run that the fair semantics makes of messages whose sources exist and whose values are in range fits the plan,
+/// and so does a run whose actors have such runs.
 pub fn fits_law()
     ensures each { FairRunFits }
     ensures whole { FairRunsFit }

@@ -76,7 +76,8 @@ module _ (plan : Plan) (limits : Limits) (feeds : List (List (ℕ × Message))) 
   made before (Feed (suc k)) target = feed_posts target (slice_get feeds k)
   made before (Actor a) target = flat_map (entry_posts target) (state_at before a).entries
 
-  -- each actor did the steps of what it was given, and what it was given from a source, followed by what waits, is what that source sent
+  -- each actor did the steps of what it was given, and what it was given from a source, followed by what waits, is what
+  -- that source sent
   pub record IsSystemAt (before : List Event) (system : System) : Type 0 where
     pub state : (actor : ℕ) → system.state actor ≡ state_at before actor
     pub links : (source : Source) (target : ℕ) → sent_from source (sent_to target before) ++ system.waiting source target ≡ made before source target

@@ -1,4 +1,5 @@
--- Which entries the first of some messages leave, and that an entry's stamp is greater than the one before and than its message's.
+-- Which entries the first of some messages leave, and that an entry's stamp is greater than the one before and than its
+-- message's.
 use Rattle.std.proofs.Common.{◌≡◌, ◌∙◌, ℕ, ◌<◌, List, [], ◌∷◌, ◌++◌, length, Bool, true, false, append_assoc, refl, ap, sym, arith}
 use Rattle.std.proofs.lemmas.List.{append-nil, append_cancel_left}
 use Rattle.pattern_core.specs.Choice.{choice}

@@ -1,4 +1,5 @@
--- Whatever a schedule brings to an actor has values in their ranges, where those of the feeds are, and so the run that is shown fits.
+-- Whatever a schedule brings to an actor has values in their ranges, where those of the feeds are, and so the run that
+-- is shown fits.
 use Rattle.std.proofs.Common.{◌≡◌, ◌∙◌, ◌⊎◌, inl, inr, ℕ, zero, suc, ◌+◌, ◌<◌, ◌≤◌, List, [], ◌∷◌, ◌++◌, length, map, Bool, true, false, Option, None, Some, slice_get, refl, ap, sym, subst, arith}
 use Rattle.std.specs.Prelude.{if◌then◌else◌, ◌==◌, IfSome}
 use Rattle.std.specs.List.{AllByRecursion, cons_option, filter_map, flat_map}

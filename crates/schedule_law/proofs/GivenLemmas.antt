@@ -1,5 +1,5 @@
--- A system whose actors were each given some messages stands as if it had been reached: the values of the messages are in their ranges,
--- since a post carries the stamp of its entry, and that is above those of the messages before it.
+-- A system whose actors were each given some messages stands as if it had been reached: the values of the messages are
+-- in their ranges, since a post carries the stamp of its entry, and that is above those of the messages before it.
 use Rattle.std.proofs.Common.{◌≡◌, ◌∙◌, ◌⊎◌, inl, inr, ℕ, zero, suc, ◌+◌, ◌<◌, ◌≤◌, max, List, [], ◌∷◌, ◌++◌, length, map, Bool, true, false, Option, None, Some, slice_get, refl, ap, sym, subst, arith}
 use Rattle.std.specs.Prelude.{◌==◌, if◌then◌else◌}
 use Rattle.std.specs.List.{AllByRecursion, cons_option, flat_map}

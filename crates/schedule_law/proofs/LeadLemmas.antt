@@ -1,4 +1,5 @@
--- The rests in the order in which they come: where one begins with a message that a full or running actor refuses, so do they.
+-- The rests in the order in which they come: where one begins with a message that a full or running actor refuses, so
+-- do they.
 use Rattle.std.proofs.Common.{◌≡◌, ◌∙◌, ◌⊎◌, inl, inr, ℕ, zero, suc, ◌+◌, ◌<◌, ◌≤◌, max, List, [], ◌∷◌, ◌++◌, length, map, Bool, true, false, refl, ap, sym, subst, arith}
 use Rattle.std.specs.Prelude.{if◌then◌else◌, not, nat_le, ◌||◌, ◌==◌}
 use Rattle.std.specs.List.{flat_map, list_any}
@@ -123,7 +124,8 @@ module _ (setting : Setting) (state : State) where
   full_refused : (full unfit late : Bool) → full ≡ true → (full || (unfit || late)) ≡ true
   full_refused full unfit late e = ap (λ (b : Bool). b || (unfit || late)) e
 
-  -- where a full actor refuses one message, it refuses each; of the others the first has the greatest stamp, or does not fit
+  -- where a full actor refuses one message, it refuses each; of the others the first has the greatest stamp, or does
+  -- not fit
   greater_refused : (full unfit late later : Bool) → (full || (unfit || late)) ≡ true → unfit ≡ false → (late ≡ true → later ≡ true) → (u : Bool) → (full || (u || later)) ≡ true
   greater_refused true unfit late later e fitting h u = refl
   greater_refused false true late later e fitting h u = absurd cc

@@ -1,5 +1,5 @@
--- A system that stands as if it had been reached: each actor was given some messages, in whatever order over the actors, and what came
--- over each link and then what waits is all that its source sent.
+-- A system that stands as if it had been reached: each actor was given some messages, in whatever order over the
+-- actors, and what came over each link and then what waits is all that its source sent.
 use Rattle.std.proofs.Common.{◌≡◌, ◌∙◌, ℕ, ◌<◌, List, [], ◌++◌, map, length, Some, refl, sym, subst, arith}
 use Rattle.std.specs.List.{AllByRecursion}
 use Rattle.join_base.specs.declared.message.Message.{Message}

@@ -29,7 +29,8 @@ sent_by feeds system (Feed zero) actor = []
 sent_by feeds system (Feed (suc k)) actor = feed_posts actor (slice_get feeds k)
 sent_by feeds system (Actor a) actor = flat_map (entry_posts actor) (system.state a).entries
 
--- each actor did the fair steps of what it was given by sources of the run, and what came from a source and then what waits is what that source sent
+-- each actor did the fair steps of what it was given by sources of the run, and what came from a source and then what
+-- waits is what that source sent
 pub record IsGiven (plan : Plan) (limits : Limits) (feeds : List (List (ℕ × Message))) (given : ℕ → List Sent) (system : System) : Type 0 where
   pub known : (actor : ℕ) → AllByRecursion (λ (sent : Sent). SourceFits plan (length feeds) sent.0) (given actor)
   pub none : (actor : ℕ) → length plan.actors ≤ actor → given actor ≡ []
@@ -43,7 +44,8 @@ GivenIsLinked = (plan : Plan) (limits : Limits) (feeds : List (List (ℕ × Mess
 
 -- ---- by what came from each source
 
--- what an actor took from a source begins what came from there, and its state is the fair semantics of its arrivals and then of the rests
+-- what an actor took from a source begins what came from there, and its state is the fair semantics of its arrivals and
+-- then of the rests
 pub record IsFairOf (plan : Plan) (limits : Limits) (feeds actor : ℕ) (came : Source → List Stamped) (state : State) : Type 0 where
   pub known : (source : Source) → (came source ≡ []) ⊎ SourceFits plan feeds source
   pub in_order : (source : Source) → taken_from source state.entries ≡ take (length (taken_from source state.entries)) (messages_of (came source))

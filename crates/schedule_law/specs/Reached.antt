@@ -29,7 +29,8 @@ ValuesFit message = AllByRecursion ValueFits message.fields
 abbrev pub FeedsFit : List (List (ℕ × Message)) → Type 0
 FeedsFit feeds = AllByRecursion (AllByRecursion (λ (post : ℕ × Message). ValuesFit post.1)) feeds
 
--- a well typed plan whose rules are in range, limits that an actor can be given, and from 1 to 16 feeds whose values are in range
+-- a well typed plan whose rules are in range, limits that an actor can be given, and from 1 to 16 feeds whose values
+-- are in range
 pub record IsServable (plan : Plan) (limits : Limits) (feeds : List (List (ℕ × Message))) : Type 0 where
   pub typed : IsTyped plan
   pub rules : (actor : ℕ) → actor < length plan.actors → RulesFit plan limits actor

@@ -71,7 +71,8 @@ two_texts = refl
 unequal : findings (plan (rule (0 ∷ 1 ∷ []) (bound 0 Equal (pos 3) ∷ bound 0 NotEqual (pos 3) ∷ []) None ∷ [])) ≡ []
 unequal = refl
 
--- a definition without a window is not shadowed by one with a window, nor one with a weaker guard by one with a stronger one
+-- a definition without a window is not shadowed by one with a window, nor one with a weaker guard by one with a
+-- stronger one
 wider : findings (plan (rule (0 ∷ 1 ∷ []) [] (Some 5) ∷ rule (0 ∷ 1 ∷ []) [] None ∷ [])) ≡ []
 wider = refl
 

@@ -94,7 +94,8 @@ abbrev pub is_kept_within : List Condition → Option Bound → Bool
 is_kept_within conjuncts None = false
 is_kept_within conjuncts (Some bound) = holds_throughout (interval_of conjuncts bound.place) bound.relation bound.number
 
--- where the conjuncts are true this one is: it is one of them, or a bound that holds on the whole interval, or always true
+-- where the conjuncts are true this one is: it is one of them, or a bound that holds on the whole interval, or always
+-- true
 abbrev pub is_implied : List Condition → Condition → Bool
 is_implied conjuncts conjunct = list_any (is_same conjunct) conjuncts || (is_kept_within conjuncts (bound_of conjunct) || is_always_true conjunct)
 

@@ -36,7 +36,8 @@ HasValuesInRange message = AllByRecursion InRange message.fields
 abbrev pub AreInRange : List Sent → Type 0
 AreInRange sent = AllByRecursion (λ s. HasValuesInRange s.1.message) sent
 
--- whatever messages an actor is given, whose integers are of 64 bits, none of its arrivals fires a definition that has a finding
+-- whatever messages an actor is given, whose integers are of 64 bits, none of its arrivals fires a definition that has
+-- a finding
 abbrev pub FindingsNeverFire : Type 0
 FindingsNeverFire = (plan : Plan) (actor : ℕ) (limits : Limits) (feeds : ℕ) (sent : List Sent) → AreInRange sent
     → (entry : Entry) → IsIn entry (fair plan actor limits feeds sent).entries → (firing : Firing) → entry.firing ≡ Some firing → (finding : Finding) → IsIn finding (findings plan) → ¬ IsAbout actor firing.rule finding

@@ -1,7 +1,7 @@
 //! What lint finds of a plan.
 
-/// A definition that can never fire, or an idle kind: no definition without a finding has a pattern of it. Actors and kinds
-/// are counted from 0, the definitions of an actor from 1.
+/// A definition that can never fire, or an idle kind: no definition without a finding has a pattern of it. Actors and
+/// kinds are counted from 0, the definitions of an actor from 1.
 #[derive(Clone, Copy, PartialEq, Eq, Debug)]
 pub enum Finding {
     /// No messages make the guard true.

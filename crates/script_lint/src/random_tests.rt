@@ -1,4 +1,5 @@
-//! Reports on plans that are drawn at random, beside a plain reading of the findings: what a bound leaves is found by trying numbers.
+//! Reports on plans that are drawn at random, beside a plain reading of the findings: what a bound leaves is found by
+//! trying numbers.
 ghost use Rattle.std.specs.Prelude.{◌<◌, ◌≤◌, length};
 
 use crate::finding::Finding;

@@ -152,8 +152,8 @@ pub fn list_findings(alloc: Global, plan: &Plan) -> Result<Items<Finding>, NoMem
     Ok(found)
 }
 
-/// The findings of a plan: of the definitions in order of actors and rules, at most one of each, and then the idle kinds in
-/// order. `NoMemory` where there is no memory for them.
+/// The findings of a plan: of the definitions in order of actors and rules, at most one of each, and then the idle
+/// kinds in order. `NoMemory` where there is no memory for them.
 pub fn lint(alloc: Global, plan: &Plan) -> Result<Items<Finding>, NoMemory>
     requires typed { IsTyped plan.now }
     ensures report { IfOk result (λ r. r ≡ findings plan.now) }

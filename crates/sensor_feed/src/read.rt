@@ -94,12 +94,14 @@ fn posts_of(alloc: Global, plan: &Plan, bytes: &[u8]) -> Result<Posts, FeedFault
     }
 }
 
-/// The posts of a feed, in order: for each record the number of the actor and the message, whose fields fit its kind. A record
-/// has an actor's name, a kind's name and a field for each field of the kind; a name stands for its first declaration.
+/// The posts of a feed, in order: for each record the number of the actor and the message, whose fields fit its kind. A
+/// record has an actor's name, a kind's name and a field for each field of the kind; a name stands for its first
+/// declaration.
 ///
-/// `Bad` comes exactly where a record is in fault. It is the first one, counted from 1, with the first cause that applies:
-/// the actor, that there is a second field, the kind, the number of further fields, and then field by field. What a record
-/// is, is what csv reads as one, with commas, double quotes and line ends by CR or LF, and without a header row.
+/// `Bad` comes exactly where a record is in fault. It is the first one, counted from 1, with the first cause that
+/// applies: the actor, that there is a second field, the kind, the number of further fields, and then field by field.
+/// What a record is, is what csv reads as one, with commas, double quotes and line ends by CR or LF, and without a
+/// header row.
 pub fn read_feed(alloc: Global, plan: &Plan, bytes: &[u8]) -> Result<Posts, FeedFault>
     requires typed { IsTyped plan.now }
     ensures feed { Gives result (feed_of plan.now bytes.now) }

@@ -186,7 +186,8 @@ pub fn is_right<R: Threads + Wait + Sync>(
 // How often a run is made whose log varies with the threads.
 const RUNS: u64 = 5;
 
-/// Whether each of several runs of the words prints one of the logs. All of these are to be accepted, with their arrivals.
+/// Whether each of several runs of the words prints one of the logs. All of these are to be accepted, with their
+/// arrivals.
 pub fn is_one_of<R: Threads + Wait + Sync>(
     rt: &R,
     alloc: Global,

@@ -239,8 +239,8 @@ fn push_desk(alloc: Global, log: &mut Bytes) -> Result<(), NoMemory> {
     Ok(())
 }
 
-// One feed sends to the hall and the hall alone to the desk, so there is one log. The hall's partial matches are the two
-// empty ones and the 834 contacts that it keeps; a light where it is not dark begins none.
+// One feed sends to the hall and the hall alone to the desk, so there is one log. The hall's partial matches are the
+// two empty ones and the 834 contacts that it keeps; a light where it is not dark begins none.
 fn building_log(alloc: Global) -> Result<Bytes, NoMemory> {
     let mut log = Bytes::new(alloc);
     push(

@@ -1,8 +1,9 @@
-//! Runs the program on worked examples over files in memory, and tells where it prints something else than the tables say,
-//! or ends with another status.
+//! Runs the program on worked examples over files in memory, and tells where it prints something else than the tables
+//! say, or ends with another status.
 //!
-//! Where the log of a run varies with the threads, the tables list all that are right. Each log that is printed or listed is
-//! replayed too, and is to be accepted with its arrivals. Nothing is proved here but that it is safe and ends.
+//! Where the log of a run varies with the threads, the tables list all that are right. Each log that is printed or
+//! listed is replayed too, and is to be accepted with its arrivals. Nothing is proved here but that it is safe and
+//! ends.
 #![tactic(auto)]
 
 mod example;

@@ -30,7 +30,8 @@ pub const VARYING: &[Varying] = &[
                 end running left 1,2 partials 3\n",
         ],
     },
-    // The six ways to merge two messages with two. The older of a kind is taken first, so the pairs are the same in all.
+    // The six ways to merge two messages with two. The older of a kind is taken first, so the pairs are the same in
+    // all.
     Varying {
         name: "two by two",
         words: &["run", "script", "feed-1", "feed-2"],
@@ -108,7 +109,8 @@ pub const VARYING: &[Varying] = &[
                 end running left - partials 1\n",
         ],
     },
-    // The third actor takes the two posts in either order, and the fourth one takes what the third one posts in that order.
+    // The third actor takes the two posts in either order, and the fourth one takes what the third one posts in that
+    // order.
     Varying {
         name: "two posters one target",
         words: RUN,

@@ -54,8 +54,8 @@ fn first_actor(alloc: Global, plan: &Plan, limits: Limits) -> Result<Actor, Fail
     Ok(actor)
 }
 
-// Brings the actor the messages of its feed. It then is as the fair semantics of these messages leaves it. The answer is
-// how each came out.
+// Brings the actor the messages of its feed. It then is as the fair semantics of these messages leaves it. The answer
+// is how each came out.
 fn outcomes<L: Ledger>(
     alloc: Global,
     actor: &mut Actor,
@@ -96,7 +96,8 @@ fn play<L: Ledger>(
     Ok((outcomes, actor.ending(), actor.arrivals(), actor.partials()))
 }
 
-// A script, the most arrivals and partial matches, a feed, the outcomes, the ending, the arrivals and the partial matches.
+// A script, the most arrivals and partial matches, a feed, the outcomes, the ending, the arrivals and the partial
+// matches.
 type Case<'a> = (
     &'a [u8],
     u32,

@@ -7,5 +7,5 @@ use Rattle.arrival_log.proofs.whole.put_fired.Goals as goal
 
 pub returns-in-None-clause-written : goal.returns-in-None-clause-written
 returns-in-None-clause-written c =
-  let none = MatchOption-at_none _ _ c.in-None.is c.get.ensures.same in
-  drop_all 512 c.args.room.now (omega arith) ∙ sym (ap (λ (fired : Option Firing). firing_lines c.args.plan.now fired) none)
+    let none = MatchOption-at_none _ _ c.in-None.is c.get.ensures.same in
+    drop_all 512 c.args.room.now (omega arith) ∙ sym (ap (λ (fired : Option Firing). firing_lines c.args.plan.now fired) none)
