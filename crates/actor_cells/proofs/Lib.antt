@@ -1,3 +1,4 @@
+pub mod SetLemmas
 pub mod StateLemmas
 pub mod LinkLemmas
 pub mod TallyLemmas

@@ -124,7 +124,7 @@ place-within c now most place taken r l =
 
 -- ---- the same cell with other notes
 
-pub noted-kept : (c : Cell) (moved held : ℕ) → IsLawful c → IsKept c (record c { moved = moved; held = held })
+pub noted-kept : (c : Cell) (moved held : List Bool) → IsLawful c → IsKept c (record c { moved = moved; held = held })
 noted-kept c moved held l = record {
   lawful = record { tag = l.tag; outboxes = l.outboxes; in_order = l.in_order; late = l.late; fair = l.fair; posted = l.posted };
   tag = refl;

@@ -1,4 +1,5 @@
 -- What the public calls claim: when a cell is lawful, what serving does, and what is prepared.
+pub mod ActorSets
 pub mod Lawful
 pub mod Served
 pub mod AllLawful

@@ -1,5 +1,6 @@
 //! A cell, and what contracts read of it.
 
+use crate::actor_set::ActorSet;
 use actor_turn::Actor;
 use cell_links::{Inward, LinkTags, Outward};
 use fair_semantics::Limits;
@@ -18,10 +19,10 @@ pub struct Cell {
     /// The place of the actor's link to itself among those inward, or one behind them where it posts nothing to itself. No clause
     /// rests on it.
     pub own: usize,
-    /// Bit t is set where the last `serve` sent something to actor t. No clause rests on it.
-    pub moved: u32,
-    /// Bit t is set where a post for actor t was left in its outbox by the last `serve`. No clause rests on it.
-    pub held: u32,
+    /// The actors that the last `serve` sent something to. No clause rests on it.
+    pub moved: ActorSet,
+    /// The actors for which the last `serve` left a post in its outbox. No clause rests on it.
+    pub held: ActorSet,
 }
 
 /// What stays of a cell: what its actor was told, how many feeds and actors there are, and its links with their sources and

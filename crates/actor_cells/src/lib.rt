@@ -15,6 +15,7 @@
 //! in which order the messages of several links come.
 #![tactic(auto)]
 
+mod actor_set;
 mod cell;
 mod cells;
 mod cells_serving;
@@ -24,6 +25,7 @@ mod sending;
 mod serving;
 mod targets;
 
+pub use actor_set::ActorSet;
 pub use cell::{Cell, CellTag, LinkTally};
 pub use cells::Cells;
 pub use preparing::prepare;

@@ -8,6 +8,7 @@ ghost use Rattle.actor_turn.specs.Held.{AreLimits};
 ghost use Rattle.actor_cells.specs.Lawful.{held_in};
 ghost use Rattle.actor_cells.specs.Targets.{new_actors};
 
+use crate::actor_set::ActorSet;
 use crate::cell::Cell;
 use actor_turn::Actor;
 use cell_links::{ActorLinks, Inward};
@@ -53,8 +54,8 @@ pub fn opening_cells(
             inward,
             outward,
             own: place,
-            moved: 0,
-            held: 0,
+            moved: ActorSet::new(),
+            held: ActorSet::new(),
         })?;
         index += 1;
     }

@@ -5,6 +5,7 @@ ghost use Rattle.actor_cells.specs.Lawful.{IsLawful, state_in};
 ghost use Rattle.actor_cells.specs.Served.{IsKept};
 ghost use Rattle.actor_cells.specs.Steps.{AreSmall, Moves};
 
+use crate::actor_set::ActorSet;
 use crate::cell::Cell;
 use actor_turn::Actor;
 use join_base::Stamped;
@@ -47,12 +48,12 @@ fn send_over(actor: &mut Actor, target: u32, link: &mut LinkIn) -> Sent
     }
 }
 
-// The mask, with the bit of the target too where it is to be set.
-fn with_bit(mask: u32, target: u32, set: bool) -> u32 {
-    if set && target < 32 {
-        return mask | 1 << target;
+// The actors, with the target too where it is to be among them.
+fn with_target(actors: ActorSet, target: u32, is_in: bool) -> ActorSet {
+    if is_in {
+        return actors.with(target);
     }
-    mask
+    actors
 }
 
 impl Cell {
@@ -70,7 +71,7 @@ impl Cell {
     }
 
     /// Notes what was moved and what is left.
-    pub(crate) fn note(&mut self, moved: u32, held: u32)
+    pub(crate) fn note(&mut self, moved: ActorSet, held: ActorSet)
         requires lawful { IsLawful self.old }
         ensures kept { IsKept self.old self.new }
         ensures inward { self.new.inward ≡ self.old.inward }
@@ -88,11 +89,11 @@ impl Cell {
         ensures state { state_in self.new ≡ state_in self.old }
     {
         let mut moved = self.moved;
-        let mut held = 0;
+        let mut held = ActorSet::new();
         for place in 0..self.outward.len() {
             let sent = self.send_at(place);
-            moved = with_bit(moved, sent.target, sent.moved);
-            held = with_bit(held, sent.target, sent.held);
+            moved = with_target(moved, sent.target, sent.moved);
+            held = with_target(held, sent.target, sent.held);
         }
         self.note(moved, held);
     }
@@ -106,7 +107,7 @@ impl Cell {
         ensures inward { self.new.inward ≡ self.old.inward }
         ensures state { state_in self.new ≡ state_in self.old }
     {
-        if !fired && self.held == 0 {
+        if !fired && self.held.is_empty() {
             return;
         }
         self.send();

@@ -5,6 +5,7 @@ ghost use Rattle.actor_cells.specs.Lawful.{IsLawful, tally_of};
 ghost use Rattle.actor_cells.specs.Served.{IsKept, IsRefusing, LooksRose, Turns};
 ghost use Rattle.actor_cells.specs.Steps.{Brings, FindsNone, Refuses, TakesMany, changed_at, one_look, one_received};
 
+use crate::actor_set::ActorSet;
 use crate::cell::Cell;
 use actor_turn::{Actor, Refused};
 use fair_semantics::Outcome;
@@ -211,7 +212,7 @@ impl Cell {
         ensures turned { IfOk result (Turns (tally_of self.old) (tally_of self.new)) }
         ensures refused { OnErr result (IsRefusing self.new) }
     {
-        self.note(0, self.held);
+        self.note(ActorSet::new(), self.held);
         self.send_rest(false);
         let turned = self.take_all(alloc, steps)?;
         self.send_rest(false);

@@ -30,7 +30,7 @@ fn is_due(helper: &Helper, actor: u32) -> bool {
     if noted.actor == actor {
         return noted.again;
     }
-    noted.moved & (1 << (actor % 32)) != 0
+    noted.moved.contains(actor)
 }
 
 // Flags and announces the actor where the latest turn of the helper left something to do for it.

@@ -1,6 +1,6 @@
 //! A helper. It stands in a file alone, since the words on it import this file.
 
-use actor_cells::Cell;
+use actor_cells::{ActorSet, Cell};
 use ready_queue::TicketPass;
 use turn_lock::TurnSeat;
 
@@ -20,8 +20,8 @@ pub struct Helper {
 pub(crate) struct Noted {
     // The actor of the turn.
     pub(crate) actor: u32,
-    // Bit t is set where the turn sent something to actor t.
-    pub(crate) moved: u32,
+    // The actors that the turn sent something to.
+    pub(crate) moved: ActorSet,
     // The actor may have more to do.
     pub(crate) again: bool,
 }

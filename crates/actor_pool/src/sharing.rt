@@ -6,6 +6,7 @@ ghost use Rattle.actor_pool.specs.Helpers.{IsHelperOf, IsFirstHelper, seat_of, p
 
 use crate::helper::{Helper, Noted};
 use crate::pool::Pool;
+use actor_cells::ActorSet;
 use join_base::NoMemory;
 
 impl Noted {
@@ -13,7 +14,7 @@ impl Noted {
     pub(crate) fn none() -> Noted {
         Noted {
             actor: 0,
-            moved: 0,
+            moved: ActorSet::new(),
             again: false,
         }
     }

@@ -36,7 +36,7 @@ fn serve_noted<L: Ledger>(
     let served = cell.serve(alloc, steps);
     noted.actor = actor;
     noted.moved = cell.moved;
-    noted.again = served == Ok(Turned::More) || cell.held != 0;
+    noted.again = served == Ok(Turned::More) || !cell.held.is_empty();
     served
 }
 
