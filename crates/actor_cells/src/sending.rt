@@ -1,5 +1,5 @@
 //! Moving posts from outboxes to links.
-ghost use Rattle.std.specs.Prelude.{◌≡◌, ◌<◌, length};
+ghost use Rattle.std.specs.Prelude.{◌≡◌, ◌<◌, true, if◌then◌else◌, length, set};
 ghost use Rattle.actor_turn.specs.Held.{posts_for};
 ghost use Rattle.actor_cells.specs.Lawful.{IsLawful, state_in};
 ghost use Rattle.actor_cells.specs.Served.{IsKept};
@@ -49,7 +49,9 @@ fn send_over(actor: &mut Actor, target: u32, link: &mut LinkIn) -> Sent
 }
 
 // The actors, with the target too where it is to be among them.
-fn with_target(actors: ActorSet, target: u32, is_in: bool) -> ActorSet {
+fn with_target(actors: ActorSet, target: u32, is_in: bool) -> ActorSet
+    ensures { result ≡ (if is_in then set actors target true else actors) }
+{
     if is_in {
         return actors.with(target);
     }
