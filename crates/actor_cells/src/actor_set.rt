@@ -6,7 +6,8 @@ use std::marker::Model;
 
 /// A set of actors, by their numbers. It is one word, so that it is copied as quickly as a number.
 ///
-/// A contract sees for each number below 32 whether it is in. A plan has at most 32 actors, and a higher number is in no set.
+/// A contract sees for each number below 32 whether it is in. A plan has at most 32 actors, and a higher number is in
+/// no set.
 #[derive(Clone, Copy)]
 pub struct ActorSet {
     // Bit n is set where actor n is in.
