@@ -2,8 +2,8 @@
 //!
 //! `prepare` makes the cells of a plan and a poster for each feed, with all links between them. `Cell::serve` brings
 //! what a cell's inward links hold to its actor, at most `Cell::MOST` messages a call, and moves the posts of each of
-//! them to their links. What the actor posts to itself comes first, up to `Cell::OWN` in a row. `Cells::serve` does so
-//! for one of the cells that `prepare` made. No call waits.
+//! them to their links. What the actor posts to itself comes first, at least the first `Cell::OWN` in a row.
+//! `Cells::serve` does so for one of the cells that `prepare` made. No call waits.
 //!
 //! A contract sees of a cell its actor (`held_in`), its tag (`cell_tag`), its history (`history_of`), its tally
 //! (`tally_of`), and whether it is lawful (`IsLawful`): what came over its links is what its actor recorded and then a

@@ -55,7 +55,7 @@ impl Cell {
     /// The most messages that one `serve` takes.
     pub const MOST: u32 = 256;
 
-    /// The most messages of an actor to itself that come before one that waits on another link.
+    /// So many messages of an actor to itself come before one that waits on another link, where so many wait.
     pub const OWN: u32 = 64;
 
     // Brings the message that waits first on the link at a place.
@@ -203,8 +203,9 @@ impl Cell {
 
     /// Moves posts from the outboxes to their links as far as room is known, brings messages of the inward links to the
     /// actor in rounds, and moves the posts that each of them made. What the actor posts to itself comes before the
-    /// next message of another link, up to `OWN` in a row. `More` exactly where `MOST` messages were taken. After
-    /// `NoMemory` the message that was refused still waits first on its link, and the earlier ones have arrived.
+    /// next message of another link, at least the first `OWN` in a row. `More` exactly where `MOST` messages were
+    /// taken. After `NoMemory` the message that was refused still waits first on its link, and the earlier ones have
+    /// arrived.
     pub fn serve<L: Ledger>(
         &mut self,
         alloc: Global,

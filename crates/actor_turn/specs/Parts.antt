@@ -30,7 +30,7 @@ AreFired mail firings = length firings ≡ length mail.arrivals
 abbrev pub fired_at : ℕ → List ℕ → Tree → Tree
 fired_at number taken tree = with_paths tree (filter (is_path_without taken) (expired_tree number tree).paths) None
 
--- what is left where trees, which then hold more paths than they may, or where they may keep them
+-- a keep that leaves more paths than an actor may have clears the trees and jams it; any other leaves the kept trees
 pub record IsKeptIn (over : Bool) (kept after : List Tree) (before_mail after_mail : Mail) (before_end after_end : Ending) (out : Outcome) : Type 0 where
   pub trees : after ≡ (if over then map cleared_tree kept else kept)
   pub mail : after_mail ≡ (if over then with_live before_mail [] else before_mail)

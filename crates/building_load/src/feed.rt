@@ -43,7 +43,7 @@ fn row_at(alloc: Global, actor: u32, place: u32) -> Result<(u32, Message), NoMem
 }
 
 /// The posts of a hall of `load_plan`, which is the actor of the number before: a motion, a light and a contact in
-/// turn, each row 10 after the one before it. Three rows are of one room, of seven in turn, and the light of four
+/// turn, each 10 later than the row before. Three rows are of one room, of seven in turn, and the light of four
 /// groups out of eight is below 40.
 pub fn load_feed(alloc: Global, rows: u32, hall: u32) -> Result<Posts, NoMemory>
     requires rows { (1 ≤ rows) × (rows ≤ 20000) }

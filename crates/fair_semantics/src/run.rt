@@ -18,11 +18,11 @@ pub struct Limits {
 pub enum Outcome {
     /// The choice fired.
     Fired,
-    /// No match was complete, and the message was kept.
+    /// No match was complete, and the message was recorded and waits.
     Kept,
     /// The actor had ended, and the message was counted as late.
     Late,
-    /// The message was kept, and the actor ended: it would have kept too many partial matches.
+    /// The message was recorded, and the actor ended: it would have kept too many partial matches.
     Jammed,
     /// The actor was full, the message did not fit, or no stamp was left: the actor ended, and the message was counted
     /// as late.

@@ -10,8 +10,8 @@
 //! counted; no contract speaks of that.
 //!
 //! Before a node is tried, a screen of its row looks at the conjuncts that the row's pattern and the wanted one decide together,
-//! and first at one that says that two integer fields are equal. It leaves out nodes behind which no try can succeed, so that
-//! the tries are fewer and what is found and added is the same.
+//! and first at one that says what an integer field of the row is equal to. It leaves out nodes behind which no try can succeed,
+//! so that the tries are fewer and what is found and added is the same.
 //!
 //! Tests show the calls of one arrival one behind the other: rows, and small scripts against a plain listing.
 #![tactic(auto)]
