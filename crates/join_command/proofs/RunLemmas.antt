@@ -9,8 +9,7 @@ use Rattle.fair_semantics.specs.Fits.{PostFits}
 use Rattle.fair_semantics.specs.Linked.{IsLinked}
 use Rattle.run_order.specs.Order.{IsScheduled}
 use Rattle.schedule_law.specs.Reached.{FeedsFit, ValuesFit}
-use Rattle.command_words.specs.declared.options.Queueing.TheVariants.{Queue}
-use Rattle.command_words.specs.declared.options.RunOptions.{RunOptions}
+use Rattle.command_words.specs.Command.{usual_options}
 use Rattle.command_words.specs.Ranges.{AreInRange}
 use Rattle.join_command.specs.Verdict.{Feeds}
 use Rattle.join_command.specs.Output.{load_limits}
@@ -46,12 +45,8 @@ scheduled_parts own plan bounds limits posts feeds run same_plan same_limits sam
     let F : Feeds → Type 0 = λ f. IsScheduled plan limits f run in
     subst F same_feeds (subst L same_limits (subst P same_plan scheduled))
 
--- the options of `run` where it is given none
-abbrev pub load_options : RunOptions
-load_options = record { workers = 4; ring = 64; arrivals = 50000; partials = 65536; pool = Queue }
-
-pub load_in_range : AreInRange load_options
-load_in_range = record { workers = (omega arith, omega arith); ring = (omega arith, omega arith); arrivals = (omega arith, omega arith); partials = (omega arith, omega arith) }
+pub usual_in_range : AreInRange usual_options
+usual_in_range = record { workers = (omega arith, omega arith); ring = (omega arith, omega arith); arrivals = (omega arith, omega arith); partials = (omega arith, omega arith) }
 
 -- the parts of the building's run
 pub load_parts : (rows : ℕ) (plan : Plan) (feeds : Feeds) → rows ≤ 20000 → plan ≡ load_plan → feeds ≡ load_feeds rows → AreRunParts plan load_limits feeds

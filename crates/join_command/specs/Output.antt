@@ -15,6 +15,7 @@ use Rattle.script_grammar.specs.declared.fault.ScriptCause.{ScriptCause}
 use Rattle.script_grammar.specs.declared.fault.ScriptCause.TheVariants as cause
 use Rattle.sensor_feed.specs.declared.fault.FeedCause.{FeedCause}
 use Rattle.sensor_feed.specs.declared.fault.FeedCause.TheVariants as row_cause
+use Rattle.command_words.specs.Command.{usual_options}
 use Rattle.join_command.specs.declared.stop.LogCause.{LogCause}
 use Rattle.join_command.specs.declared.stop.LogCause.TheVariants as log_cause
 use Rattle.building_load.specs.Building.{load_plan}
@@ -24,7 +25,7 @@ use Rattle.plan_text.specs.PlanText.{plan_text}
 use Rattle.join_command.specs.declared.status.Status.{Status}
 use Rattle.join_command.specs.declared.status.Status.TheVariants as status
 use Rattle.join_command.specs.LintText.{lint_text}
-use Rattle.join_command.specs.Verdict.{Feeds, Verdict, Usage, TooLong, ScriptRefused, FeedRefused, Checks, Lints, Runs, Loads, Accepts, LogRefused}
+use Rattle.join_command.specs.Verdict.{Feeds, limits_of, Verdict, Usage, TooLong, ScriptRefused, FeedRefused, Checks, Lints, Runs, Loads, Accepts, LogRefused}
 
 abbrev pub line : List ℕ → List ℕ
 line text = text ++ 10 ∷ []
@@ -102,7 +103,7 @@ pub record IsLog (plan : Plan) (limits : Limits) (feeds : Feeds) (answer : Statu
 
 -- the limits of `run` where it is given none
 abbrev pub load_limits : Limits
-load_limits = record { arrivals = 50000; partials = 65536 }
+load_limits = limits_of usual_options
 
 -- the output is the summary of a run of the building that is linked to its feeds of so many rows, and that is that of
 -- one schedule

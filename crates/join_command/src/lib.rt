@@ -14,6 +14,7 @@
 #![tactic(auto)]
 
 mod command;
+mod count;
 mod law;
 mod lint_text;
 mod load;

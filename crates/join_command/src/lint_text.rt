@@ -5,17 +5,11 @@ ghost use Rattle.std.specs.List.{flat_map};
 ghost use Rattle.script_types.specs.Typed.{IsTyped};
 ghost use Rattle.join_command.specs.LintText.{finding_line, finding_text, lint_text, report_text, rule_text};
 
-use join_base::{Bytes, NoMemory, write_number};
+use crate::count::write_count;
+use join_base::{Bytes, NoMemory};
 use script_lint::{Finding, lint};
 use script_types::{Plan, write_actor_name, write_kind_name};
 use std::alloc::Global;
-
-/// Appends the decimal form of a count.
-pub fn write_count(text: &mut Bytes, count: u64) -> Result<(), NoMemory>
-    ensures { OnOk result (text.new ≡ text.old ++ decimal count) }
-{
-    write_number(text, i128::from(count))
-}
 
 // `ACTOR rule R` behind a label.
 fn write_rule(

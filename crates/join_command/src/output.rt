@@ -12,7 +12,8 @@ ghost use Rattle.join_command.specs.Replying.{AreRunParts, IsRunnable, verdict_o
 ghost use Rattle.join_command.specs.Verdict.{limits_of};
 ghost use Rattle.join_command.specs.Writing.{Writes};
 
-use crate::lint_text::{print_findings, write_count};
+use crate::count::write_count;
+use crate::lint_text::print_findings;
 use crate::reply::Reply;
 use crate::run::run_feeds;
 use crate::status::Status;
@@ -20,7 +21,7 @@ use crate::stop::{LogCause, Refusal};
 use actor_pool::Gate;
 use arrival_log::print_log;
 use building_load::{load_feeds, load_plan, summary};
-use command_words::{Queueing, RunOptions};
+use command_words::RunOptions;
 use fair_semantics::{ActorRun, Ending, Run};
 use join_base::{Bytes, Failed, FeedList, NoMemory, Sink};
 use plan_text::print_plan;
@@ -230,15 +231,6 @@ fn run_output<R: Threads + Wait + Sync, G: Gate>(
     Ok((status, bytes))
 }
 
-// The options of `run` where it is given none.
-const LOAD_OPTIONS: RunOptions = RunOptions {
-    workers: 4,
-    ring: 64,
-    arrivals: 50_000,
-    partials: 65_536,
-    pool: Queueing::Queue,
-};
-
 // The status and the summary of the building over feeds of so many rows.
 fn load_output<R: Threads + Wait + Sync, G: Gate>(
     rt: &R,
@@ -252,7 +244,7 @@ fn load_output<R: Threads + Wait + Sync, G: Gate>(
 {
     let plan = load_plan(alloc)?;
     let feeds = load_feeds(alloc, rows)?;
-    let run = run_feeds(rt, alloc, &plan, LOAD_OPTIONS, feeds, gate)?;
+    let run = run_feeds(rt, alloc, &plan, RunOptions::USUAL, feeds, gate)?;
     let mut bytes = Bytes::new(alloc);
     summary(alloc, rows, &plan, &run, &mut bytes)?;
     let status = run_status(&run);

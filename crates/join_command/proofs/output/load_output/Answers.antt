@@ -4,12 +4,12 @@ use Rattle.building_load.specs.Building.{load_plan}
 use Rattle.building_load.specs.Rows.{load_feeds}
 use Rattle.building_load.specs.Summary.{summary_text}
 use Rattle.join_command.specs.Output.{load_limits}
-use Rattle.join_command.proofs.RunLemmas.{linked_parts, load_in_range, load_parts, scheduled_parts}
+use Rattle.join_command.proofs.RunLemmas.{linked_parts, usual_in_range, load_parts, scheduled_parts}
 use Rattle.join_command.proofs.output.load_output.Goals as goal
 
 pub run_feeds-requires : goal.run_feeds-requires
 run_feeds-requires g c =
-    (c.type_bounds.sync-R, (c.type_bounds.sync-G, (load_parts c.args.rows c.in_ok-plan.plan c.in_ok-feeds.feeds c.requires.rows.1 c.in_ok-plan.ensures.plan c.in_ok-feeds.ensures.feeds, load_in_range)))
+    (c.type_bounds.sync-R, (c.type_bounds.sync-G, (load_parts c.args.rows c.in_ok-plan.plan c.in_ok-feeds.feeds c.requires.rows.1 c.in_ok-plan.ensures.plan c.in_ok-feeds.ensures.feeds, usual_in_range)))
 
 pub returns-clause-summary : goal.returns-clause-summary
 returns-clause-summary g c = record {
