@@ -19,7 +19,7 @@ unfoldable pub number_of : List Bool → ℕ
 number_of [] = 0
 number_of (digit ∷ digits) = (if digit then 1 else 0) + 2 * number_of digits
 
--- ---- a set gives its number back
+-- ---- a set gives its number back, as its type says
 
 digit-back : (n : ℕ) → (if n % 2 == 1 then 1 else 0) ≡ n % 2
 digit-back n = grind arith
