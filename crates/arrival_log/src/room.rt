@@ -65,8 +65,8 @@ fn put_integer(room: &mut [u8; ROOM], end: usize, number: i64) -> usize
     }
 }
 
-// Whether each byte stands for itself between quotes. It goes through all of them, so that many are compared at once.
-fn is_plain(text: &[u8]) -> bool
+/// Whether each byte stands for itself between quotes. It goes through all of them, so that many are compared at once.
+pub fn is_plain(text: &[u8]) -> bool
     ensures { result ≡ list_all is_plain_byte text.now }
 {
     let mut plain = true;

@@ -1,5 +1,5 @@
 -- Where a text is cut.
-use Rattle.std.proofs.Common.{◌≡◌, ◌∙◌, ℕ, suc, ◌+◌, ◌<◌, ◌≤◌, Bool, true, false, cond, List, [], ◌∷◌, ◌++◌, length, take, drop, Option, None, Some, refl, sym, ap, subst, arith, nat_lt, ⊎_elim, ◌⊎◌, inl, inr}
+use Rattle.std.proofs.Common.{◌≡◌, ◌∙◌, ℕ, zero, suc, get_or, ◌+◌, ◌<◌, ◌≤◌, Bool, true, false, cond, List, [], ◌∷◌, ◌++◌, length, take, drop, Option, None, Some, refl, sym, ap, subst, arith, nat_lt, ⊎_elim, ◌⊎◌, inl, inr}
 use Rattle.std.specs.Prelude.{not, ◌&&◌, ◌==◌, if◌then◌else◌}
 use Rattle.std.specs.List.{position_or_len}
 use Rattle.std.specs.Option.{option_map}
@@ -26,6 +26,31 @@ cut_found byte text k is within =
 cut_nowhere : (byte : ℕ) (text : List ℕ) → length text ≤ position_or_len (λ (b : ℕ). b == byte) text → cut byte text ≡ None
 unfolding cut
 cut_nowhere byte text past = ap (λ (b : Bool). option_map (parts_at text) (cond b (Some (position_or_len (λ (b : ℕ). b == byte) text)) None)) (le-ltb (position_or_len (λ (b : ℕ). b == byte) text) (length text) past)
+
+-- the first place of a byte, where it was found in another way
+first_place : (byte : ℕ) (text : List ℕ) (k : ℕ) → k < length text → (get_or text k 0 == byte) ≡ true → ((j : ℕ) → j < k → (get_or text j 0 == byte) ≡ true → ⊥) → position_or_len (λ (b : ℕ). b == byte) text ≡ k
+first_place byte [] k within here before = absurd (omega (arith, within))
+first_place byte (x ∷ xs) zero within here before = ap (λ (b : Bool). cond (not b) (1 + position_or_len (λ (b : ℕ). b == byte) xs) 0) here
+first_place byte (x ∷ xs) (suc k) within here before =
+    let other : (x == byte) ≡ false = ⊎_elim (λ (t : (x == byte) ≡ true). absurd (before 0 (omega arith) t)) (λ (f : (x == byte) ≡ false). f) (cases_Bool (x == byte)) in
+    let next : 1 + k ≡ suc k = omega arith in
+    ap (λ (b : Bool). cond (not b) (1 + position_or_len (λ (b : ℕ). b == byte) xs) 0) other
+    ∙ ap (λ (n : ℕ). 1 + n) (first_place byte xs k (omega (arith, within)) here (λ j less. before (suc j) (omega (arith, less))))
+    ∙ next
+
+no_place : (byte : ℕ) (text : List ℕ) → ((j : ℕ) → j < length text → (get_or text j 0 == byte) ≡ true → ⊥) → length text ≤ position_or_len (λ (b : ℕ). b == byte) text
+no_place byte [] none = omega arith
+no_place byte (x ∷ xs) none =
+    let other : (x == byte) ≡ false = ⊎_elim (λ (t : (x == byte) ≡ true). absurd (none 0 (omega arith) t)) (λ (f : (x == byte) ≡ false). f) (cases_Bool (x == byte)) in
+    let more = no_place byte xs (λ j less. none (suc j) (omega (arith, less))) in
+    let next : position_or_len (λ (b : ℕ). b == byte) (x ∷ xs) ≡ 1 + position_or_len (λ (b : ℕ). b == byte) xs = ap (λ (b : Bool). cond (not b) (1 + position_or_len (λ (b : ℕ). b == byte) xs) 0) other in
+    rw next (omega (arith, more))
+
+pub cut_first : (byte : ℕ) (text : List ℕ) (k : ℕ) → k < length text → (get_or text k 0 == byte) ≡ true → ((j : ℕ) → j < k → (get_or text j 0 == byte) ≡ true → ⊥) → cut byte text ≡ Some (parts_at text k)
+cut_first byte text k within here before = cut_found byte text k (first_place byte text k within here before) within
+
+pub cut_not : (byte : ℕ) (text : List ℕ) → ((j : ℕ) → j < length text → (get_or text j 0 == byte) ≡ true → ⊥) → cut byte text ≡ None
+cut_not byte text none = cut_nowhere byte text (no_place byte text none)
 
 -- the byte in front
 abbrev pub with_front_byte : ℕ → Option (List ℕ × List ℕ) → Option (List ℕ × List ℕ)

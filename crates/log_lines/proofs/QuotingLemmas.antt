@@ -1,15 +1,18 @@
 -- The quoted text in front of some bytes, against the quoted form.
-use Rattle.std.proofs.Common.{◌≡◌, ◌∙◌, ℕ, zero, suc, ◌≤◌, ◌==◌, Bool, true, false, List, [], ◌∷◌, ◌++◌, length, drop, get_or, Option, None, Some, refl, sym, ap, subst, ⊎_elim, append_assoc, arith}
+use Rattle.std.proofs.Common.{◌≡◌, ◌∙◌, ℕ, zero, suc, ◌<◌, ◌≤◌, ◌==◌, nat_le, Bool, true, false, List, [], ◌∷◌, ◌++◌, length, drop, get_or, Option, None, Some, refl, sym, ap, subst, ⊎_elim, append_assoc, arith}
 use Rattle.std.specs.List.{flat_map}
-use Rattle.std.specs.Str.{is_utf8}
+use Rattle.std.specs.Str.{IsUtf8, is_utf8}
 use Rattle.std.proofs.lemmas.Str.{IsUtf8-from_is_utf8, is_utf8-from_IsUtf8}
-use Rattle.std.proofs.lemmas.Bool.{cond-false, cases_Bool}
+use Rattle.std.proofs.lemmas.Bool.{and_from, and_parts, cases_Bool, cond-false, false_from_ne_true, le-leb, leb-false, leb-true, true_from_ne_false}
 use Rattle.std.proofs.lemmas.Bool.Decides.{nat_tests}
 use Rattle.std.proofs.lemmas.List.Prefix.{front_rest}
-use Rattle.join_base.specs.Quoted.{byte_form, Unquotes}
+use Rattle.join_base.specs.Quoted.{byte_form, quoted, Unquotes}
+use Rattle.join_base.specs.Text.{IsText, is_text}
 use Rattle.join_base.specs.Unquoted.{form_at, form_of}
-use Rattle.join_base.proofs.QuotedLemmas.{form_at-form, front_is, quoted_split}
-use Rattle.log_lines.specs.Gives.{◌>>=◌, where_true}
+use Rattle.join_base.proofs.QuotedLemmas.{form_at-form, front_is, quoted_is_prefix_free, quoted_split}
+use Rattle.log_lines.specs.declared.fault.LineFault.{LineFault}
+use Rattle.log_lines.specs.declared.fault.LineFault.TheVariants.{NoLine, NoMemory}
+use Rattle.log_lines.specs.Gives.{◌>>=◌, Fails, where_true}
 use Rattle.log_lines.specs.Quoting.{forms_at, quoted_at}
 use Rattle.log_lines.proofs.OptionLemmas.{then_is, where_is, else_is}
 
@@ -121,3 +124,56 @@ quoted_none max bytes none = by (quoted_at max bytes) refl
     by : (found : Option (List ℕ × List ℕ)) → quoted_at max bytes ≡ found → found ≡ None
     by None e = refl
     by (Some p) e = absurd (none (p.0) (p.1) (quoted_takes max bytes p e))
+
+-- ---- texts without escapes
+
+pub text_tested : (max : ℕ) (bytes : List ℕ) → IsText max bytes → is_text max bytes ≡ true
+unfolding is_text
+text_tested max bytes fits = and_from (nat_le (length bytes) max) (is_utf8 bytes) (le-leb (length bytes) max fits.short) (is_utf8-from_IsUtf8 bytes fits.utf8)
+
+pub tested_text : (max : ℕ) (bytes : List ℕ) → is_text max bytes ≡ true → IsText max bytes
+unfolding is_text
+tested_text max bytes t =
+    let parts = and_parts (nat_le (length bytes) max) (is_utf8 bytes) t in
+    record { utf8 = IsUtf8-from_is_utf8 bytes parts.1; short = leb-true (length bytes) max parts.0 }
+
+-- bytes that are refused for neither reason
+pub accepted_text : (max : ℕ) (bytes : List ℕ) → ((IsUtf8 bytes → ⊥) → ⊥) → (IsUtf8 bytes × (max < length bytes) → ⊥) → is_text max bytes ≡ true
+unfolding is_text
+accepted_text max bytes valid short =
+    let utf8 : is_utf8 bytes ≡ true = true_from_ne_false (is_utf8 bytes) (λ f. valid (λ u. let t = is_utf8-from_IsUtf8 bytes u in absurd cc)) in
+    let fits : nat_le (length bytes) max ≡ true = true_from_ne_false (nat_le (length bytes) max) (λ f. short (IsUtf8-from_is_utf8 bytes utf8, leb-false (length bytes) max f)) in
+    and_from (nat_le (length bytes) max) (is_utf8 bytes) fits utf8
+
+pub refused_text : (max : ℕ) (bytes : List ℕ) → (IsText max bytes → ⊥) → is_text max bytes ≡ false
+refused_text max bytes none = false_from_ne_true (is_text max bytes) (λ t. none (tested_text max bytes t))
+
+-- what stands in front of a rest is the quoted form of these bytes, which are a text that fits or not
+pub quoted_whether : (max : ℕ) (bytes text rest : List ℕ) → bytes ≡ quoted text ++ rest → quoted_at max bytes ≡ where_true (is_text max text) (Some (text, rest))
+quoted_whether max bytes text rest split = by (quoted_at max bytes) refl (is_text max text) refl
+  where
+    by : (found : Option (List ℕ × List ℕ)) → quoted_at max bytes ≡ found → (b : Bool) → is_text max text ≡ b → found ≡ where_true b (Some (text, rest))
+    by found e true t = sym e ∙ quoted_again max bytes text rest (record { is_text = tested_text max text t; split = split })
+    by None e false f = refl
+    by (Some p) e false f =
+        let taken = quoted_takes max bytes p e in
+        let same = quoted_is_prefix_free text (p.0) rest (p.1) (sym split ∙ taken.split) in
+        let t = text_tested max text (subst (IsText max) (sym same.0) taken.is_text) in
+        absurd cc
+
+-- ---- what is known of such a text, of its form with what stands behind
+
+none_with : {X Y : Type 0} (b : Bool) (x : X) (y : Y) → where_true b (Some x) ≡ None → where_true b (Some y) ≡ None
+none_with true x y none = absurd cc
+none_with false x y none = refl
+
+some_with : {X Y : Type 0} (b : Bool) (x w : X) (y : Y) → where_true b (Some x) ≡ Some w → where_true {X = X × Y} b (Some (x, y)) ≡ Some (w, y)
+some_with true x w y is = ap (λ o. o >>= λ v. Some (v, y)) is
+some_with false x w y is = absurd cc
+
+pub plain_gives : (max : ℕ) (bytes text rest words : List ℕ) → bytes ≡ quoted text ++ rest → where_true (is_text max text) (Some text) ≡ Some words → quoted_at max bytes ≡ Some (words, rest)
+plain_gives max bytes text rest words split is = quoted_whether max bytes text rest split ∙ some_with (is_text max text) text words rest is
+
+pub plain_fails : (max : ℕ) (bytes text rest : List ℕ) (fault : LineFault) → bytes ≡ quoted text ++ rest → Fails fault (where_true (is_text max text) (Some text)) → Fails fault (quoted_at max bytes)
+plain_fails max bytes text rest NoLine split none = quoted_whether max bytes text rest split ∙ none_with (is_text max text) text (text, rest) none
+plain_fails max bytes text rest NoMemory split none = tt

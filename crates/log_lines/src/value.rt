@@ -1,24 +1,57 @@
 //! Values of messages, and texts.
-ghost use Rattle.std.specs.Prelude.{ℕ, List, ◌≡◌, ◌∷◌, [], ◌++◌, ◌<◌, ◌≤◌, ◌==◌, length, map, OnOk, OnErr, Err, slice_index};
+ghost use Rattle.std.specs.Prelude.{ℕ, List, ◌≡◌, ◌∷◌, [], ◌++◌, ◌<◌, ◌≤◌, ◌==◌, length, map, OnOk, OnErr, Err, IfSome, Some, slice_index};
 ghost use Rattle.std.specs.Str.{bytes_eq};
+ghost use Rattle.join_base.specs.Quoted.{quoted};
+ghost use Rattle.join_base.specs.Text.{is_text};
 ghost use Rattle.join_base.specs.declared.message.Sort.{Sort};
-ghost use Rattle.log_lines.specs.Gives.{Gives, GivesValue, GivesRest};
+ghost use Rattle.log_lines.specs.Gives.{Gives, GivesValue, GivesRest, where_true};
 ghost use Rattle.log_lines.specs.Quoting.{quoted_at};
 ghost use Rattle.log_lines.specs.Messages.{closed_int, closed_value, closed_words, closing, fields_of, opened, value_of, values_at, words_of};
 
 use crate::fault::LineFault;
 use crate::number::int_of;
 use crate::parts::{after, cut};
+use arrival_log::is_plain;
 use join_base::{
-    Fields, Line, Name, PushFault, QuoteFault, Sort, Text, Value, byte_at, read_quoted,
-    read_quoted_text,
+    BoundedText, Fields, Line, Name, PushFault, QuoteFault, Sort, Text, TextFault, Value, byte_at,
+    read_quoted, read_quoted_text,
 };
 use std::alloc::Global;
 
-// The text of a value whose quoted form stands in front, and what stands behind it.
+// The text in front whose quoted form has nothing but the text between the quotes, and what stands behind that form.
+fn plain_at(bytes: &[u8]) -> Option<(&[u8], &[u8])>
+    ensures quoted { IfSome result (λ p. bytes.now ≡ quoted p.0.now ++ p.1.now) }
+{
+    let rest = after(bytes, b"\"")?;
+    let (text, more) = cut(rest, b'"')?;
+    if is_plain(text) {
+        Some((text, more))
+    } else {
+        None
+    }
+}
+
+// The text of these bytes, where they are one.
+fn bounded<const MAX: usize>(alloc: Global, bytes: &[u8]) -> Result<BoundedText<MAX>, LineFault>
+    ensures { Gives result (where_true (is_text MAX bytes.now) (Some bytes.now)) }
+{
+    match BoundedText::from_bytes(alloc, bytes) {
+        Ok(text) => Ok(text),
+        Err(TextFault::NotText) => Err(LineFault::NoLine),
+        Err(TextFault::TooLong) => Err(LineFault::NoLine),
+        Err(TextFault::NoMemory) => Err(LineFault::NoMemory),
+    }
+}
+
+// The text of a value whose quoted form stands in front, and what stands behind it. Where its bytes stand for
+// themselves, they are not read one by one.
 fn text_at(alloc: Global, text: &[u8]) -> Result<(Text, &[u8]), LineFault>
     ensures { GivesValue result (quoted_at 120 text.now) }
 {
+    if let Some((plain, rest)) = plain_at(text) {
+        let words = bounded(alloc, plain)?;
+        return Ok((words, rest));
+    }
     match read_quoted_text(alloc, text, 0) {
         Ok((words, end)) => Ok((words, text.split_at(end).1)),
         Err(QuoteFault::BadQuote) => Err(LineFault::NoLine),
@@ -30,6 +63,10 @@ fn text_at(alloc: Global, text: &[u8]) -> Result<(Text, &[u8]), LineFault>
 fn printed_at(alloc: Global, text: &[u8]) -> Result<(Line, &[u8]), LineFault>
     ensures { GivesValue result (quoted_at 1920 text.now) }
 {
+    if let Some((plain, rest)) = plain_at(text) {
+        let words = bounded(alloc, plain)?;
+        return Ok((words, rest));
+    }
     match read_quoted(alloc, text, 0, 1920) {
         Ok((words, end)) => Ok((words, text.split_at(end).1)),
         Err(QuoteFault::BadQuote) => Err(LineFault::NoLine),

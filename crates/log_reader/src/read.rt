@@ -8,7 +8,7 @@ ghost use Rattle.log_reader.specs.Log.{Answers, FaultsAreOneLine, LogsAreOneRun}
 use crate::draft::{Draft, is_open, step};
 use crate::fault::LogFault;
 use fair_semantics::Run;
-use log_lines::{LineFault, cut, read_head, read_line};
+use log_lines::{LineFault, cut_line, read_head, read_line};
 use script_types::Plan;
 use std::alloc::Global;
 
@@ -77,7 +77,7 @@ pub fn read_log(alloc: Global, plan: &Plan, bytes: &[u8]) -> Result<Run, LogFaul
     requires typed { IsTyped plan.now }
     ensures answer { Answers plan.now bytes.now result }
 {
-    let Some((first, behind)) = cut(bytes, b'\n') else {
+    let Some((first, behind)) = cut_line(bytes) else {
         return Err(LogFault::Bad { line: 1 });
     };
     let Some(head) = read_head(plan, first) else {
@@ -86,7 +86,7 @@ pub fn read_log(alloc: Global, plan: &Plan, bytes: &[u8]) -> Result<Run, LogFaul
     let mut draft = Draft::new(alloc, head);
     let mut rest = behind;
     let mut number: u64 = 1;
-    'lines: while let Some((text, more)) = cut(rest, b'\n') {
+    'lines: while let Some((text, more)) = cut_line(rest) {
         number += 1;
         draft = advance(alloc, plan, draft, text, number)?;
         rest = more;

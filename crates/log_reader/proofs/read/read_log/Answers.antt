@@ -23,12 +23,12 @@ pub returns-in_err-draft : goal.returns-in_err-draft
 returns-in_err-draft c =
     let p = err_from_is_err_and c.from_residual.result c.from_residual.ensures.1 in
     record {
-      answer = rw (p.1, p.2) (failed c.args.plan.now c.args.bytes.now c.lines.rest.now c.lines.number c.lines.draft c.in-Some-cut.text.now c.in-Some-cut.more.now c.in_err-draft.field-0.0 c.requires.typed c.lines.invariant c.in-Some-cut.ensures.parts c.in_err-draft.ensures);
+      answer = rw (p.1, p.2) (failed c.args.plan.now c.args.bytes.now c.lines.rest.now c.lines.number c.lines.draft c.in-Some-cut_line.text.now c.in-Some-cut_line.more.now c.in_err-draft.field-0.0 c.requires.typed c.lines.invariant c.in-Some-cut_line.ensures.parts c.in_err-draft.ensures);
     }
 
 pub lines-preserved : goal.lines-preserved
 lines-preserved c =
-    reads_more c.args.plan.now c.args.bytes.now c.lines.rest.now c.lines.number c.lines.draft c.in_ok-draft.draft c.in-Some-cut.text.now c.in-Some-cut.more.now c.lines.invariant c.in-Some-cut.ensures.parts c.in_ok-draft.ensures
+    reads_more c.args.plan.now c.args.bytes.now c.lines.rest.now c.lines.number c.lines.draft c.in_ok-draft.draft c.in-Some-cut_line.text.now c.in-Some-cut_line.more.now c.lines.invariant c.in-Some-cut_line.ensures.parts c.in_ok-draft.ensures
 
 pub returns-then-is_whole : goal.returns-then-is_whole
 returns-then-is_whole c = record {
@@ -38,5 +38,5 @@ returns-then-is_whole c = record {
 
 pub returns-else-is_whole : goal.returns-else-is_whole
 returns-else-is_whole c = record {
-  answer = not_read c.args.plan.now c.args.bytes.now c.lines.rest.now c.lines.number c.lines.draft c.requires.typed c.lines.invariant c.in_default-cut.ensures.parts (sym c.is_whole.ensures ∙ c.if-is_whole.false);
+  answer = not_read c.args.plan.now c.args.bytes.now c.lines.rest.now c.lines.number c.lines.draft c.requires.typed c.lines.invariant c.in_default-cut_line.ensures.parts (sym c.is_whole.ensures ∙ c.if-is_whole.false);
 }
