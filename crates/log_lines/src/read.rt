@@ -16,7 +16,7 @@ use crate::number::{count_of, number_of};
 use crate::parts::{after, cut};
 use crate::replies::has_reply;
 use crate::value::{printed_of, value_of};
-use fair_semantics::{Effect, Ending, Limits};
+use fair_semantics::{Effect, Ending, Limits, LogVersion};
 use join_base::{Source, Stamped, byte_at};
 use script_types::Plan;
 use std::alloc::Global;
@@ -43,13 +43,21 @@ fn count_at(text: &[u8], max: u64) -> Option<(u64, &[u8])>
     Some((number, rest))
 }
 
+// A version with a space behind it.
+fn version_at(text: &[u8]) -> Option<(LogVersion, &[u8])>
+    ensures { GivesFront result (count_at 2 text.now) }
+{
+    let (number, rest) = count_at(text, 2)?;
+    Some((LogVersion::numbered(number as u32), rest))
+}
+
 // The first line: `joinlog VERSION arrivals A partials P feeds F`.
 #[tactic(auto, unfolding(crate::specs::Lines::head_of))]
 fn head_of(text: &[u8]) -> Option<Head>
     ensures { result ≡ head_of text.now }
 {
     let rest = after(text, b"joinlog ")?;
-    let (version, rest) = count_at(rest, 2)?;
+    let (version, rest) = version_at(rest)?;
     let rest = after(rest, b"arrivals ")?;
     let (arrivals, rest) = count_at(rest, 1_000_000)?;
     let rest = after(rest, b"partials ")?;
@@ -57,7 +65,7 @@ fn head_of(text: &[u8]) -> Option<Head>
     let rest = after(rest, b"feeds ")?;
     let feeds = count_of(rest, 16)?;
     Some(Head {
-        version: version as u32,
+        version,
         limits: Limits {
             arrivals: arrivals as u32,
             partials,
@@ -78,12 +86,12 @@ fn heading_of(plan: &Plan, text: &[u8]) -> Result<LogLine, LineFault>
     }
 }
 
-// The stamp of an arrival, which it has in version 2.
+// The stamp of an arrival, which a plain log lacks.
 #[tactic(auto, unfolding(crate::specs::Lines::stamp_at))]
-fn stamp_at(version: u32, text: &[u8]) -> Option<(u64, &[u8])>
+fn stamp_at(version: LogVersion, text: &[u8]) -> Option<(u64, &[u8])>
     ensures value { GivesFront result (stamp_at version text.now) }
 {
-    if version == 1 {
+    if !version.has_stamps() {
         return Some((0, text));
     }
     let rest = after(text, b"at ")?;
@@ -172,12 +180,12 @@ fn post_of(alloc: Global, plan: &Plan, text: &[u8]) -> Result<LogLine, LineFault
     Ok(LogLine::Does(Effect::Post { target, message }))
 }
 
-// Behind `reply `, which stands in version 2 alone.
+// Behind `reply `, which stands in a log with replies alone.
 #[tactic(auto, unfolding(crate::specs::Lines::reply_of))]
 fn reply_of(alloc: Global, head: &Head, text: &[u8]) -> Result<LogLine, LineFault>
     ensures { Gives result (reply_of head.now text.now) }
 {
-    if head.version != 2 {
+    if !head.version.has_replies() {
         return Err(LineFault::NoLine);
     }
     let Some((number, rest)) = number_at(text, u64::from(u32::MAX)) else {
@@ -310,7 +318,7 @@ fn first_line(plan: &Plan, text: &[u8]) -> Option<Head>
     ensures { result ≡ first_line plan.now text.now }
 {
     let head = head_of(text)?;
-    if has_reply(plan) && head.version != 2 {
+    if has_reply(plan) && !head.version.has_replies() {
         return None;
     }
     Some(head)
