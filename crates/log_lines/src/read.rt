@@ -43,21 +43,13 @@ fn count_at(text: &[u8], max: u64) -> Option<(u64, &[u8])>
     Some((number, rest))
 }
 
-// A version with a space behind it.
-fn version_at(text: &[u8]) -> Option<(LogVersion, &[u8])>
-    ensures { GivesFront result (count_at 2 text.now) }
-{
-    let (number, rest) = count_at(text, 2)?;
-    Some((LogVersion::numbered(number as u32), rest))
-}
-
 // The first line: `joinlog VERSION arrivals A partials P feeds F`.
 #[tactic(auto, unfolding(crate::specs::Lines::head_of))]
 fn head_of(text: &[u8]) -> Option<Head>
     ensures { result ≡ head_of text.now }
 {
     let rest = after(text, b"joinlog ")?;
-    let (version, rest) = version_at(rest)?;
+    let (version, rest) = count_at(rest, 2)?;
     let rest = after(rest, b"arrivals ")?;
     let (arrivals, rest) = count_at(rest, 1_000_000)?;
     let rest = after(rest, b"partials ")?;
@@ -65,7 +57,7 @@ fn head_of(text: &[u8]) -> Option<Head>
     let rest = after(rest, b"feeds ")?;
     let feeds = count_of(rest, 16)?;
     Some(Head {
-        version,
+        version: LogVersion::numbered(version as u32),
         limits: Limits {
             arrivals: arrivals as u32,
             partials,
@@ -318,7 +310,8 @@ fn first_line(plan: &Plan, text: &[u8]) -> Option<Head>
     ensures { result ≡ first_line plan.now text.now }
 {
     let head = head_of(text)?;
-    if has_reply(plan) && !head.version.has_replies() {
+    let may_reply = head.version.has_replies();
+    if has_reply(plan) && !may_reply {
         return None;
     }
     Some(head)
