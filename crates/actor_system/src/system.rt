@@ -16,7 +16,7 @@ use crate::opening::{actors_of, zeros};
 use crate::runs::into_runs;
 use crate::source::source_at;
 use actor_turn::{Actor, Refused};
-use fair_semantics::{ActorRun, Limits, Run};
+use fair_semantics::{ActorRun, Limits, LogVersion, Run};
 use join_base::{FeedList, Items, NoMemory, Source, Stamped, Steps};
 use script_types::Plan;
 use std::alloc::Global;
@@ -251,7 +251,7 @@ impl<'p> System<'p> {
             ..
         } = self;
         Run {
-            version: 2,
+            version: LogVersion::stamped(),
             limits,
             feeds: feeds.len() as u32,
             actors: into_runs(actors, runs),

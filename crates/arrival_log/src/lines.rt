@@ -8,7 +8,7 @@ use crate::parts::{
 };
 use crate::room::ROOM;
 use crate::whole::{put_arrival, put_effect, put_entry, put_fire, put_front};
-use fair_semantics::{ActorRun, Effect, Entry, Fired, Firing, Run};
+use fair_semantics::{ActorRun, Effect, Entry, Fired, Firing, LogVersion, Run};
 use join_base::{Bytes, NoMemory, Source, write_quoted};
 use script_types::{ActorPlan, Plan, write_actor_name};
 
@@ -16,7 +16,7 @@ use script_types::{ActorPlan, Plan, write_actor_name};
 pub fn write_head(text: &mut Bytes, run: &Run) -> Result<(), NoMemory>
     ensures { OnOk result (text.new ≡ text.old ++ head_line run.now) }
 {
-    write_labelled(text, b"joinlog ", u64::from(run.version))?;
+    write_labelled(text, b"joinlog ", u64::from(run.version.number()))?;
     write_labelled(text, b" arrivals ", u64::from(run.limits.arrivals))?;
     write_labelled(text, b" partials ", run.limits.partials)?;
     write_labelled(text, b" feeds ", u64::from(run.feeds))?;
@@ -109,7 +109,7 @@ fn write_arrival(
     text: &mut Bytes,
     room: &mut [u8; ROOM],
     plan: &Plan,
-    version: u32,
+    version: LogVersion,
     entry: &Entry,
     stamp: u64,
 ) -> Result<(), NoMemory>
@@ -129,7 +129,7 @@ fn write_entry_in(
     text: &mut Bytes,
     room: &mut [u8; ROOM],
     plan: &Plan,
-    version: u32,
+    version: LogVersion,
     entry: &Entry,
     stamp: u64,
 ) -> Result<(), NoMemory>
@@ -146,7 +146,7 @@ fn write_entry_in(
 pub fn write_entry(
     text: &mut Bytes,
     plan: &Plan,
-    version: u32,
+    version: LogVersion,
     entry: &Entry,
     stamp: u64,
 ) -> Result<(), NoMemory>
@@ -159,7 +159,7 @@ pub fn write_entry(
 fn write_entries(
     text: &mut Bytes,
     plan: &Plan,
-    version: u32,
+    version: LogVersion,
     entries: &[Entry],
 ) -> Result<(), NoMemory>
     ensures { OnOk result (text.new ≡ text.old ++ flat_map (entry_lines plan.now version) entries.now) }
@@ -222,7 +222,7 @@ pub fn write_last_lines(text: &mut Bytes, plan: &Plan, run: &ActorRun) -> Result
 pub fn write_actor(
     text: &mut Bytes,
     plan: &Plan,
-    version: u32,
+    version: LogVersion,
     actor: &ActorPlan,
     run: &ActorRun,
 ) -> Result<(), NoMemory>

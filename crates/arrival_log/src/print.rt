@@ -4,7 +4,7 @@ ghost use Rattle.fair_semantics.specs.Fits.{RunFits};
 ghost use Rattle.arrival_log.specs.LogText.{log_text, sections};
 
 use crate::lines::{write_actor, write_head};
-use fair_semantics::{ActorRun, Run};
+use fair_semantics::{ActorRun, LogVersion, Run};
 use join_base::{Bytes, NoMemory};
 use script_types::Plan;
 use std::alloc::Global;
@@ -13,7 +13,7 @@ use std::alloc::Global;
 fn write_sections(
     text: &mut Bytes,
     plan: &Plan,
-    version: u32,
+    version: LogVersion,
     runs: &[ActorRun],
 ) -> Result<(), NoMemory>
     requires { length runs.now ≡ length plan.now.actors }

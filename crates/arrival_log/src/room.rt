@@ -7,6 +7,7 @@ ghost use Rattle.join_base.specs.Quoted.{quoted};
 ghost use Rattle.arrival_log.specs.Commas.{is_plain_byte, stamp_behind};
 ghost use Rattle.arrival_log.specs.LogText.{comma_joined, value_text};
 
+use fair_semantics::LogVersion;
 use itoa::write_digits;
 use join_base::Value;
 
@@ -36,18 +37,18 @@ pub(crate) fn put_number(room: &mut [u8; ROOM], end: usize, number: u64) -> usiz
     write_digits(number, room, end)
 }
 
-// ` at S` behind an arrival's number, which version 1 lacks.
+// ` at S` behind an arrival's number, which a plain log lacks.
 #[inline]
-pub(crate) fn put_stamp(room: &mut [u8; ROOM], end: usize, version: u32, stamp: u64) -> usize
+pub(crate) fn put_stamp(room: &mut [u8; ROOM], end: usize, version: LogVersion, stamp: u64) -> usize
     requires within { (24 ≤ end) × (end ≤ 512) }
     ensures start { (result ≤ end) × (end ≤ result + 24) }
     ensures written { drop result room.new ≡ stamp_behind version stamp ++ drop end room.old }
 {
-    if version == 1 {
-        end
-    } else {
+    if version.has_stamps() {
         let end = put_number(room, end, stamp);
         put_words(room, end, b" at ")
+    } else {
+        end
     }
 }
 

@@ -3,7 +3,7 @@ ghost use Rattle.join_base.specs.Text.{is_name};
 ghost use Rattle.arrival_log.specs.Samples.{hit, hit_plan, hit_run, joiner, keeper, one_field, one_value, post, post_plan, post_run, poster, ruleless};
 
 use crate::print_log;
-use fair_semantics::{ActorRun, Effect, Ending, Entry, Fired, Firing, Limits, Run};
+use fair_semantics::{ActorRun, Effect, Ending, Entry, Fired, Firing, Limits, LogVersion, Run};
 use join_base::{
     Bytes, Fields, Items, Line, Message, Name, NoMemory, Numbers, Sort, Source, Text, Value,
 };
@@ -110,7 +110,7 @@ fn hit_run(alloc: Global) -> Result<Run, Fail>
     let mut actors = Items::new(alloc);
     actors.push(joiner(alloc)?)?;
     Ok(Run {
-        version: 2,
+        version: LogVersion::stamped(),
         limits: Limits {
             arrivals: 50_000,
             partials: 65_536,
@@ -233,7 +233,7 @@ fn post_run(alloc: Global) -> Result<Run, Fail>
     actors.push(poster(alloc)?)?;
     actors.push(keeper(alloc)?)?;
     Ok(Run {
-        version: 1,
+        version: LogVersion::plain(),
         limits: Limits {
             arrivals: 3,
             partials: 4,

@@ -11,7 +11,7 @@ ghost use Rattle.arrival_log.specs.LogText.{arrival_line, effect_line, entry_lin
 use crate::room::{
     FRONT, ROOM, put_number, put_numbers, put_stamp, put_text, put_value, put_values, put_words,
 };
-use fair_semantics::{Effect, Entry, Fired, Firing};
+use fair_semantics::{Effect, Entry, Fired, Firing, LogVersion};
 use join_base::{Message, Source, Value};
 use script_types::Plan;
 
@@ -63,7 +63,7 @@ pub(crate) fn put_front(
     room: &mut [u8; ROOM],
     end: usize,
     plan: &Plan,
-    version: u32,
+    version: LogVersion,
     entry: &Entry,
     stamp: u64,
 ) -> usize
@@ -93,7 +93,7 @@ pub(crate) fn put_arrival(
     room: &mut [u8; ROOM],
     end: usize,
     plan: &Plan,
-    version: u32,
+    version: LogVersion,
     entry: &Entry,
     stamp: u64,
 ) -> Option<usize>
@@ -217,7 +217,7 @@ fn put_fired(room: &mut [u8; ROOM], plan: &Plan, fired: &Fired) -> Option<usize>
 pub(crate) fn put_entry(
     room: &mut [u8; ROOM],
     plan: &Plan,
-    version: u32,
+    version: LogVersion,
     entry: &Entry,
     stamp: u64,
 ) -> Option<usize>

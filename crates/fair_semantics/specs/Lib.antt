@@ -10,3 +10,5 @@ pub mod Body
 pub mod Ready
 -- what the private field of `Fired` holds
 pub mod Fired
+-- what the private field of `LogVersion` stands for
+pub mod Version

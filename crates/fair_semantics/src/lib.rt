@@ -11,4 +11,4 @@ mod law;
 mod run;
 
 pub use law::stamps_law;
-pub use run::{ActorRun, Effect, Ending, Entry, Fired, Firing, Limits, Outcome, Run};
+pub use run::{ActorRun, Effect, Ending, Entry, Fired, Firing, Limits, LogVersion, Outcome, Run};

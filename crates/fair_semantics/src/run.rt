@@ -1,5 +1,6 @@
 //! What a run shows.
-ghost use Rattle.std.specs.Prelude.{◌≡◌, None, Some, MatchOption};
+ghost use Rattle.std.specs.Prelude.{◌≡◌, ◌==◌, not, None, Some, MatchOption};
+ghost use Rattle.fair_semantics.specs.Fits.{IsFrom1To};
 
 use join_base::{Items, Line, Message, Numbers, Source, Value};
 use std::marker::Model;
@@ -114,7 +115,7 @@ pub struct Entry {
     pub source: Source,
     pub message: Message,
     /// 1 more than the greater of the arrival's before it, or 0, and the one that the message carried.
-    /// In a run of version 1 it is 0.
+    /// In a plain run it is 0.
     pub stamp: u64,
     pub firing: Fired,
 }
@@ -133,11 +134,100 @@ pub struct ActorRun {
     pub partials: u64,
 }
 
+// What the lines of a log have.
+#[derive(Clone, Copy, PartialEq, Eq, Debug)]
+enum Form {
+    Plain,
+    Stamped,
+}
+
+/// The version of a run and of its log. A clause sees the number in the log's first line.
+///
+/// A plain run, `joinlog 1`, has no stamps and no replies. In a stamped one, `joinlog 2`, each arrival has a stamp, and
+/// a firing may have replies.
+#[derive(Clone, Copy, PartialEq, Eq, Debug)]
+pub struct LogVersion {
+    form: Form,
+}
+
+impl Model for LogVersion {
+    ghost use Rattle.std.specs.Prelude.{ℕ};
+
+    ghost Value = { ℕ };
+
+    ghost use Rattle.fair_semantics.specs.Version.{number_in, form_of, form_of-number};
+
+    ghost view = { λ v. number_in v.form };
+
+    ghost inverse = { λ number. record { form = form_of number } };
+
+    ghost inverse_ok = { λ v h i. record { form = form_of-number v.form i } };
+}
+
+impl LogVersion {
+    /// The version without stamps and replies.
+    #[inline]
+    pub fn plain() -> LogVersion
+        ensures { result ≡ 1 }
+    {
+        LogVersion { form: Form::Plain }
+    }
+
+    /// The version with stamps, and with the replies of the firings.
+    #[inline]
+    pub fn stamped() -> LogVersion
+        ensures { result ≡ 2 }
+    {
+        LogVersion {
+            form: Form::Stamped,
+        }
+    }
+
+    /// The version that a first line names by its number.
+    #[inline]
+    pub fn numbered(number: u32) -> LogVersion
+        requires { IsFrom1To 2 number }
+        ensures { result ≡ number }
+    {
+        if number == 1 {
+            LogVersion::plain()
+        } else {
+            LogVersion::stamped()
+        }
+    }
+
+    /// The number in the first line of a log.
+    #[inline]
+    pub fn number(self) -> u32
+        ensures { result ≡ self }
+    {
+        match self.form {
+            Form::Plain => 1,
+            Form::Stamped => 2,
+        }
+    }
+
+    /// Whether each arrival has a stamp.
+    #[inline]
+    pub fn has_stamps(self) -> bool
+        ensures { result ≡ not (self == 1) }
+    {
+        self.form == Form::Stamped
+    }
+
+    /// Whether a firing may have replies.
+    #[inline]
+    pub fn has_replies(self) -> bool
+        ensures { result ≡ (self == 2) }
+    {
+        self.form == Form::Stamped
+    }
+}
+
 /// The run of a plan.
 #[derive(Drop)]
 pub struct Run {
-    /// 1 without stamps, 2 with them.
-    pub version: u32,
+    pub version: LogVersion,
     pub limits: Limits,
     /// How many feeds there were, from 1 to 16.
     pub feeds: u32,

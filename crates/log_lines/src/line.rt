@@ -1,12 +1,11 @@
 //! The lines of a log.
-use fair_semantics::{Effect, Ending, Limits};
+use fair_semantics::{Effect, Ending, Limits, LogVersion};
 use join_base::{Items, Message, Numbers, Source};
 
 /// What the first line of a log says.
 #[derive(Clone, Copy, PartialEq, Eq, Debug)]
 pub struct Head {
-    /// 1 without stamps, 2 with them.
-    pub version: u32,
+    pub version: LogVersion,
     pub limits: Limits,
     /// How many feeds there were, from 1 to 16.
     pub feeds: u32,
@@ -16,7 +15,7 @@ pub struct Head {
 #[derive(Drop)]
 pub struct Arrival {
     pub number: u32,
-    /// 0 in version 1.
+    /// 0 in a plain log.
     pub stamp: u64,
     pub source: Source,
     pub message: Message,

@@ -16,7 +16,7 @@ use crate::number::{count_of, number_of};
 use crate::parts::{after, cut};
 use crate::replies::has_reply;
 use crate::value::{printed_of, value_of};
-use fair_semantics::{Effect, Ending, Limits};
+use fair_semantics::{Effect, Ending, Limits, LogVersion};
 use join_base::{Source, Stamped, byte_at};
 use script_types::Plan;
 use std::alloc::Global;
@@ -57,7 +57,7 @@ fn head_of(text: &[u8]) -> Option<Head>
     let rest = after(rest, b"feeds ")?;
     let feeds = count_of(rest, 16)?;
     Some(Head {
-        version: version as u32,
+        version: LogVersion::numbered(version as u32),
         limits: Limits {
             arrivals: arrivals as u32,
             partials,
@@ -78,12 +78,12 @@ fn heading_of(plan: &Plan, text: &[u8]) -> Result<LogLine, LineFault>
     }
 }
 
-// The stamp of an arrival, which it has in version 2.
+// The stamp of an arrival, which a plain log lacks.
 #[tactic(auto, unfolding(crate::specs::Lines::stamp_at))]
-fn stamp_at(version: u32, text: &[u8]) -> Option<(u64, &[u8])>
+fn stamp_at(version: LogVersion, text: &[u8]) -> Option<(u64, &[u8])>
     ensures value { GivesFront result (stamp_at version text.now) }
 {
-    if version == 1 {
+    if !version.has_stamps() {
         return Some((0, text));
     }
     let rest = after(text, b"at ")?;
@@ -172,12 +172,12 @@ fn post_of(alloc: Global, plan: &Plan, text: &[u8]) -> Result<LogLine, LineFault
     Ok(LogLine::Does(Effect::Post { target, message }))
 }
 
-// Behind `reply `, which stands in version 2 alone.
+// Behind `reply `, which stands in a log with replies alone.
 #[tactic(auto, unfolding(crate::specs::Lines::reply_of))]
 fn reply_of(alloc: Global, head: &Head, text: &[u8]) -> Result<LogLine, LineFault>
     ensures { Gives result (reply_of head.now text.now) }
 {
-    if head.version != 2 {
+    if !head.version.has_replies() {
         return Err(LineFault::NoLine);
     }
     let Some((number, rest)) = number_at(text, u64::from(u32::MAX)) else {
@@ -310,7 +310,8 @@ fn first_line(plan: &Plan, text: &[u8]) -> Option<Head>
     ensures { result ≡ first_line plan.now text.now }
 {
     let head = head_of(text)?;
-    if has_reply(plan) && head.version != 2 {
+    let may_reply = head.version.has_replies();
+    if has_reply(plan) && !may_reply {
         return None;
     }
     Some(head)

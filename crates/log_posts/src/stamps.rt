@@ -5,7 +5,7 @@ ghost use Rattle.fair_semantics.specs.Linked.{stamp_at};
 ghost use Rattle.log_posts.specs.Stamps.{IsCounted, carried_by, next_stamp, stamps_in, stamps_made, taken_after, with_stamps};
 
 use crate::posts::Posted;
-use fair_semantics::Entry;
+use fair_semantics::{Entry, LogVersion};
 use join_base::{Items, NoMemory, Source, Stamped};
 use std::alloc::Global;
 
@@ -76,18 +76,18 @@ fn stamps_made(
     Ok(stamps)
 }
 
-/// The stamps of the arrivals of an actor, in order, by the posts to it from each actor. Version 1 has none, so each is
-/// 0 there. An arrival from an actor is from one of these.
+/// The stamps of the arrivals of an actor, in order, by the posts to it from each actor. A plain log has none, so each
+/// is 0 there. An arrival from an actor is from one of these.
 pub fn stamps_in(
     alloc: Global,
-    version: u32,
+    version: LogVersion,
     links: &[Items<Posted>],
     entries: &[Entry],
 ) -> Result<Items<u64>, NoMemory>
     requires exist { AllByRecursion (λ entry. IsCounted (length links.now) entry.source) entries.now }
     ensures { IfOk result (λ stamps. stamps ≡ stamps_in version links.now entries.now) }
 {
-    if version == 1 {
+    if !version.has_stamps() {
         let zeros = vec![in alloc; 0; entries.len()]?;
         return Ok(Items::from_vec(zeros));
     }

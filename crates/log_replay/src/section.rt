@@ -9,7 +9,7 @@ ghost use Rattle.log_replay.specs.Shared.{shown, shown_run, shown_stamps, stamp_
 use crate::apart::{Progress, behind, parted};
 use crate::shared::{Shared, plain};
 use arrival_log::{write_entry, write_head, write_heading, write_last_lines};
-use fair_semantics::{ActorRun, Entry, Run};
+use fair_semantics::{ActorRun, Entry, LogVersion, Run};
 use join_base::{Bytes, NoMemory};
 use script_types::{ActorPlan, Plan};
 use std::alloc::Global;
@@ -41,7 +41,7 @@ fn behind_entries(
     bytes: &[u8],
     start: Progress,
     plan: &Plan,
-    version: u32,
+    version: LogVersion,
     entries: &[Entry],
     stamps: &[u64],
 ) -> Result<Progress, NoMemory>
@@ -66,7 +66,7 @@ fn behind_section(
     bytes: &[u8],
     start: Progress,
     plan: &Plan,
-    version: u32,
+    version: LogVersion,
     named: &ActorPlan,
     read: &ActorRun,
     expected: &Shared,

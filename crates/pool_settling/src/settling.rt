@@ -15,7 +15,7 @@ use crate::draining::drain_links;
 use crate::rounds::{bring_posts, bring_rest, into_runs};
 use actor_cells::Cell;
 use cell_links::Poster;
-use fair_semantics::{Limits, Run};
+use fair_semantics::{Limits, LogVersion, Run};
 use join_base::{FeedList, NoMemory, Steps};
 use script_types::Plan;
 use std::alloc::Global;
@@ -56,7 +56,7 @@ pub fn settle_with<L: Ledger>(
     bring_rest(alloc, &rest, &mut actors, steps)?;
     bring_posts(alloc, &mut actors, steps)?;
     Ok(Run {
-        version: 2,
+        version: LogVersion::stamped(),
         limits,
         feeds,
         actors: into_runs(actors, runs),
