@@ -134,7 +134,7 @@ pub struct ActorRun {
     pub partials: u64,
 }
 
-// What the lines of a log have.
+// Whether the arrivals of a log have stamps.
 #[derive(Clone, Copy, PartialEq, Eq, Debug)]
 enum Form {
     Plain,

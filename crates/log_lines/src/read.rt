@@ -172,7 +172,7 @@ fn post_of(alloc: Global, plan: &Plan, text: &[u8]) -> Result<LogLine, LineFault
     Ok(LogLine::Does(Effect::Post { target, message }))
 }
 
-// Behind `reply `, which stands in a log with replies alone.
+// Behind `reply `, which a plain log lacks.
 #[tactic(auto, unfolding(crate::specs::Lines::reply_of))]
 fn reply_of(alloc: Global, head: &Head, text: &[u8]) -> Result<LogLine, LineFault>
     ensures { Gives result (reply_of head.now text.now) }
