@@ -1,7 +1,7 @@
 //! The lines of a log, read one by one.
 //!
 //! - `read_head` gives the first line of a log, and `read_line` any line behind it, or they say that the text is none.
-//! - `cut_line` gives the first line of some bytes, and what stands behind it.
+//! - `cut_line` gives the first line that an LF ends, and what stands behind it, or none.
 //! - `one_line` says that no text is two lines.
 //!
 //! A contract says by `IsHead` and `IsLine` (specs/Forms) which line a text is: the line is within its bounds, and the

@@ -1,4 +1,4 @@
-//! Where a line is cut into its parts.
+//! Where a log is cut into lines, and a line into its parts.
 ghost use Rattle.std.specs.Prelude.{◌≡◌, ◌==◌, ◌<◌, length, IfSome};
 ghost use Rattle.std.specs.List.{position};
 ghost use Rattle.log_lines.specs.Cut.{after, cut};

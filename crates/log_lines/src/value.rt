@@ -44,7 +44,7 @@ fn bounded<const MAX: usize>(alloc: Global, bytes: &[u8]) -> Result<BoundedText<
 }
 
 // The text of a value whose quoted form stands in front, and what stands behind it. Where its bytes stand for
-// themselves, they are not read one by one.
+// themselves, they are copied at once.
 fn text_at(alloc: Global, text: &[u8]) -> Result<(Text, &[u8]), LineFault>
     ensures { GivesValue result (quoted_at 120 text.now) }
 {
