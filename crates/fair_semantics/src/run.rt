@@ -207,7 +207,7 @@ impl LogVersion {
         }
     }
 
-    /// Whether each arrival has a stamp.
+    /// Whether each arrival has a stamp: the definitions ask whether the version is not 1.
     #[inline]
     pub fn has_stamps(self) -> bool
         ensures { result ≡ not (self == 1) }
@@ -215,7 +215,7 @@ impl LogVersion {
         self.form == Form::Stamped
     }
 
-    /// Whether a firing may have replies.
+    /// Whether a firing may have replies: the definitions ask whether the version is 2.
     #[inline]
     pub fn has_replies(self) -> bool
         ensures { result ≡ (self == 2) }
