@@ -5,7 +5,7 @@
 //! - `write_head` and `write_actor` append its first line and the section of an actor, and `write_heading`,
 //!   `write_entry` and `write_last_lines` the parts of a section, for a caller that wants the text piece by piece.
 //!   Without memory some of a piece may stay appended.
-//! - `is_plain` says whether a text is its own quoted form but for the quotes.
+//! - `needs_no_escape` says whether a text is its own quoted form but for the quotes.
 //!
 //! A contract sees the text as a function of the plan and the run, `log_text` (specs/LogText), and its pieces as
 //! `head_line`, `actor_lines` and the parts of these. That it reads back as that run is a matter of `log_reader`. Only
@@ -20,7 +20,7 @@ mod whole;
 
 pub use lines::{write_actor, write_entry, write_head, write_heading, write_last_lines};
 pub use print::print_log;
-pub use room::is_plain;
+pub use room::needs_no_escape;
 
 #[cfg(test)]
 mod tests;

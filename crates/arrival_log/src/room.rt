@@ -67,7 +67,7 @@ fn put_integer(room: &mut [u8; ROOM], end: usize, number: i64) -> usize
 }
 
 /// Whether each byte stands for itself between quotes. It goes through all of them, so that many are compared at once.
-pub fn is_plain(text: &[u8]) -> bool
+pub fn needs_no_escape(text: &[u8]) -> bool
     ensures { result ≡ list_all is_plain_byte text.now }
 {
     let mut plain = true;
@@ -84,7 +84,7 @@ pub(crate) fn put_text(room: &mut [u8; ROOM], end: usize, text: &[u8]) -> Option
     ensures start { IfSome result (λ start. (235 ≤ start) × (start ≤ 512)) }
     ensures written { IfSome result (λ start. drop start room.new ≡ quoted text.now ++ drop end room.old) }
 {
-    if end < FRONT || text.len() > end - FRONT || !is_plain(text) {
+    if end < FRONT || text.len() > end - FRONT || !needs_no_escape(text) {
         return None;
     }
     let behind = put_words(room, end, b"\"");

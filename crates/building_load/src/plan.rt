@@ -208,8 +208,8 @@ fn print_rule(alloc: Global, kind: u32, text: Text) -> Result<Rule, NoMemory>
 fn desk(alloc: Global) -> Result<ActorPlan, NoMemory>
     ensures { IfOk result (λ actor. actor ≡ building.desk) }
 {
-    let light = Text::from_vec(b"light on in ".to_vec(alloc)?);
-    let alarm = Text::from_vec(b"alarm in ".to_vec(alloc)?);
+    let light = Text::from_text(alloc, b"light on in ")?;
+    let alarm = Text::from_text(alloc, b"alarm in ")?;
     Ok(ActorPlan {
         name: Name::from_bytes(alloc, b"desk")?,
         rules: two(

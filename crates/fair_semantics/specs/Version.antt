@@ -3,13 +3,13 @@ use Rattle.std.specs.Prelude.{ℕ, ◌≡◌, ◌==◌, if◌then◌else◌, ref
 use Rattle.fair_semantics.specs.declared.run.Form.{Form}
 use Rattle.fair_semantics.specs.declared.run.Form.TheVariants.{Plain, Stamped}
 
-abbrev pub number_in : Form → ℕ
-number_in Plain = 1
-number_in Stamped = 2
+abbrev pub version_number : Form → ℕ
+version_number Plain = 1
+version_number Stamped = 2
 
-abbrev pub form_of : ℕ → Form
-form_of number = if number == 1 then Plain else Stamped
+abbrev pub version_form : ℕ → Form
+version_form number = if number == 1 then Plain else Stamped
 
-pub form_of-number : (form : Form) → form_of (number_in form) ≡ form
-form_of-number Plain = refl
-form_of-number Stamped = refl
+pub version_form-number : (form : Form) → version_form (version_number form) ≡ form
+version_form-number Plain = refl
+version_form-number Stamped = refl

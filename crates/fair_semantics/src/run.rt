@@ -155,13 +155,13 @@ impl Model for LogVersion {
 
     ghost Value = { ℕ };
 
-    ghost use Rattle.fair_semantics.specs.Version.{number_in, form_of, form_of-number};
+    ghost use Rattle.fair_semantics.specs.Version.{version_number, version_form, version_form-number};
 
-    ghost view = { λ v. number_in v.form };
+    ghost view = { λ v. version_number v.form };
 
-    ghost inverse = { λ number. record { form = form_of number } };
+    ghost inverse = { λ number. record { form = version_form number } };
 
-    ghost inverse_ok = { λ v h i. record { form = form_of-number v.form i } };
+    ghost inverse_ok = { λ v h i. record { form = version_form-number v.form i } };
 }
 
 impl LogVersion {

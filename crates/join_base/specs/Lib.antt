@@ -11,4 +11,5 @@ pub mod Outside
 pub mod Memory
 -- what private functions and lent items compute
 pub mod Lending
+pub mod Stored
 pub mod Unquoted

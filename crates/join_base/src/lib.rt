@@ -1,8 +1,9 @@
 //! Values, messages, assignments, lists, texts, quoting, and the outside: what every layer speaks of.
 //!
 //! - **Lists**: `Items<T>` is seen as a list, and its calls do what they do on one.
-//! - **Texts**: `Bytes`, `BoundedText`, `Name` and `Word` are seen as their bytes. A `BoundedText` is UTF-8, of at most 120 bytes
-//!   as `Text` and 1,920 as `Line`, and a `Name` is no keyword: that is part of the type, and `bytes` tells it.
+//! - **Texts**: `Bytes`, `BoundedText`, `Name` and `Word` are seen as their bytes. A `BoundedText` is UTF-8, of at most
+//!   120 bytes as `Text` and 1,920 as `Line`, and a `Name` is no keyword: that is part of the type, and `bytes` tells it.
+//!   A short text stands in place.
 //! - **Messages**: `Value`, `Fields` (at most 8 values, one of them in place), `Message`, `Stamped`, `Source`; `letter` is the message of an arrival number.
 //! - **Assignments**: `Slots` and `Numbers`, which take no memory, are seen as lists of at most 8. `Steps` counts without memory.
 //! - **Quoting**: `write_quoted` and `read_quoted` are exact for the quoted form; by `quoted_law` none begins another.
@@ -20,6 +21,7 @@ mod outside;
 mod quoted;
 mod slots;
 mod steps;
+mod stored;
 #[cfg(test)]
 mod tests;
 mod text;

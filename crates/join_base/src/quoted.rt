@@ -9,7 +9,7 @@ ghost use Rattle.join_base.specs.Unquoted.{hex_value, hex_byte, is_hex_escaped, 
 
 use crate::items::NoMemory;
 use crate::text::{Bytes, Line, Text, byte_at};
-use std::alloc::{AllocError, Global};
+use std::alloc::Global;
 use thiserror::Error;
 
 /// Why no text was read.
@@ -22,13 +22,13 @@ pub enum QuoteFault {
     NoMemory,
 }
 
-impl From<AllocError> for QuoteFault {
+impl From<NoMemory> for QuoteFault {
     ghost use Rattle.std.specs.Prelude.{◌≡◌};
     ghost use Rattle.join_base.specs.declared.quoted.QuoteFault.TheVariants.{NoMemory};
 
     ghost from_gives = { λ _ e. e ≡ NoMemory };
 
-    fn from(_: AllocError) -> QuoteFault {
+    fn from(_: NoMemory) -> QuoteFault {
         QuoteFault::NoMemory
     }
 }
@@ -228,8 +228,8 @@ pub fn read_quoted(
     match unquote(bytes, at, room) {
         None => Err(QuoteFault::BadQuote),
         Some((count, end)) => {
-            let text = room[..count].to_vec(alloc)?;
-            Ok((Line::from_vec(text), end))
+            let text = Line::from_text(alloc, &room[..count])?;
+            Ok((text, end))
         }
     }
 }
@@ -245,8 +245,8 @@ pub fn read_quoted_text(alloc: Global, bytes: &[u8], at: usize) -> Result<(Text,
     match unquote(bytes, at, &mut room) {
         None => Err(QuoteFault::BadQuote),
         Some((count, end)) => {
-            let text = room[..count].to_vec(alloc)?;
-            Ok((Text::from_vec(text), end))
+            let text = Text::from_text(alloc, &room[..count])?;
+            Ok((text, end))
         }
     }
 }

@@ -131,6 +131,10 @@ fn texts_names_and_words(rt: HostRuntime) {
         Ok(line) => assert_eq!(rt; line.bytes().len(), 121),
         Err(_) => assert!(rt; false),
     }
+    match Line::from_text(rt.alloc(), &long) {
+        Ok(line) => assert_eq!(rt; line.bytes().len(), 121),
+        Err(_) => assert!(rt; false),
+    }
     match Line::from_bytes(rt.alloc(), b"\xff") {
         Ok(_) => assert!(rt; false),
         Err(fault) => assert_eq!(rt; fault, TextFault::NotText),

@@ -4,7 +4,8 @@ ghost use Rattle.std.specs.Str.{IsUtf8};
 ghost use Rattle.join_base.specs.Text.{IsText, is_name};
 
 use crate::items::{Items, NoMemory};
-use std::alloc::{AllocError, Global};
+use crate::stored::Stored;
+use std::alloc::Global;
 use std::marker::Model;
 use thiserror::Error;
 
@@ -88,35 +89,36 @@ pub enum TextFault {
     NoMemory,
 }
 
-impl From<AllocError> for TextFault {
+impl From<NoMemory> for TextFault {
     ghost use Rattle.std.specs.Prelude.{◌≡◌};
     ghost use Rattle.join_base.specs.declared.text.TextFault.TheVariants.{NoMemory};
 
     ghost from_gives = { λ _ e. e ≡ NoMemory };
 
-    fn from(_: AllocError) -> TextFault {
+    fn from(_: NoMemory) -> TextFault {
         TextFault::NoMemory
     }
 }
 
-/// UTF-8 of at most `BOUND` bytes.
+/// UTF-8 of at most `BOUND` bytes. Up to `PLACE` of them stand in place, and more in a block of memory.
 #[derive(Drop)]
-pub struct BoundedText<const BOUND: usize> {
-    bytes: Vec<u8>,
+pub struct BoundedText<const BOUND: usize, const PLACE: usize> {
+    stored: Stored<PLACE>,
 }
 
-impl<const BOUND: usize> Model for BoundedText<BOUND> {
+impl<const BOUND: usize, const PLACE: usize> Model for BoundedText<BOUND, PLACE> {
     ghost use Rattle.std.specs.Prelude.{ℕ, List};
     ghost use Rattle.join_base.specs.Text.{IsText};
+    ghost use Rattle.join_base.specs.Stored.{stored_bytes};
 
     ghost Value = { List ℕ };
 
-    ghost view = { λ a. a.bytes.items };
+    ghost view = { λ a. stored_bytes a.stored };
 
-    ghost invariant = { λ a. IsText BOUND a.bytes.items };
+    ghost invariant = { λ a. IsText BOUND (stored_bytes a.stored) };
 }
 
-impl<const BOUND: usize> BoundedText<BOUND> {
+impl<const BOUND: usize, const PLACE: usize> BoundedText<BOUND, PLACE> {
     /// The most bytes of such a text.
     pub const MAX: usize = BOUND;
 
@@ -131,40 +133,46 @@ impl<const BOUND: usize> BoundedText<BOUND> {
                 if bytes.len() > BOUND {
                     return Err(TextFault::TooLong);
                 }
-                let own = bytes.to_vec(alloc)?;
-                Ok(BoundedText { bytes: own })
+                Ok(BoundedText::from_text(alloc, bytes)?)
             }
         }
     }
 
-    /// The text of these bytes. It takes no memory.
-    pub fn from_vec(bytes: Vec<u8>) -> Self
-        requires is_text { IsText BOUND bytes.items }
-        ensures same { result ≡ bytes.items }
+    /// The text of these bytes, which are one.
+    pub fn from_text(alloc: Global, bytes: &[u8]) -> Result<Self, NoMemory>
+        requires is_text { IsText BOUND bytes.now }
+        ensures same { IfOk result (λ t. t ≡ bytes.now) }
     {
-        BoundedText { bytes }
+        let stored = Stored::from_slice(alloc, bytes)?;
+        Ok(BoundedText { stored })
     }
 
+    #[inline]
     pub fn bytes(&self) -> &[u8]
         ensures same { result.now ≡ self.now }
         ensures is_text { IsText BOUND self.now }
     {
-        self.bytes.as_slice()
+        self.stored.as_slice()
     }
 
     pub fn copy(&self, alloc: Global) -> Result<Self, NoMemory>
         ensures equal { IfOk result (λ t. t ≡ self.now) }
     {
-        let bytes = self.bytes.as_slice().to_vec(alloc)?;
-        Ok(BoundedText { bytes })
+        BoundedText::from_text(alloc, self.bytes())
     }
 }
 
-/// The value of a text field, or a text of a script: UTF-8 of at most 120 bytes.
-pub type Text = BoundedText<120>;
+/// The value of a text field, or a text of a script: UTF-8 of at most 120 bytes. It takes 16 bytes, and a block where it
+/// has more than 14.
+pub type Text = BoundedText<120, 14>;
 
-/// What a body prints: UTF-8 of at most 1,920 bytes.
-pub type Line = BoundedText<1920>;
+const _: () = prove!(size_of::<Text>() == 16);
+
+/// What a body prints: UTF-8 of at most 1,920 bytes. It takes 40 bytes, as a message does, and a block where it has more
+/// than 38.
+pub type Line = BoundedText<1920, 38>;
+
+const _: () = prove!(size_of::<Line>() == 40);
 
 /// The name of an actor, a kind, a field or a variable: 1 to 64 ASCII letters, digits and `_`, the first no digit. It is no
 /// keyword of a script, and not `_` alone.

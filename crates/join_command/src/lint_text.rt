@@ -1,6 +1,5 @@
 //! The findings of a plan as text.
 ghost use Rattle.std.specs.Prelude.{◌≡◌, ◌++◌, OnOk, OnErr};
-ghost use Rattle.std.specs.Fmt.{decimal};
 ghost use Rattle.std.specs.List.{flat_map};
 ghost use Rattle.script_types.specs.Typed.{IsTyped};
 ghost use Rattle.join_command.specs.LintText.{finding_line, finding_text, lint_text, report_text, rule_text};

@@ -11,7 +11,7 @@ ghost use Rattle.log_lines.specs.Messages.{closed_int, closed_value, closed_word
 use crate::fault::LineFault;
 use crate::number::int_of;
 use crate::parts::{after, cut};
-use arrival_log::is_plain;
+use arrival_log::needs_no_escape;
 use join_base::{
     BoundedText, Fields, Line, Name, PushFault, QuoteFault, Sort, Text, TextFault, Value, byte_at,
     read_quoted, read_quoted_text,
@@ -24,7 +24,7 @@ fn plain_at(bytes: &[u8]) -> Option<(&[u8], &[u8])>
 {
     let rest = after(bytes, b"\"")?;
     let (text, more) = cut(rest, b'"')?;
-    if is_plain(text) {
+    if needs_no_escape(text) {
         Some((text, more))
     } else {
         None
@@ -32,7 +32,10 @@ fn plain_at(bytes: &[u8]) -> Option<(&[u8], &[u8])>
 }
 
 // The text of these bytes, where they are one.
-fn bounded<const MAX: usize>(alloc: Global, bytes: &[u8]) -> Result<BoundedText<MAX>, LineFault>
+fn bounded<const MAX: usize, const PLACE: usize>(
+    alloc: Global,
+    bytes: &[u8],
+) -> Result<BoundedText<MAX, PLACE>, LineFault>
     ensures { Gives result (where_true (is_text MAX bytes.now) (Some bytes.now)) }
 {
     match BoundedText::from_bytes(alloc, bytes) {

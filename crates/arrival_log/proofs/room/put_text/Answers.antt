@@ -7,4 +7,4 @@ returns-clause-written c =
     let text : List ℕ = c.args.text.now in
     c.put_words.ensures.written
     ∙ ap (λ (rest : List ℕ). 34 ∷ rest) (c.put_words-start.ensures.written ∙ ap (λ (rest : List ℕ). text ++ rest) c.put_words-behind.ensures.written)
-    ∙ plain_quoted text (drop c.args.end c.args.room.now) (sym c.if-not-is_plain.ensures)
+    ∙ plain_quoted text (drop c.args.end c.args.room.now) (sym c.if-not-needs_no_escape.ensures)
