@@ -162,20 +162,20 @@ impl<const BOUND: usize, const PLACE: usize> BoundedText<BOUND, PLACE> {
     }
 }
 
-/// The value of a text field, or a text of a script: UTF-8 of at most 120 bytes. It takes 16 bytes, and a block where it
-/// has more than 14.
+/// The value of a text field, or a text of a script: UTF-8 of at most 120 bytes. It takes 16 bytes, and a block where
+/// it has more than 14.
 pub type Text = BoundedText<120, 14>;
 
 const _: () = prove!(size_of::<Text>() == 16);
 
-/// What a body prints: UTF-8 of at most 1,920 bytes. It takes 40 bytes, as a message does, and a block where it has more
-/// than 38.
+/// What a body prints: UTF-8 of at most 1,920 bytes. It takes 40 bytes, as a message does, and a block where it has
+/// more than 38.
 pub type Line = BoundedText<1920, 38>;
 
 const _: () = prove!(size_of::<Line>() == 40);
 
-/// The name of an actor, a kind, a field or a variable: 1 to 64 ASCII letters, digits and `_`, the first no digit. It is no
-/// keyword of a script, and not `_` alone.
+/// The name of an actor, a kind, a field or a variable: 1 to 64 ASCII letters, digits and `_`, the first no digit. It
+/// is no keyword of a script, and not `_` alone.
 #[derive(Drop)]
 pub struct Name {
     bytes: Vec<u8>,

@@ -1,52 +1,101 @@
--- How many posts were taken, a stamp more, and entries with stamps.
-use Rattle.std.proofs.Common.{◌≡◌, ◌∙◌, ℕ, zero, suc, ◌+◌, ◌-◌, ◌<◌, ◌≤◌, ◌^◌, min, List, [], ◌∷◌, ◌++◌, length, take, drop, get_or, append_assoc, refl, sym, ap, arith}
-use Rattle.std.specs.Prelude.{replicate, slice_index, slice_set}
+-- Links whose first posts were taken, a stamp more, and entries with stamps.
+use Rattle.std.proofs.Common.{◌≡◌, ◌∙◌, ℕ, zero, suc, ◌+◌, ◌<◌, ◌≤◌, min, List, [], ◌∷◌, ◌++◌, length, take, drop, get_or, append_assoc, refl, sym, ap, arith}
+use Rattle.std.specs.Prelude.{replicate, slice_get, slice_index, slice_set}
 use Rattle.std.specs.List.{AllByRecursion}
 use Rattle.std.proofs.Math.Seq.{drop-nil}
-use Rattle.std.proofs.lemmas.List.{drop_more, length-set}
+use Rattle.std.proofs.lemmas.List.{append-nil, drop_all, drop_more, length-replicate, length-set}
 use Rattle.join_base.specs.declared.message.Source.{Source}
 use Rattle.join_base.specs.declared.message.Source.TheVariants.{Feed, Actor}
 use Rattle.join_base.specs.declared.message.Stamped.{Stamped}
-use Rattle.join_base.proofs.EachLemmas.{each_from, each_replicate}
 use Rattle.fair_semantics.specs.declared.run.Entry.{Entry}
+use Rattle.fair_semantics.specs.Linked.{stamp_at}
 use Rattle.log_posts.specs.Posts.{with_stamp}
-use Rattle.log_posts.specs.Stamps.{carried_by, next_stamp, stamps_made, taken_after, with_stamps}
+use Rattle.log_posts.proofs.PostsLemmas.{one_more_gone}
+use Rattle.log_posts.specs.Stamps.{IsCounted, carried_by, link_at, links_after, next_carried, next_stamp, stamps_left, stamps_made, taken_after, with_stamps}
 
--- ---- how many posts were taken
+-- ---- links whose first posts were taken
 
-pub taken_more : (taken : List ℕ) (i : ℕ) (source : Source) → AllByRecursion (λ n. n ≤ i) taken → AllByRecursion (λ n. n ≤ i + 1) (taken_after taken source)
-taken_more taken i (Feed k) h = each_from (λ n. n ≤ i) (λ n. n ≤ i + 1) (λ n l. omega (arith, l)) taken h
-taken_more taken i (Actor a) h = set_more taken a h
+-- each link without as many posts as were taken of it
+abbrev pub left_of : List (List Stamped) → List ℕ → List (List Stamped)
+left_of [] taken = []
+left_of (posts ∷ links) [] = posts ∷ links
+left_of (posts ∷ links) (count ∷ taken) = drop count posts ∷ left_of links taken
+
+left_of_none : (links : List (List Stamped)) → left_of links (replicate (length links) 0) ≡ links
+left_of_none [] = refl
+left_of_none (posts ∷ links) = ap (λ (ls : List (List Stamped)). posts ∷ ls) (left_of_none links)
+
+first_left : (posts : List Stamped) (count : ℕ) → slice_get (drop count posts) 0 ≡ slice_get posts count
+first_left [] zero = refl
+first_left [] (suc count) = refl
+first_left (post ∷ posts) zero = refl
+first_left (post ∷ posts) (suc count) = first_left posts count
+
+carried_left : (links : List (List Stamped)) (taken : List ℕ) (source : Source) → length taken ≡ length links → IsCounted (length links) source → next_carried (left_of links taken) source ≡ carried_by links taken source
+carried_left links taken (Feed k) many counted = refl
+carried_left links taken (Actor a) many counted = at links taken a many counted
   where
-    set_more : (xs : List ℕ) (p : ℕ) → AllByRecursion (λ n. n ≤ i) xs → AllByRecursion (λ n. n ≤ i + 1) (slice_set xs p (slice_index xs p + 1))
-    set_more [] p h = tt
-    set_more (x ∷ xs) zero h = (omega (arith, h.0), each_from (λ n. n ≤ i) (λ n. n ≤ i + 1) (λ n l. omega (arith, l)) xs h.1)
-    set_more (x ∷ xs) (suc p) h = (omega (arith, h.0), set_more xs p h.1)
+    at : (ls : List (List Stamped)) (ts : List ℕ) (p : ℕ) → length ts ≡ length ls → p < length ls → stamp_at (slice_get (link_at (slice_get (left_of ls ts) p)) 0) ≡ stamp_at (slice_get (link_at (slice_get ls p)) (slice_index ts p))
+    at [] ts p many l = absurd (omega arith)
+    at (posts ∷ ls) [] p many l = absurd (omega (arith, many))
+    at (posts ∷ ls) (t ∷ ts) zero many l = ap stamp_at (first_left posts t)
+    at (posts ∷ ls) (t ∷ ts) (suc p) many l = at ls ts p (omega (arith, many)) (omega (arith, l))
 
-pub none_taken : (n : ℕ) → AllByRecursion (λ k. k ≤ 0) (replicate n 0)
-none_taken n = each_replicate (λ k. k ≤ 0) n 0 (omega arith)
+after_left : (links : List (List Stamped)) (taken : List ℕ) (source : Source) → length taken ≡ length links → IsCounted (length links) source → links_after (left_of links taken) source ≡ left_of links (taken_after taken source)
+after_left links taken (Feed k) many counted = refl
+after_left links taken (Actor a) many counted = at links taken a many counted
+  where
+    at : (ls : List (List Stamped)) (ts : List ℕ) (p : ℕ) → length ts ≡ length ls → p < length ls → slice_set (left_of ls ts) p (drop 1 (link_at (slice_get (left_of ls ts) p))) ≡ left_of ls (slice_set ts p (slice_index ts p + 1))
+    at [] ts p many l = absurd (omega arith)
+    at (posts ∷ ls) [] p many l = absurd (omega (arith, many))
+    at (posts ∷ ls) (t ∷ ts) zero many l = ap (λ (ps : List Stamped). ps ∷ left_of ls ts) (one_more_gone posts t)
+    at (posts ∷ ls) (t ∷ ts) (suc p) many l = ap (λ (rest : List (List Stamped)). drop t posts ∷ rest) (at ls ts p (omega (arith, many)) (omega (arith, l)))
 
-pub taken_small : (taken : List ℕ) (i : ℕ) → i < 2 ^ 64 - 1 → AllByRecursion (λ n. n ≤ i) taken → AllByRecursion (λ n. n < 2 ^ 64 - 1) taken
-taken_small taken i few h = each_from (λ n. n ≤ i) (λ n. n < 2 ^ 64 - 1) (λ n l. omega (arith, l)) taken h
-
-pub taken_many : (taken : List ℕ) (source : Source) → length (taken_after taken source) ≡ length taken
+taken_many : (taken : List ℕ) (source : Source) → length (taken_after taken source) ≡ length taken
 taken_many taken (Feed k) = refl
 taken_many taken (Actor a) = length-set taken a (slice_index taken a + 1)
 
+left_is : (links : List (List Stamped)) (taken : List ℕ) (before : ℕ) (entries : List Entry) → length taken ≡ length links → AllByRecursion (λ entry. IsCounted (length links) entry.source) entries
+    → stamps_left (left_of links taken) before entries ≡ stamps_made links taken before entries
+left_is links taken before [] many counted = refl
+left_is links taken before (entry ∷ entries) many counted =
+    let carried = carried_left links taken entry.source many counted.0 in
+    let stamp : ℕ = next_stamp before (carried_by links taken entry.source) in
+    (λ i. next_stamp before (carried i) ∷ stamps_left (after_left links taken entry.source many counted.0 i) (next_stamp before (carried i)) entries)
+    ∙ ap (λ (ns : List ℕ). stamp ∷ ns) (left_is links (taken_after taken entry.source) stamp entries (taken_many taken entry.source ∙ many) counted.1)
+
+-- the stamps by the links that are left are those by how many posts were taken
+left_is_made : (links : List (List Stamped)) (entries : List Entry) → AllByRecursion (λ entry. IsCounted (length links) entry.source) entries → stamps_left links 0 entries ≡ stamps_made links (replicate (length links) 0) 0 entries
+left_is_made links entries counted =
+    ap (λ (ls : List (List Stamped)). stamps_left ls 0 entries) (sym (left_of_none links))
+    ∙ left_is links (replicate (length links) 0) 0 entries (length-replicate (length links) 0) counted
+
+pub after_many : (links : List (List Stamped)) (source : Source) → length (links_after links source) ≡ length links
+after_many links (Feed k) = refl
+after_many links (Actor a) = length-set links a (drop 1 (link_at (slice_get links a)))
+
 -- ---- one arrival more
 
-pub stamps_next : (links : List (List Stamped)) (taken later : List ℕ) (before stamp carried : ℕ) (entries : List Entry) (i : ℕ) (e : Entry) (done next whole : List ℕ) → i < length entries → e ≡ get_or entries i e → carried ≡ carried_by links taken e.source
-    → stamp ≡ next_stamp before carried → later ≡ taken_after taken e.source → next ≡ done ++ stamp ∷ []
-    → done ++ stamps_made links taken before (drop i entries) ≡ whole → next ++ stamps_made links later stamp (drop (i + 1) entries) ≡ whole
-stamps_next links taken later before stamp carried entries i e done next whole l is by_carried by_stamp by_later more left =
+pub stamps_next : (links later : List (List Stamped)) (before stamp carried : ℕ) (entries : List Entry) (i : ℕ) (e : Entry) (done next whole : List ℕ) → i < length entries → e ≡ get_or entries i e → carried ≡ next_carried links e.source
+    → stamp ≡ next_stamp before carried → later ≡ links_after links e.source → next ≡ done ++ stamp ∷ []
+    → done ++ stamps_left links before (drop i entries) ≡ whole → next ++ stamps_left later stamp (drop (i + 1) entries) ≡ whole
+stamps_next links later before stamp carried entries i e done next whole l is by_carried by_stamp by_later more left =
     let rest : List Entry = drop (i + 1) entries in
     let stamp_is = by_stamp ∙ ap (next_stamp before) by_carried in
     let here : drop i entries ≡ e ∷ rest = drop_more entries i e l ∙ ap (λ (x : Entry). x ∷ rest) (sym is) in
-    ap (λ (ns : List ℕ). ns ++ stamps_made links later stamp rest) more
-    ∙ append_assoc done (stamp ∷ []) (stamps_made links later stamp rest)
-    ∙ (λ j. done ++ stamp_is j ∷ stamps_made links (by_later j) (stamp_is j) rest)
-    ∙ ap (λ (es : List Entry). done ++ stamps_made links taken before es) (sym here)
+    ap (λ (ns : List ℕ). ns ++ stamps_left later stamp rest) more
+    ∙ append_assoc done (stamp ∷ []) (stamps_left later stamp rest)
+    ∙ (λ j. done ++ stamp_is j ∷ stamps_left (by_later j) (stamp_is j) rest)
+    ∙ ap (λ (es : List Entry). done ++ stamps_left links before es) (sym here)
     ∙ left
+
+pub stamps_done : (links left : List (List Stamped)) (before : ℕ) (entries : List Entry) (i : ℕ) (done : List ℕ) → length entries ≤ i → AllByRecursion (λ entry. IsCounted (length links) entry.source) entries
+    → done ++ stamps_left left before (drop i entries) ≡ stamps_left links 0 entries → done ≡ stamps_made links (replicate (length links) 0) 0 entries
+stamps_done links left before entries i done all counted told =
+    sym (append-nil done)
+    ∙ ap (λ (es : List Entry). done ++ stamps_left left before es) (sym (drop_all i entries all))
+    ∙ told
+    ∙ left_is_made links entries counted
 
 -- ---- entries with stamps
 

@@ -1,5 +1,5 @@
 -- The stamps of the arrivals of an actor, by the posts of each link to it.
-use Rattle.std.specs.Prelude.{ℕ, ◌+◌, ◌<◌, ◌==◌, max, replicate, List, [], ◌∷◌, Option, None, Some, length, nat_lt, slice_get, slice_index, slice_set, if◌then◌else◌}
+use Rattle.std.specs.Prelude.{ℕ, ◌+◌, ◌<◌, ◌==◌, max, replicate, List, [], ◌∷◌, Option, None, Some, drop, length, nat_lt, slice_get, slice_index, slice_set, if◌then◌else◌}
 use Rattle.join_base.specs.Stamps.{greatest_stamp}
 use Rattle.join_base.specs.declared.message.Source.{Source}
 use Rattle.join_base.specs.declared.message.Source.TheVariants.{Feed, Actor}
@@ -36,6 +36,24 @@ stamps_made links taken before [] = []
 stamps_made links taken before (entry ∷ entries) =
     let stamp : ℕ = next_stamp before (carried_by links taken entry.source) in
     stamp ∷ stamps_made links (taken_after taken entry.source) stamp entries
+
+-- ---- the same, where the posts that were taken are gone from their links
+
+-- the stamp of the next post of a source
+abbrev pub next_carried : List (List Stamped) → Source → ℕ
+next_carried links (Feed k) = 0
+next_carried links (Actor a) = stamp_at (slice_get (link_at (slice_get links a)) 0)
+
+-- the links without that post
+abbrev pub links_after : List (List Stamped) → Source → List (List Stamped)
+links_after links (Feed k) = links
+links_after links (Actor a) = slice_set links a (drop 1 (link_at (slice_get links a)))
+
+abbrev pub stamps_left : List (List Stamped) → ℕ → List Entry → List ℕ
+stamps_left links before [] = []
+stamps_left links before (entry ∷ entries) =
+    let stamp : ℕ = next_stamp before (next_carried links entry.source) in
+    stamp ∷ stamps_left (links_after links entry.source) stamp entries
 
 -- the stamps that a version has: version 1 has none
 abbrev pub stamps_in : ℕ → List (List Stamped) → List Entry → List ℕ

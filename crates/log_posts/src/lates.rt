@@ -1,11 +1,11 @@
 //! The late counts of an actor, by the posts of each link to it.
-ghost use Rattle.std.specs.Prelude.{◌≡◌, ◌+◌, ◌-◌, ◌++◌, ◌≤◌, ◌^◌, length, OnOk, IfOk};
+ghost use Rattle.std.specs.Prelude.{◌≡◌, ◌-◌, ◌++◌, ◌≤◌, ◌^◌, drop, length, min, OnOk, IfOk};
 ghost use Rattle.join_base.specs.Late.{late_list, late_one};
 ghost use Rattle.join_base.specs.declared.message.Source.TheVariants.{Actor, Feed};
 ghost use Rattle.fair_semantics.specs.Linked.{count_of, same_source, taken_from};
 ghost use Rattle.log_posts.specs.Lates.{actor_counts, count_where, feed_counts, lates_made};
 
-use crate::posts::Posted;
+use crate::posts::Link;
 use crate::same::same_source;
 use fair_semantics::Entry;
 use join_base::{Items, NoMemory, Source};
@@ -77,23 +77,44 @@ fn push_feeds(
     Ok(())
 }
 
+// The posts behind so many.
+#[tactic(auto, using(crate::proofs::PostsLemmas::one_more_gone))]
+fn behind<'a>(link: Link<'a>, count: usize) -> Link<'a>
+    ensures { result ≡ drop count link.entry }
+{
+    let mut rest = link;
+    for _ in 0..count {
+        rest.next();
+    }
+    rest
+}
+
+// How many posts there are, counted up to the last 64-bit number.
+#[tactic(auto, using(crate::proofs::PostsLemmas::one_left))]
+fn post_count(link: Link) -> u64
+    ensures { result ≡ min (length link.entry) (2 ^ 64 - 1) }
+{
+    let mut rest = link;
+    let mut count: u64 = 0;
+    while let Some(_) = rest.next() {
+        count = count.saturating_add(1);
+    }
+    count
+}
+
 fn push_actors(
     late: &mut Items<(Source, u64)>,
     may: bool,
     entries: &[Entry],
-    links: &[Items<Posted>],
+    links: &[Link],
 ) -> Result<(), NoMemory>
     requires few { length links.now ≤ 32 }
     ensures { OnOk result (late.new ≡ late.old ++ late_list (λ a. Actor a) 0 (actor_counts may entries.now 0 links.now)) }
 {
-    for (from, posts) in links.iter().enumerate() {
+    for (from, link) in links.iter().enumerate() {
         let taken = count_from(entries, from as u32);
-        let beyond = posts.len().saturating_sub(taken);
-        push_late(
-            late,
-            Source::Actor(from as u32),
-            count_where(may, beyond as u64),
-        )?;
+        let beyond = post_count(behind(link.again(), taken));
+        push_late(late, Source::Actor(from as u32), count_where(may, beyond))?;
     }
     Ok(())
 }
@@ -107,7 +128,7 @@ pub fn lates_made(
     read: &[(Source, u64)],
     feeds: u32,
     entries: &[Entry],
-    links: &[Items<Posted>],
+    links: &[Link],
 ) -> Result<Items<(Source, u64)>, NoMemory>
     requires few { feeds ≤ 16 }
     requires actors { length links.now ≤ 32 }

@@ -1,8 +1,8 @@
 //! The posts that the entries of a log make, and what they make of the actor that they are for.
 //!
 //! - `same_entries` says whether entries are equal but for their stamps, and `same_fired` whether firings are.
-//! - `posts_made` makes the posts from one actor to another, which are a link. `has_message` says whether a post is the
-//!   one that arrived, and `is_from` whether an arrival is from an actor.
+//! - A `Link` has the posts from one actor to another, and gives one after the other. `has_message` says whether a post
+//!   is the one that arrived, and `is_from` whether an arrival is from an actor.
 //! - `lates_made` makes the late counts of an actor and `stamps_in` the stamps of its arrivals, both by the links to
 //!   it. `with_stamps` puts stamps in place of those of entries.
 //!
@@ -17,6 +17,6 @@ mod same;
 mod stamps;
 
 pub use lates::{is_from, lates_made};
-pub use posts::{Posted, has_message, posts_made};
+pub use posts::{Link, Posted, has_message};
 pub use same::{same_entries, same_fired};
 pub use stamps::{stamps_in, with_stamps};

@@ -1,13 +1,12 @@
 //! The posts from one actor to another, by the entries of the first.
-ghost use Rattle.std.specs.Prelude.{◌≡◌, [], ◌++◌, slice_get, OnOk, IfOk};
-ghost use Rattle.std.specs.List.{cons_option, filter_map};
-ghost use Rattle.fair_semantics.specs.Linked.{effect_for, entry_posts, firing_effects};
+ghost use Rattle.std.specs.Prelude.{◌≡◌, ◌∷◌, [], ◌++◌, drop, slice_get, MatchOption};
+ghost use Rattle.std.specs.List.{filter_map};
+ghost use Rattle.fair_semantics.specs.Linked.{effect_for, firing_effects};
 ghost use Rattle.log_posts.specs.Posts.{has_message, line_stamp, posts_made};
 
 use crate::same::same_message;
 use fair_semantics::{Effect, Entry, Fired};
-use join_base::{Items, Message, NoMemory};
-use std::alloc::Global;
+use join_base::Message;
 use std::marker::Model;
 
 /// A post, with the message where it stands in its entry. A contract sees it as a message with its stamp.
@@ -33,61 +32,51 @@ impl<'a> Posted<'a> {
     }
 }
 
-/// Whether there is a post at this place, with this message.
-pub fn has_message(posts: &[Posted], place: usize, message: &Message) -> bool
-    ensures { result ≡ has_message (slice_get posts.now place) message.now }
+/// Whether there is a post, and it has this message.
+pub fn has_message(post: Option<Posted>, message: &Message) -> bool
+    ensures { result ≡ has_message post.entry message.now }
 {
-    match posts.get(place) {
+    match post {
         Some(post) => same_message(post.message, message),
         None => false,
     }
 }
 
-fn push_post<'a>(
-    posts: &mut Items<Posted<'a>>,
-    effect: &'a Effect,
-    to: u32,
-    stamp: u64,
-) -> Result<(), NoMemory>
-    ensures { OnOk result (posts.new ≡ posts.old ++ cons_option (effect_for to stamp effect.now) []) }
+fn post_for<'a>(effect: &'a Effect, to: u32, stamp: u64) -> Option<Posted<'a>>
+    ensures { result ≡ effect_for to stamp effect.now }
 {
     match effect {
-        Effect::Print(_) => Ok(()),
+        Effect::Print(_) => None,
         Effect::Post { target, message } => {
-            if *target != to {
-                return Ok(());
+            if *target == to {
+                Some(Posted { message, stamp })
+            } else {
+                None
             }
-            posts.push(Posted { message, stamp })
         }
-        Effect::Reply { .. } => Ok(()),
+        Effect::Reply { .. } => None,
     }
 }
 
-fn push_effects<'a>(
-    posts: &mut Items<Posted<'a>>,
-    effects: &'a [Effect],
-    to: u32,
-    stamp: u64,
-) -> Result<(), NoMemory>
-    ensures { OnOk result (posts.new ≡ posts.old ++ filter_map (effect_for to stamp) effects.now) }
+// The first post to an actor among effects, and the effects behind it.
+fn first_post<'a>(effects: &'a [Effect], to: u32, stamp: u64) -> Option<(Posted<'a>, &'a [Effect])>
+    ensures { MatchOption result (filter_map (effect_for to stamp) effects.now ≡ [])
+        (λ p. filter_map (effect_for to stamp) effects.now ≡ p.0 ∷ filter_map (effect_for to stamp) p.1.now) }
 {
-    for effect in effects {
-        push_post(posts, effect, to, stamp)?;
+    for (place, effect) in effects.iter().enumerate() {
+        if let Some(post) = post_for(effect, to, stamp) {
+            return Some((post, effects.split_at(place + 1).1));
+        }
     }
-    Ok(())
+    None
 }
 
-fn push_firing<'a>(
-    posts: &mut Items<Posted<'a>>,
-    fired: &'a Fired,
-    to: u32,
-    stamp: u64,
-) -> Result<(), NoMemory>
-    ensures { OnOk result (posts.new ≡ posts.old ++ filter_map (effect_for to stamp) (firing_effects fired.now)) }
+fn effects_of<'a>(fired: &'a Fired) -> &'a [Effect]
+    ensures { result.now ≡ firing_effects fired.now }
 {
     match fired.get() {
-        Some(firing) => push_effects(posts, firing.effects.as_slice(), to, stamp),
-        None => Ok(()),
+        Some(firing) => firing.effects.as_slice(),
+        None => &[],
     }
 }
 
@@ -101,20 +90,105 @@ fn line_stamp(lines: &[Entry], place: usize, entry: &Entry) -> u64
     }
 }
 
-/// The posts to an actor by the entries that were made, in order, each with the stamp of the line that was read at its
-/// place. Where there is no such line, it has the stamp of its entry.
-pub fn posts_made<'a>(
-    alloc: Global,
-    to: u32,
-    made: &'a [Entry],
-    lines: &[Entry],
-) -> Result<Items<Posted<'a>>, NoMemory>
-    ensures { IfOk result (λ posts. posts ≡ posts_made to made.now lines.now) }
+// The lines behind so many.
+fn lines_behind(lines: &[Entry], count: usize) -> &[Entry]
+    ensures { result.now ≡ drop count lines.now }
 {
-    let mut posts = Items::new(alloc);
+    lines.split_at(count.min(lines.len())).1
+}
+
+/// The posts from one actor to another that were not taken yet, in order. A contract sees them as a list.
+///
+/// They stand in the entries that made them, so a link takes no memory. Each has the stamp of the line that was read at
+/// the place of its entry, or where there is no such line, of the entry.
+#[derive(Drop)]
+pub struct Link<'a> {
+    to: u32,
+    // Of the entry that was reached, the effects that were not looked at, and the stamp of its line.
+    effects: &'a [Effect],
+    stamp: u64,
+    // The entries behind it, and their lines.
+    made: &'a [Entry],
+    lines: &'a [Entry],
+}
+
+impl<'a> Model for Link<'a> {
+    ghost use Rattle.std.specs.Prelude.{List, ◌++◌};
+    ghost use Rattle.std.specs.List.{filter_map};
+    ghost use Rattle.join_base.specs.declared.message.Stamped.{Stamped};
+    ghost use Rattle.fair_semantics.specs.Linked.{effect_for};
+    ghost use Rattle.log_posts.specs.Posts.{posts_made};
+
+    ghost Value = { List Stamped };
+
+    ghost view = { λ l. filter_map (effect_for l.to l.stamp) l.effects.now ++ posts_made l.to l.made.now l.lines.now };
+}
+
+impl<'a> Link<'a> {
+    /// The posts to an actor by the entries that were made, with the lines that were read.
+    pub fn new(to: u32, made: &'a [Entry], lines: &'a [Entry]) -> Link<'a>
+        ensures { result ≡ posts_made to made.now lines.now }
+    {
+        Link {
+            to,
+            effects: &[],
+            stamp: 0,
+            made,
+            lines,
+        }
+    }
+
+    /// The same posts again.
+    pub fn again(&self) -> Link<'a>
+        ensures { result ≡ self.now }
+    {
+        Link {
+            to: self.to,
+            effects: self.effects,
+            stamp: self.stamp,
+            made: self.made,
+            lines: self.lines,
+        }
+    }
+
+    /// Takes the next post, if there is one.
+    pub fn next(&mut self) -> Option<Posted<'a>>
+        ensures first { result ≡ slice_get self.old 0 }
+        ensures rest { self.new ≡ drop 1 self.old }
+    {
+        if let Some((post, effects)) = first_post(self.effects, self.to, self.stamp) {
+            self.effects = effects;
+            return Some(post);
+        }
+        match first_made(self.to, self.made, self.lines) {
+            Some((post, rest)) => {
+                *self = rest;
+                Some(post)
+            }
+            None => {
+                *self = Link::new(self.to, &[], &[]);
+                None
+            }
+        }
+    }
+}
+
+// The first post to an actor by the entries that were made, and those behind it.
+fn first_made<'a>(to: u32, made: &'a [Entry], lines: &'a [Entry]) -> Option<(Posted<'a>, Link<'a>)>
+    ensures { MatchOption result (posts_made to made.now lines.now ≡ []) (λ p. posts_made to made.now lines.now ≡ p.0 ∷ p.1) }
+{
     for (place, entry) in made.iter().enumerate() {
         let stamp = line_stamp(lines, place, entry);
-        push_firing(&mut posts, &entry.firing, to, stamp)?;
+        if let Some((post, effects)) = first_post(effects_of(&entry.firing), to, stamp) {
+            let rest = Link {
+                to,
+                effects,
+                stamp,
+                made: made.split_at(place + 1).1,
+                lines: lines_behind(lines, place + 1),
+            };
+            return Some((post, rest));
+        }
     }
-    Ok(posts)
+    None
 }

@@ -1,10 +1,10 @@
 //! The stamps of the arrivals of an actor, by the posts of each link to it.
-ghost use Rattle.std.specs.Prelude.{◌≡◌, ◌-◌, ◌<◌, ◌^◌, length, replicate, slice_get, IfOk};
+ghost use Rattle.std.specs.Prelude.{◌≡◌, length, replicate, IfOk};
 ghost use Rattle.std.specs.List.{AllByRecursion};
 ghost use Rattle.fair_semantics.specs.Linked.{stamp_at};
-ghost use Rattle.log_posts.specs.Stamps.{IsCounted, carried_by, next_stamp, stamps_in, stamps_made, taken_after, with_stamps};
+ghost use Rattle.log_posts.specs.Stamps.{IsCounted, links_after, next_carried, next_stamp, stamps_in, stamps_made, with_stamps};
 
-use crate::posts::Posted;
+use crate::posts::{Link, Posted};
 use fair_semantics::{Entry, LogVersion};
 use join_base::{Items, NoMemory, Source, Stamped};
 use std::alloc::Global;
@@ -20,57 +20,49 @@ fn next_stamp(before: u64, carried: u64) -> u64
     }
 }
 
-// The stamp of the next post of a source, where so many were taken of each.
-fn carried_by(links: &[Items<Posted>], taken: &[usize], source: Source) -> u64
-    requires exists { IsCounted (length taken.now) source }
-    ensures { result ≡ carried_by links.now taken.now source }
+// The stamp of a post, or 0.
+fn stamp_at(post: Option<Posted>) -> u64
+    ensures { result ≡ stamp_at post.entry }
 {
-    match source {
-        Source::Feed(_) => 0,
-        Source::Actor(actor) => match links.get(actor as usize) {
-            Some(posts) => stamp_at(posts.as_slice(), taken[actor as usize]),
-            None => 0,
-        },
-    }
-}
-
-// The stamp of the post at a place, or 0.
-fn stamp_at(posts: &[Posted], place: usize) -> u64
-    ensures { result ≡ stamp_at (slice_get posts.now place) }
-{
-    match posts.get(place) {
+    match post {
         Some(post) => post.stamp(),
         None => 0,
     }
 }
 
-// One more taken of a source.
-fn count_taken(taken: &mut Vec<usize>, source: Source)
-    requires exists { IsCounted (length taken.old.items) source }
-    requires small { AllByRecursion (λ n. n < 2 ^ 64 - 1) taken.old.items }
-    ensures counted { taken.new.items ≡ taken_after taken.old.items source }
+// Takes the next post of a source. The answer is its stamp.
+fn carried_by(links: &mut Vec<Link>, source: Source) -> u64
+    requires exists { IsCounted (length links.old.items) source }
+    ensures carried { result ≡ next_carried links.old.items source }
+    ensures taken { links.new.items ≡ links_after links.old.items source }
 {
     match source {
-        Source::Feed(_) => {}
-        Source::Actor(actor) => taken[actor as usize] += 1,
+        Source::Feed(_) => 0,
+        Source::Actor(actor) => stamp_at(links[actor as usize].next()),
     }
 }
 
+// The same links again.
+fn again<'a>(alloc: Global, links: &[Link<'a>]) -> Result<Vec<Link<'a>>, NoMemory>
+    ensures { IfOk result (λ same. same.items ≡ links.now) }
+{
+    let mut same = Vec::with_capacity(alloc, links.len())?;
+    for link in links {
+        same.push(link.again())?;
+    }
+    Ok(same)
+}
+
 // The stamps of the arrivals, where nothing was taken before them.
-fn stamps_made(
-    alloc: Global,
-    links: &[Items<Posted>],
-    entries: &[Entry],
-) -> Result<Items<u64>, NoMemory>
+fn stamps_made(alloc: Global, links: &[Link], entries: &[Entry]) -> Result<Items<u64>, NoMemory>
     requires exist { AllByRecursion (λ entry. IsCounted (length links.now) entry.source) entries.now }
     ensures { IfOk result (λ stamps. stamps ≡ stamps_made links.now (replicate (length links.now) 0) 0 entries.now) }
 {
-    let mut taken = vec![in alloc; 0; links.len()]?;
+    let mut left = again(alloc, links)?;
     let mut stamps = Items::new(alloc);
     let mut before: u64 = 0;
     for entry in entries {
-        before = next_stamp(before, carried_by(links, &taken, entry.source));
-        count_taken(&mut taken, entry.source);
+        before = next_stamp(before, carried_by(&mut left, entry.source));
         stamps.push(before)?;
     }
     Ok(stamps)
@@ -81,7 +73,7 @@ fn stamps_made(
 pub fn stamps_in(
     alloc: Global,
     version: LogVersion,
-    links: &[Items<Posted>],
+    links: &[Link],
     entries: &[Entry],
 ) -> Result<Items<u64>, NoMemory>
     requires exist { AllByRecursion (λ entry. IsCounted (length links.now) entry.source) entries.now }

@@ -91,11 +91,11 @@ late_shown limits read shared = by shared.as_read
     by false = refl
 
 -- what was found of a link, from its parts
-pub link_is : (run : Run) (runs : List Shared) (to line : ℕ) (own : ActorRun) (from : ℕ) (reads : List ActorRun) (posts posts_again : List Stamped) (entries : List Entry) (on : Bool) (late : ℕ) (fault : Option ℕ)
-    → reads ≡ run.actors → posts ≡ posts_made to (entries_in (slice_get (shown_all reads runs) from)) (entries_in (slice_get reads from)) → posts_again ≡ posts → entries ≡ own.entries → on ≡ runs_at (slice_get reads to) (slice_get runs to)
-    → late ≡ length own.late → fault ≡ link_fault posts_again from on late (line + 1) 0 entries → fault ≡ link_of run (shown_run run runs) to line own from
-link_is run runs to line own from reads posts posts_again entries on late fault by_reads by_posts again by_entries by_on by_late is =
-    let posts_are = again ∙ by_posts ∙ ap (λ (rs : List ActorRun). posts_made to (entries_in (slice_get (shown_all rs runs) from)) (entries_in (slice_get rs from))) by_reads in
+pub link_is : (run : Run) (runs : List Shared) (to line : ℕ) (own : ActorRun) (from : ℕ) (reads : List ActorRun) (posts : List Stamped) (entries : List Entry) (on : Bool) (late : ℕ) (fault : Option ℕ)
+    → reads ≡ run.actors → posts ≡ posts_made to (entries_in (slice_get (shown_all reads runs) from)) (entries_in (slice_get reads from)) → entries ≡ own.entries → on ≡ runs_at (slice_get reads to) (slice_get runs to)
+    → late ≡ length own.late → fault ≡ link_fault posts from on late (line + 1) 0 entries → fault ≡ link_of run (shown_run run runs) to line own from
+link_is run runs to line own from reads posts entries on late fault by_reads by_posts by_entries by_on by_late is =
+    let posts_are = by_posts ∙ ap (λ (rs : List ActorRun). posts_made to (entries_in (slice_get (shown_all rs runs) from)) (entries_in (slice_get rs from))) by_reads in
     let on_is = by_on ∙ runs_shown reads runs to ∙ ap (λ (rs : List ActorRun). ends_running (slice_get (shown_all rs runs) to)) by_reads in
     is ∙ (λ i. link_fault (posts_are i) from (on_is i) (by_late i) (line + 1) 0 (by_entries i))
 

@@ -1,5 +1,5 @@
 -- The expected run, put together of runs that have their entries.
-use Rattle.std.proofs.Common.{◌≡◌, ◌∙◌, ℕ, zero, suc, ◌+◌, List, [], ◌∷◌, length, map, Bool, true, false, slice_get, refl, sym, ap, subst, arith}
+use Rattle.std.proofs.Common.{◌≡◌, ◌∙◌, ℕ, ◌+◌, List, [], ◌∷◌, length, map, Bool, true, false, refl, sym, ap, subst, arith}
 use Rattle.std.specs.Prelude.{if◌then◌else◌}
 use Rattle.std.specs.List.{AllByRecursion}
 use Rattle.script_types.specs.declared.plan.Plan.{Plan}
@@ -14,7 +14,7 @@ use Rattle.log_replay.specs.Law.{AllRulesFit}
 use Rattle.log_replay.specs.declared.settling.Settlement.{Settlement}
 use Rattle.log_replay.specs.declared.shared.Shared.{Shared}
 use Rattle.log_replay.specs.Settling.{definition_count, made_run, made_runs, settled_run}
-use Rattle.log_replay.specs.Shared.{finished_all, finished_shared, own_runs, settlements_shown, shown, shown_all, shown_run, whole_run, whole_runs}
+use Rattle.log_replay.specs.Shared.{finished_all, finished_shared, own_runs, settlements_shown, shown, shown_all, whole_run, whole_runs}
 use Rattle.log_replay.proofs.ReplayLemmas.{SettleAsMade, finished_count, replayed, runs_count, settlements_count}
 use Rattle.log_replay.proofs.SwapLemmas.{settled_shown}
 

@@ -47,7 +47,7 @@ pub(crate) fn first_fault(
     requires is_expected { shown_run run.now expected.now ≡ expected_run plan.now run.now }
     ensures first { IfOk result (IsFirstFault plan.now run.now) }
 {
-    let kept = posts_fault(alloc, run, expected)?;
+    let kept = posts_fault(run, expected);
     let parted = parted_at(alloc, plan, bytes, run, expected)?;
     let found = earlier(kept, parted);
     Ok(numbered(found))

@@ -1,5 +1,5 @@
 //! What the lines of a run say of posts, beside its expected run. Lines are counted from 0.
-ghost use Rattle.std.specs.Prelude.{◌≡◌, ℕ, ◌+◌, ◌^◌, ◌<◌, ◌≤◌, length, slice_get, IfOk};
+ghost use Rattle.std.specs.Prelude.{◌≡◌, ℕ, ◌+◌, ◌^◌, ◌<◌, ◌≤◌, length, slice_get};
 ghost use Rattle.fair_semantics.specs.Step.{is_running};
 ghost use Rattle.run_order.specs.Sorted.{entries_in};
 ghost use Rattle.log_replay.specs.Kept.{earlier, entries_size, entry_size, link_fault, posts_fault, section_fault, section_size, sections_size};
@@ -7,9 +7,7 @@ ghost use Rattle.log_replay.specs.Shared.{runs_at, shown_run};
 
 use crate::shared::{Shared, posts_shown};
 use fair_semantics::{ActorRun, Ending, Entry, Run};
-use join_base::NoMemory;
-use log_posts::{Posted, has_message, is_from};
-use std::alloc::Global;
+use log_posts::{Link, has_message, is_from};
 
 // How many lines an entry takes.
 fn entry_size(entry: &Entry) -> u64
@@ -37,7 +35,7 @@ fn section_size(own: &ActorRun) -> u64
 // The first line that does not hold of the posts from an actor: of the entries, the first at this line, or the end line
 // behind them and the late ones, where the section is to run on.
 fn link_fault(
-    posts: &[Posted],
+    posts: Link,
     from: u32,
     runs_on: bool,
     late: u64,
@@ -45,20 +43,19 @@ fn link_fault(
     entries: &[Entry],
 ) -> Option<u64>
     requires { first + entries_size entries.now + late < 2 ^ 64 }
-    ensures { result ≡ link_fault posts.now from runs_on late first 0 entries.now }
+    ensures { result ≡ link_fault posts.entry from runs_on late first 0 entries.now }
 {
+    let mut left = posts;
     let mut line = first;
-    let mut taken: usize = 0;
     for entry in entries {
         if is_from(entry.source, from) {
-            if !has_message(posts, taken, &entry.message) {
+            if !has_message(left.next(), &entry.message) {
                 return Some(line);
             }
-            taken += 1;
         }
         line += entry_size(entry);
     }
-    if runs_on && taken < posts.len() {
+    if runs_on && left.next().is_some() {
         return Some(line + late);
     }
     None
@@ -113,17 +110,10 @@ pub(crate) fn earlier(first: Option<u64>, second: Option<u64>) -> Option<u64>
 
 // The first line of the section of an actor that does not hold of the posts of some actor. The section begins at this
 // line.
-fn section_fault(
-    alloc: Global,
-    run: &Run,
-    expected: &[Shared],
-    to: u32,
-    line: u64,
-    own: &ActorRun,
-) -> Result<Option<u64>, NoMemory>
+fn section_fault(run: &Run, expected: &[Shared], to: u32, line: u64, own: &ActorRun) -> Option<u64>
     requires few { length run.now.actors ≤ 32 }
     requires small { line + section_size own.now < 2 ^ 64 }
-    ensures { IfOk result (λ fault. fault ≡ section_fault run.now (shown_run run.now expected.now) to line own.now) }
+    ensures { result ≡ section_fault run.now (shown_run run.now expected.now) to line own.now }
 {
     let reads = run.actors.as_slice();
     let runs_on = runs_on(reads, expected, to as usize);
@@ -131,37 +121,26 @@ fn section_fault(
     let mut first = None;
     let mut from: u32 = 0;
     while (from as usize) < run.actors.len() {
-        let posts = posts_shown(alloc, reads, expected, from as usize, to)?;
-        let fault = link_fault(
-            posts.as_slice(),
-            from,
-            runs_on,
-            late,
-            line + 1,
-            own.entries.as_slice(),
-        );
+        let posts = posts_shown(reads, expected, from as usize, to);
+        let fault = link_fault(posts, from, runs_on, late, line + 1, own.entries.as_slice());
         first = earlier(first, fault);
         from += 1;
     }
-    Ok(first)
+    first
 }
 
 // The first line of the run that does not hold of the posts of its expected run.
-pub(crate) fn posts_fault(
-    alloc: Global,
-    run: &Run,
-    expected: &[Shared],
-) -> Result<Option<u64>, NoMemory>
+pub(crate) fn posts_fault(run: &Run, expected: &[Shared]) -> Option<u64>
     requires few { length run.now.actors ≤ 32 }
     requires small { 1 + sections_size run.now.actors < 2 ^ 64 }
-    ensures { IfOk result (λ fault. fault ≡ posts_fault run.now (shown_run run.now expected.now)) }
+    ensures { result ≡ posts_fault run.now (shown_run run.now expected.now) }
 {
     let mut line: u64 = 1;
     for (to, own) in run.actors.as_slice().iter().enumerate() {
-        if let Some(fault) = section_fault(alloc, run, expected, to as u32, line, own)? {
-            return Ok(Some(fault));
+        if let Some(fault) = section_fault(run, expected, to as u32, line, own) {
+            return Some(fault);
         }
         line += section_size(own);
     }
-    Ok(None)
+    None
 }

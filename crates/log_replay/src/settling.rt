@@ -10,7 +10,7 @@ use crate::kept::is_running;
 use crate::shared::{Shared, plain, posts_shown};
 use fair_semantics::{ActorRun, Ending, Limits, Run};
 use join_base::{Items, NoMemory, Source};
-use log_posts::{Posted, lates_made, stamps_in, with_stamps};
+use log_posts::{Link, lates_made, stamps_in, with_stamps};
 use script_types::Plan;
 use std::alloc::Global;
 
@@ -20,14 +20,14 @@ fn links_to<'a>(
     made: &'a [Shared],
     run: &'a Run,
     to: u32,
-) -> Result<Items<Items<Posted<'a>>>, NoMemory>
+) -> Result<Items<Link<'a>>, NoMemory>
     requires few { length run.now.actors ≤ 32 }
     ensures { IfOk result (λ links. links ≡ links_to (shown_all run.now.actors made.now) run.now to 0 (length run.now.actors)) }
 {
     let mut links = Items::new(alloc);
     let mut from: usize = 0;
     while from < run.actors.len() {
-        let posts = posts_shown(alloc, run.actors.as_slice(), made, from, to)?;
+        let posts = posts_shown(run.actors.as_slice(), made, from, to);
         links.push(posts)?;
         from += 1;
     }

@@ -7,7 +7,7 @@ ghost use Rattle.log_replay.specs.Shared.{kept, plain, plain_at, shown_all, whol
 use crate::kept::entries_at;
 use fair_semantics::{ActorRun, Entry, Run};
 use join_base::{Items, NoMemory};
-use log_posts::{Posted, posts_made, same_entries};
+use log_posts::{Link, same_entries};
 use std::alloc::Global;
 
 // The run of an actor beside the one that was read.
@@ -102,15 +102,14 @@ fn plain_at<'a>(reads: &'a [ActorRun], runs: &'a [Shared], place: usize) -> &'a 
 
 // The posts from one actor to another, each with the stamp of the line that was read at its place.
 pub(crate) fn posts_shown<'a>(
-    alloc: Global,
     reads: &'a [ActorRun],
     runs: &'a [Shared],
     from: usize,
     to: u32,
-) -> Result<Items<Posted<'a>>, NoMemory>
-    ensures { IfOk result (λ posts. posts ≡ posts_made to (entries_in (slice_get (shown_all reads.now runs.now) from)) (entries_in (slice_get reads.now from))) }
+) -> Link<'a>
+    ensures { result ≡ posts_made to (entries_in (slice_get (shown_all reads.now runs.now) from)) (entries_in (slice_get reads.now from)) }
 {
     let made = plain_at(reads, runs, from);
     let lines = entries_at(reads, from);
-    posts_made(alloc, to, made, lines)
+    Link::new(to, made, lines)
 }

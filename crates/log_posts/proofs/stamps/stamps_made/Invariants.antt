@@ -1,12 +1,9 @@
-use Rattle.std.proofs.Common.{◌≡◌, ◌++◌, ◌≤◌, drop, length}
-use Rattle.std.specs.Prelude.{replicate}
-use Rattle.std.specs.List.{AllByRecursion}
-use Rattle.log_posts.specs.Stamps.{stamps_made}
+use Rattle.std.proofs.Common.{◌≡◌, ◌++◌, drop, length}
+use Rattle.log_posts.specs.Stamps.{stamps_left}
 use Rattle.log_posts.proofs.stamps.stamps_made.Given as goal
 
 abbrev pub invariant-loop-entry : goal.invariant-loop-entry
 invariant-loop-entry l = record {
-  left : l.stamps ++ stamps_made l.links l.taken.items l.before (drop l.entry-index l.entries) ≡ stamps_made l.links (replicate (length l.links) 0) 0 l.entries;
-  many : length l.taken.items ≡ length l.links;
-  small : AllByRecursion (λ n. n ≤ l.entry-index) l.taken.items;
+  told : l.stamps ++ stamps_left l.left.items l.before (drop l.entry-index l.entries) ≡ stamps_left l.links 0 l.entries;
+  many : length l.left.items ≡ length l.links;
 }

@@ -9,8 +9,8 @@ pub loop-from-preserved : goal.loop-from-preserved
 loop-from-preserved c =
     let below = c.loop-from-test.true in
     let fault =
-    link_is c.args.run.now c.args.expected.now c.args.to c.args.line c.args.own.now c.loop-from.from c.as_slice-reads.result.now c.in_ok-posts.posts c.as_slice.result.now c.as_slice-in-loop-from.result.now c.runs_on-runs_on.result
-    c.len-late.result c.link_fault-fault.result c.as_slice-reads.ensures.same c.in_ok-posts.ensures c.as_slice.ensures.same c.as_slice-in-loop-from.ensures.same c.runs_on-runs_on.ensures c.len-late.ensures.count c.link_fault-fault.ensures
+    link_is c.args.run.now c.args.expected.now c.args.to c.args.line c.args.own.now c.loop-from.from c.as_slice-reads.result.now c.posts_shown-posts.result c.as_slice.result.now c.runs_on-runs_on.result
+    c.len-late.result c.link_fault-fault.result c.as_slice-reads.ensures.same c.posts_shown-posts.ensures c.as_slice.ensures.same c.runs_on-runs_on.ensures c.len-late.ensures.count c.link_fault-fault.ensures
     in
     let first = c.earlier-first.ensures in record {
       left =

@@ -1,11 +1,7 @@
 use Rattle.std.proofs.Common.{◌∙◌}
-use Rattle.std.proofs.lemmas.Result.{IfOk-weaker}
 use Rattle.log_posts.specs.Posts.{posts_made}
 use Rattle.log_replay.proofs.SharedLemmas.{posts_at}
 use Rattle.log_replay.proofs.shared.posts_shown.Goals as goal
 
 pub returns : goal.returns
-returns c =
-    IfOk-weaker c.posts_made.result _ _
-    (λ posts is. is ∙ (λ i. posts_made c.args.to (c.plain_at-made.ensures i) (c.entries_at-lines.ensures i)) ∙ posts_at c.args.to c.args.reads.now c.args.runs.now c.args.from)
-    c.posts_made.ensures
+returns c = c.new.ensures ∙ (λ i. posts_made c.args.to (c.plain_at-made.ensures i) (c.entries_at-lines.ensures i)) ∙ posts_at c.args.to c.args.reads.now c.args.runs.now c.args.from
