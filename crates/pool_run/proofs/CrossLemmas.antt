@@ -42,6 +42,7 @@ use Rattle.actor_turn.specs.contracts.outbox.Outbox as Outbox
 use Rattle.fair_semantics.specs.contracts.run.Effect as Effect
 use Rattle.fair_semantics.specs.contracts.run.Firing as Firing
 use Rattle.fair_semantics.specs.contracts.run.Entry as Entry
+use Rattle.post_ring.specs.contracts.sealed.Sealed as Sealed
 use Rattle.post_ring.specs.contracts.link_in.LinkIn as LinkIn
 use Rattle.post_ring.specs.contracts.link_out.LinkOut as LinkOut
 use Rattle.cell_links.specs.contracts.ends.Inward as Inward
@@ -197,11 +198,14 @@ entry-send = search (sendable, crosses, firing-send) depth 40 fits 100000
 
 -- ---- links, cells, helpers and posters
 
+sealed-send : IsSend Sealed.the_row
+sealed-send = search (sendable, crosses) depth 40 fits 100000
+
 in-send : IsSend LinkIn.the_row
-in-send = search (sendable, crosses, end-send) depth 40 fits 100000
+in-send = search (sendable, crosses, end-send, sealed-send) depth 40 fits 100000
 
 out-send : IsSend LinkOut.the_row
-out-send = search (sendable, crosses, end-send) depth 40 fits 100000
+out-send = search (sendable, crosses, end-send, sealed-send) depth 40 fits 100000
 
 inward-send : IsSend Inward.the_row
 inward-send = declared_send Inward.the_type (search (sendable, crosses) depth 40, (search (sendable, crosses, out-send) depth 40, tt))
