@@ -1,5 +1,5 @@
 //! The late counts of an actor, by the posts of each link to it.
-ghost use Rattle.std.specs.Prelude.{◌≡◌, ◌-◌, ◌++◌, ◌≤◌, ◌^◌, drop, length, min, OnOk, IfOk};
+ghost use Rattle.std.specs.Prelude.{◌≡◌, ◌-◌, ◌++◌, ◌≤◌, ◌^◌, drop, length, min, true, OnOk, IfOk};
 ghost use Rattle.join_base.specs.Late.{late_list, late_one};
 ghost use Rattle.join_base.specs.declared.message.Source.TheVariants.{Actor, Feed};
 ghost use Rattle.fair_semantics.specs.Linked.{count_of, same_source, taken_from};
@@ -102,19 +102,19 @@ fn post_count(link: Link) -> u64
     count
 }
 
+// Appends the counts of actors, where some message may be late.
 fn push_actors(
     late: &mut Items<(Source, u64)>,
-    may: bool,
     entries: &[Entry],
     links: &[Link],
 ) -> Result<(), NoMemory>
     requires few { length links.now ≤ 32 }
-    ensures { OnOk result (late.new ≡ late.old ++ late_list (λ a. Actor a) 0 (actor_counts may entries.now 0 links.now)) }
+    ensures { OnOk result (late.new ≡ late.old ++ late_list (λ a. Actor a) 0 (actor_counts true entries.now 0 links.now)) }
 {
     for (from, link) in links.iter().enumerate() {
         let taken = count_from(entries, from as u32);
         let beyond = post_count(behind(link.again(), taken));
-        push_late(late, Source::Actor(from as u32), count_where(may, beyond))?;
+        push_late(late, Source::Actor(from as u32), beyond)?;
     }
     Ok(())
 }
@@ -136,6 +136,8 @@ pub fn lates_made(
 {
     let mut late = Items::new(alloc);
     push_feeds(&mut late, may, read, feeds)?;
-    push_actors(&mut late, may, entries, links)?;
+    if may {
+        push_actors(&mut late, entries, links)?;
+    }
     Ok(late)
 }
