@@ -309,7 +309,8 @@ impl Actor {
         self.outboxes[target as usize].take()
     }
 
-    /// Brings the post back that was taken last for an actor of the plan: it stands first again. It takes no memory.
+    /// Puts a post in front of those that wait for an actor of the plan, where the last one taken was not brought back
+    /// yet. It takes no memory.
     pub fn return_post(&mut self, target: u32, post: Stamped)
         requires exists { target < length self.old.outbox }
         requires lent { slice_index_or self.old.lent target false ≡ true }

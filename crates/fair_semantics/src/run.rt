@@ -62,7 +62,7 @@ pub struct Firing {
 
 /// The firing of an arrival, or none. A clause sees an optional firing.
 ///
-/// It stands in a block of its own: many arrivals fire nothing, and then it takes the room of one word.
+/// It stands in a block of its own: many arrivals fire nothing, and then it takes the room of two words.
 #[derive(Drop)]
 pub struct Fired {
     firing: Option<Box<Firing>>,

@@ -11,11 +11,11 @@ pub enum Status {
     Limits,
     /// The words are no command.
     Usage,
-    /// The script can't be run.
+    /// The script can't be read, or has a fault of names and types.
     ScriptRefused,
-    /// The feed can't be read.
+    /// A feed has a record in fault.
     FeedRefused,
-    /// The log can't be accepted.
+    /// A line of the log is in fault.
     LogRefused,
     /// A file could not be read. Nothing was written.
     ReadFault,

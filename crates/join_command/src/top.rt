@@ -93,18 +93,20 @@ fn prepare<R: Threads + Wait + Sync, I: Inputs, G: Gate>(
 
 /// Carries out the command that the words are; `words` leaves out the program's name. `run SCRIPT FEED..` fetches the
 /// script and then 1 to 16 feeds in order, runs the script on the posts of the feeds within the limits that
-/// `--arrivals` and `--partials` give, and writes the log of that run. Each feed is posted by a thread of its own, and
-/// `--workers` threads work, over links of `--ring` places. `check SCRIPT` fetches the script, and writes its plan.
-/// `lint SCRIPT` fetches the script, and writes a line for each definition that can never fire and for each kind that
-/// no other one takes, and then their number. `replay SCRIPT LOG` fetches the script and then the log, and writes how
-/// many arrivals the log has. `load N` fetches nothing, runs the building of `building_load` on feeds of N rows as a
-/// `run` without options does, and writes the summary of that run.
+/// `--arrivals` and `--partials` give, each from 1 to 1,000,000, and writes the log of that run. Each feed is posted by
+/// a thread of its own, and `--workers` threads work, 1 to 64, over links of `--ring` places, 1 to 4096. `check SCRIPT`
+/// fetches the script, and writes its plan. `lint SCRIPT` fetches the script, and writes a line for each definition of
+/// which it sees that it can never fire and for each kind that no other one takes, and then their number. `replay
+/// SCRIPT LOG` fetches the script and then the log, and writes how many arrivals the log has. `load N` fetches nothing,
+/// runs the building of `building_load` on feeds of N rows, 1 to 20,000, as a `run` without options does, and writes
+/// the summary of that run.
 ///
 /// The first refusal ends the call: `Usage` where the words are no command, `TooLong` where a file has more than
 /// 16,777,216 bytes, or a log more than 268,435,456, `ScriptRefused` where the script has a fault, `FeedRefused` where
 /// a feed has a record in fault, and `LogRefused` where a line of the log is in fault; each writes one line. `Limits`
-/// comes in place of `Done` exactly where an actor of the run was jammed or spent, and the log is written in both
-/// cases. After `ReadFault` and `NoMemory` nothing was written, and after `WriteFault` a beginning of the output.
+/// comes in place of `Done` exactly where an actor of the run was jammed or spent, and the log, or the summary, is
+/// written in both cases. After `ReadFault` and `NoMemory` nothing was written, and after `WriteFault` a beginning of
+/// the output.
 ///
 /// Each worker enters the gate just before it tries for an actor. The call may wait, and where it runs a script it
 /// waits for its threads. The memory of a run that was written stays taken until the program ends.

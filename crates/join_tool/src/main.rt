@@ -1,6 +1,6 @@
 //! Runs a script of actors with join patterns on feeds and prints the log of the run, checks a script and prints its
-//! plan, lists the definitions of a script that can never fire, checks a log against its script, or runs a building of
-//! its own and prints a summary.
+//! plan, lists the definitions of a script of which it sees that they can never fire, checks a log against its script,
+//! or runs a building of its own and prints a summary.
 #![tactic(auto)]
 
 mod note;

@@ -68,8 +68,8 @@ impl Model for MatchTree {
 }
 
 impl MatchTree {
-    /// The tree of a definition with this number, which holds the empty path alone. `NoMemory` where there is no memory
-    /// for its copy of the definition.
+    /// The tree of a definition of 1 to 8 patterns with this number, which holds the empty path alone. `NoMemory` where
+    /// there is no memory for its copy of the definition.
     pub fn new(alloc: Global, definition: &Definition, rule: u32) -> Result<MatchTree, NoMemory>
         requires some { 1 ≤ length definition.now.patterns }
         requires many { length definition.now.patterns ≤ 8 }
@@ -97,8 +97,9 @@ impl MatchTree {
         }
     }
 
-    /// Offers a number to the paths and sets aside what it adds to them. `NoMemory` where there is no memory for that: then
-    /// the tree is as it was. Nothing may be set aside already.
+    /// Offers a number to the paths: finds the least match that it completes, and where there is none sets aside what
+    /// it adds to them. `NoMemory` where there is no memory for that: then the tree is as it was. Nothing may be set
+    /// aside already.
     pub fn reserve_for<L: Ledger>(
         &mut self,
         letters: &[Message],

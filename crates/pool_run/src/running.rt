@@ -19,13 +19,14 @@ use std::alloc::Global;
 use std::sync::Wait;
 use std::thread::Threads;
 
-/// The run of the plan on its feeds, within the limits: one thread posts each feed, and so many workers bring the
-/// messages to the actors, past the gate. There are 1 to 16 feeds and up to 64 workers, and each link has room for
-/// `ring` messages, 1 to 4096. Where a thread can't be started, its work is done by the thread that would have started
-/// it, feeds before workers. No worker is needed for a run to end rightly.
+/// The run of a well typed plan on its feeds, whose messages fit it, within the limits, each from 1 to 1,000,000: one
+/// thread posts each feed, and so many workers bring the messages to the actors, past the gate. There are 1 to 16 feeds
+/// and up to 64 workers, and each link has room for `ring` messages, 1 to 4096. Where a thread can't be started, its
+/// work is done by the thread that would have started it, feeds before workers. No worker is needed for a run to end
+/// rightly.
 ///
-/// The run is linked to the feeds, and it is that of one schedule of single steps. `NoMemory` where a feed, a worker or
-/// the end of the run found none; all threads have ended then. It may wait.
+/// The run is linked to the feeds, and it is that of one schedule of single steps. `NoMemory` where the making of the
+/// pool, a feed, a worker or the end of the run found none; all threads have ended then. It may wait.
 pub fn run_pool<R: Threads + Wait + Sync, G: Gate>(
     rt: &R,
     alloc: Global,

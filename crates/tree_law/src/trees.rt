@@ -29,8 +29,8 @@ fn reserve_each<L: Ledger>(
     Ok(())
 }
 
-/// Offers a number to all trees, and sets aside what it adds to them. Where there is no memory, the trees are as they were.
-/// Nothing may be set aside already.
+/// Offers a number to all trees: each finds the least match that it completes, or sets aside what it adds. Where there
+/// is no memory, the trees are as they were. Nothing may be set aside already.
 pub fn reserve_all<L: Ledger>(
     trees: &mut [MatchTree],
     letters: &[Message],

@@ -2,8 +2,8 @@
 //! say, or ends with another status.
 //!
 //! Where the log of a run varies with the threads, the tables list all that are right. Each log that is printed or
-//! listed is replayed too, and is to be accepted with its arrivals. Nothing is proved here but that it is safe and
-//! ends.
+//! listed is replayed too, and is to be accepted with its arrivals. Nothing is proved here but that it is safe, and
+//! ends where `join_main` does.
 #![tactic(auto)]
 
 mod example;
