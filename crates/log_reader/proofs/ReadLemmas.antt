@@ -226,10 +226,10 @@ not_whole rest done is empty holds =
 pub not_read : (plan : Plan) (bytes rest : List ℕ) (number : ℕ) (draft : Draft) → IsTyped plan → Reads plan bytes rest number draft → cut 10 rest ≡ None → (length rest == 0 && is_done plan draft) ≡ false → IsRefused plan bytes (number + 1)
 not_read plan bytes rest number draft typed reads is whole = refused_end plan bytes rest number draft typed reads is (not_whole rest (is_done plan draft) whole)
 
-pub failed : (plan : Plan) (bytes rest : List ℕ) (number : ℕ) (draft : Draft) (text more : List ℕ) (fault : LogFault) → IsTyped plan → Reads plan bytes rest number draft → cut 10 rest ≡ Some (text, more)
-    → Advances plan draft text (number + 1) (Err fault) → Answers plan bytes (Err fault)
-failed plan bytes rest number draft text more (Bad line) typed reads is told = subst (λ (n : ℕ). IsRefused plan bytes n) (sym told.0) (refused_line plan bytes rest number draft text more typed reads is told.1)
-failed plan bytes rest number draft text more NoMemory typed reads is told = tt
+pub failed : (plan : Plan) (bytes rest : List ℕ) (number : ℕ) (draft changed : Draft) (text more : List ℕ) (fault : LogFault) → IsTyped plan → Reads plan bytes rest number draft → cut 10 rest ≡ Some (text, more)
+    → Advances plan draft text (number + 1) changed (Err fault) → Answers plan bytes (Err fault)
+failed plan bytes rest number draft changed text more (Bad line) typed reads is told = subst (λ (n : ℕ). IsRefused plan bytes n) (sym told.0) (refused_line plan bytes rest number draft text more typed reads is told.1)
+failed plan bytes rest number draft changed text more NoMemory typed reads is told = tt
 
 -- ---- laws
 

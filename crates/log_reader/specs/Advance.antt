@@ -19,11 +19,11 @@ pub record Adds (plan : Plan) (draft : Draft) (text : List ℕ) (next : Draft) :
 abbrev pub AddsNothing : Plan → Draft → List ℕ → Type 0
 AddsNothing plan draft text = (given : LogLine) → IsLine plan draft.head text given → step draft given ≡ None
 
--- the next draft, or the number of a line at fault
-abbrev pub Advances : Plan → Draft → List ℕ → ℕ → Result Draft LogFault → Type 0
-Advances plan draft text number (Ok next) = Adds plan draft text next
-Advances plan draft text number (Err (Bad line)) = (line ≡ number) × AddsNothing plan draft text
-Advances plan draft text number (Err NoMemory) = Unit {0}
+-- the draft has become the next one, or the line with this number is at fault
+abbrev pub Advances : Plan → Draft → List ℕ → ℕ → Draft → Result (Unit {0}) LogFault → Type 0
+Advances plan draft text number next (Ok done) = Adds plan draft text next
+Advances plan draft text number next (Err (Bad line)) = (line ≡ number) × AddsNothing plan draft text
+Advances plan draft text number next (Err NoMemory) = Unit {0}
 
 -- the sections of all actors are read
 abbrev pub is_done : Plan → Draft → Bool

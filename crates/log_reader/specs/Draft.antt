@@ -1,5 +1,5 @@
 -- What a line adds to what the lines before it say, or none where it may not stand there.
-use Rattle.std.specs.Prelude.{ℕ, ◌==◌, Bool, true, false, nat_lt, List, [], ◌∷◌, ◌++◌, length, Option, None, Some, if◌then◌else◌}
+use Rattle.std.specs.Prelude.{◌≡◌, ℕ, ◌==◌, Bool, true, false, nat_lt, List, [], ◌∷◌, ◌++◌, length, Option, None, Some, Result, Ok, Err, if◌then◌else◌}
 use Rattle.join_base.specs.declared.message.Source.{Source}
 use Rattle.fair_semantics.specs.declared.run.Effect.{Effect}
 use Rattle.fair_semantics.specs.declared.run.Ending.{Ending}
@@ -10,11 +10,18 @@ use Rattle.log_lines.specs.declared.line.Arrival.{Arrival}
 use Rattle.log_lines.specs.declared.line.Head.{Head}
 use Rattle.log_lines.specs.declared.line.LogLine.{LogLine}
 use Rattle.log_lines.specs.declared.line.LogLine.TheVariants as line
-use Rattle.log_lines.specs.Gives.{where_true}
+use Rattle.log_lines.specs.declared.fault.LineFault.{LineFault}
+use Rattle.log_lines.specs.Gives.{Fails, where_true}
 use Rattle.log_lines.specs.Forms.{entry_with, fired}
 use Rattle.log_reader.specs.declared.draft.Draft.{Draft}
 use Rattle.log_reader.specs.declared.draft.Open.{Open}
 use Rattle.log_reader.specs.declared.draft.Open.TheVariants.{Heading, Entries, Arrived, Fired, Lates}
+
+-- What was changed is now the value, exactly where there is one, unless there was no memory. Behind a fault nothing is
+-- said of it.
+abbrev pub Becomes : {X : Type 0} → Result (Unit {0}) LineFault → X → Option X → Type 0
+Becomes (Ok done) changed value = value ≡ Some changed
+Becomes (Err fault) changed value = Fails fault value
 
 -- nothing but the first line
 abbrev pub opening : Head → Draft
@@ -51,11 +58,15 @@ follows feeds _ source = true
 abbrev pub with_open : Draft → Open → Draft
 with_open draft reached = record draft { reached = reached }
 
+-- the open entry stands behind the others, and what comes next is reached
+abbrev pub closes : Draft → Open → Draft
+closes draft next = record draft { entries = held draft; reached = next }
+
 abbrev pub begins : Draft → ℕ → Option Draft
 begins draft actor = if is_open draft.reached then None else where_true (actor == length draft.actors) (Some (with_open draft Entries))
 
 abbrev pub arrives : Draft → Arrival → Option Draft
-arrives draft arrival = where_true (takes_entries draft.reached) (Some (record draft { entries = held draft; reached = Arrived arrival }))
+arrives draft arrival = where_true (takes_entries draft.reached) (Some (closes draft (Arrived arrival)))
 
 abbrev pub fires_at : Open → Draft → ℕ → List ℕ → Option Draft
 fires_at (Arrived arrival) draft rule taken = Some (with_open draft (Fired arrival (fired rule taken)))
@@ -76,7 +87,7 @@ acts draft effect = acts_at draft.reached draft effect
 
 abbrev pub is_late : Draft → Source → ℕ → Option Draft
 is_late draft source count =
-    if is_open draft.reached then where_true (follows draft.head.feeds draft.reached source) (Some (record draft { entries = held draft; late = draft.late ++ (source, count) ∷ []; reached = Lates source }))
+    if is_open draft.reached then where_true (follows draft.head.feeds draft.reached source) (Some (record (closes draft (Lates source)) { late = draft.late ++ (source, count) ∷ [] }))
     else None
 
 abbrev pub ends : Draft → Ending → List ℕ → ℕ → Option Draft

@@ -1,14 +1,14 @@
 //! A run that is read line by line.
-ghost use Rattle.std.specs.Prelude.{◌≡◌, ◌++◌, length};
+ghost use Rattle.std.specs.Prelude.{◌≡◌, Some};
 ghost use Rattle.fair_semantics.specs.Fits.{source_place};
-ghost use Rattle.log_lines.specs.Gives.{Gives};
 ghost use Rattle.log_lines.specs.Forms.{entry_with};
-ghost use Rattle.log_reader.specs.Draft.{acts, arrives, begins, ends, fires, follows, is_late, is_open, open_entry, opening, step, takes_entries, with_effect};
+ghost use Rattle.log_reader.specs.Draft.{Becomes, acts, arrives, begins, closes, ends, fires, follows, is_late, is_open, opening, step, takes_entries, with_effect};
 
 use fair_semantics::{ActorRun, Effect, Ending, Entry, Fired, Firing};
 use join_base::{Items, Numbers, Source};
 use log_lines::{Arrival, Head, LineFault, LogLine};
 use std::alloc::Global;
+use std::mem;
 
 /// Where the next line of a log stands, with what the lines before it left open.
 #[derive(Drop)]
@@ -46,6 +46,126 @@ impl Draft {
             late: Items::new(alloc),
             reached: Open::Heading,
         }
+    }
+
+    /// Adds what the line says. `NoLine` exactly where it may not stand there. Behind a fault nothing is said of the
+    /// draft, and the caller gives it up.
+    pub fn step(&mut self, alloc: Global, line: LogLine) -> Result<(), LineFault>
+        ensures { Becomes result self.new (step self.old line) }
+    {
+        match line {
+            LogLine::Heading(actor) => self.begins(actor),
+            LogLine::Arrives(arrival) => self.arrives(alloc, arrival),
+            LogLine::Fires { rule, taken } => self.fires(alloc, rule, taken),
+            LogLine::Does(effect) => self.acts(effect),
+            LogLine::IsLate(source, count) => self.is_late(alloc, source, count),
+            LogLine::Ends {
+                ending,
+                left,
+                partials,
+            } => self.ends(alloc, ending, left, partials),
+        }
+    }
+
+    fn begins(&mut self, actor: u32) -> Result<(), LineFault>
+        ensures { Becomes result self.new (begins self.old actor) }
+    {
+        if is_open(&self.reached) {
+            return Err(LineFault::NoLine);
+        }
+        if actor as usize != self.actors.len() {
+            return Err(LineFault::NoLine);
+        }
+        self.reached = Open::Entries;
+        Ok(())
+    }
+
+    fn arrives(&mut self, alloc: Global, arrival: Arrival) -> Result<(), LineFault>
+        ensures { Becomes result self.new (arrives self.old arrival) }
+    {
+        if !takes_entries(&self.reached) {
+            return Err(LineFault::NoLine);
+        }
+        self.closes(alloc, Open::Arrived(arrival))
+    }
+
+    fn fires(&mut self, alloc: Global, rule: u32, taken: Numbers) -> Result<(), LineFault>
+        ensures { Becomes result self.new (fires self.old rule taken) }
+    {
+        // Where the line is refused, what is left in its place is never read.
+        let Open::Arrived(arrival) = mem::replace(&mut self.reached, Open::Entries) else {
+            return Err(LineFault::NoLine);
+        };
+        let firing = Firing {
+            rule,
+            taken,
+            effects: Items::new(alloc),
+        };
+        self.reached = Open::Fired(arrival, firing);
+        Ok(())
+    }
+
+    fn acts(&mut self, effect: Effect) -> Result<(), LineFault>
+        ensures { Becomes result self.new (acts self.old effect) }
+    {
+        let Open::Fired(_, firing) = &mut self.reached else {
+            return Err(LineFault::NoLine);
+        };
+        add_effect(firing, effect)
+    }
+
+    fn is_late(&mut self, alloc: Global, source: Source, count: u64) -> Result<(), LineFault>
+        ensures { Becomes result self.new (is_late self.old source count) }
+    {
+        if !is_open(&self.reached) || !follows(self.head.feeds, &self.reached, source) {
+            return Err(LineFault::NoLine);
+        }
+        self.closes(alloc, Open::Lates(source))?;
+        self.late.push((source, count))?;
+        Ok(())
+    }
+
+    fn ends(
+        &mut self,
+        alloc: Global,
+        ending: Ending,
+        left: Items<u32>,
+        partials: u64,
+    ) -> Result<(), LineFault>
+        ensures { Becomes result self.new (ends self.old ending left partials) }
+    {
+        if !is_open(&self.reached) {
+            return Err(LineFault::NoLine);
+        }
+        self.closes(alloc, Open::Heading)?;
+        let entries = mem::replace(&mut self.entries, Items::new(alloc));
+        let late = mem::replace(&mut self.late, Items::new(alloc));
+        self.actors.push(ActorRun {
+            entries,
+            late,
+            ending,
+            left,
+            partials,
+        })?;
+        Ok(())
+    }
+
+    // Puts the open entry behind the others, and goes on there.
+    fn closes(&mut self, alloc: Global, next: Open) -> Result<(), LineFault>
+        ensures { Becomes result self.new (Some (closes self.old next)) }
+    {
+        match mem::replace(&mut self.reached, next) {
+            Open::Arrived(arrival) => self.entries.push(entry_with(arrival, Fired::none()))?,
+            Open::Fired(arrival, firing) => {
+                let firing = Box::new(alloc, trimmed(firing))?;
+                self.entries
+                    .push(entry_with(arrival, Fired::from_box(firing)))?
+            }
+            Open::Heading => {}
+            Open::Entries => {}
+            Open::Lates(_) => {}
+        }
+        Ok(())
     }
 }
 
@@ -110,22 +230,11 @@ pub fn trimmed(firing: Firing) -> Firing
     }
 }
 
-// The entries with the open one.
-fn held(alloc: Global, entries: Items<Entry>, reached: Open) -> Result<Items<Entry>, LineFault>
-    ensures { Gives result (Some (entries ++ open_entry reached)) }
+fn add_effect(firing: &mut Firing, effect: Effect) -> Result<(), LineFault>
+    ensures { Becomes result firing.new (Some (with_effect firing.old effect)) }
 {
-    let mut entries = entries;
-    match reached {
-        Open::Arrived(arrival) => entries.push(entry_with(arrival, Fired::none()))?,
-        Open::Fired(arrival, firing) => {
-            let firing = Box::new(alloc, trimmed(firing))?;
-            entries.push(entry_with(arrival, Fired::from_box(firing)))?
-        }
-        Open::Heading => {}
-        Open::Entries => {}
-        Open::Lates(_) => {}
-    }
-    Ok(entries)
+    firing.effects.push(effect)?;
+    Ok(())
 }
 
 // Where a source stands among all: the feeds first.
@@ -148,200 +257,5 @@ fn follows(feeds: u32, reached: &Open, source: Source) -> bool
         Open::Entries => true,
         Open::Arrived(_) => true,
         Open::Fired(_, _) => true,
-    }
-}
-
-fn begins(draft: Draft, actor: u32) -> Result<Draft, LineFault>
-    ensures { Gives result (begins draft actor) }
-{
-    if is_open(&draft.reached) {
-        return Err(LineFault::NoLine);
-    }
-    if actor as usize != draft.actors.len() {
-        return Err(LineFault::NoLine);
-    }
-    let Draft {
-        head,
-        actors,
-        entries,
-        late,
-        reached: _,
-    } = draft;
-    Ok(Draft {
-        head,
-        actors,
-        entries,
-        late,
-        reached: Open::Entries,
-    })
-}
-
-fn arrives(alloc: Global, draft: Draft, arrival: Arrival) -> Result<Draft, LineFault>
-    ensures { Gives result (arrives draft arrival) }
-{
-    if !takes_entries(&draft.reached) {
-        return Err(LineFault::NoLine);
-    }
-    let Draft {
-        head,
-        actors,
-        entries,
-        late,
-        reached,
-    } = draft;
-    let entries = held(alloc, entries, reached)?;
-    Ok(Draft {
-        head,
-        actors,
-        entries,
-        late,
-        reached: Open::Arrived(arrival),
-    })
-}
-
-fn fires(alloc: Global, draft: Draft, rule: u32, taken: Numbers) -> Result<Draft, LineFault>
-    ensures { Gives result (fires draft rule taken) }
-{
-    let Draft {
-        head,
-        actors,
-        entries,
-        late,
-        reached,
-    } = draft;
-    let Open::Arrived(arrival) = reached else {
-        return Err(LineFault::NoLine);
-    };
-    let firing = Firing {
-        rule,
-        taken,
-        effects: Items::new(alloc),
-    };
-    Ok(Draft {
-        head,
-        actors,
-        entries,
-        late,
-        reached: Open::Fired(arrival, firing),
-    })
-}
-
-fn acts(draft: Draft, effect: Effect) -> Result<Draft, LineFault>
-    ensures { Gives result (acts draft effect) }
-{
-    let Draft {
-        head,
-        actors,
-        entries,
-        late,
-        reached,
-    } = draft;
-    let Open::Fired(arrival, firing) = reached else {
-        return Err(LineFault::NoLine);
-    };
-    let firing = with_effect(firing, effect)?;
-    Ok(Draft {
-        head,
-        actors,
-        entries,
-        late,
-        reached: Open::Fired(arrival, firing),
-    })
-}
-
-fn with_effect(firing: Firing, effect: Effect) -> Result<Firing, LineFault>
-    ensures { Gives result (Some (with_effect firing effect)) }
-{
-    let Firing {
-        rule,
-        taken,
-        effects,
-    } = firing;
-    let mut effects = effects;
-    effects.push(effect)?;
-    Ok(Firing {
-        rule,
-        taken,
-        effects,
-    })
-}
-
-fn is_late(alloc: Global, draft: Draft, source: Source, count: u64) -> Result<Draft, LineFault>
-    ensures { Gives result (is_late draft source count) }
-{
-    if !is_open(&draft.reached) || !follows(draft.head.feeds, &draft.reached, source) {
-        return Err(LineFault::NoLine);
-    }
-    let Draft {
-        head,
-        actors,
-        entries,
-        late,
-        reached,
-    } = draft;
-    let entries = held(alloc, entries, reached)?;
-    let mut late = late;
-    late.push((source, count))?;
-    Ok(Draft {
-        head,
-        actors,
-        entries,
-        late,
-        reached: Open::Lates(source),
-    })
-}
-
-fn ends(
-    alloc: Global,
-    draft: Draft,
-    ending: Ending,
-    left: Items<u32>,
-    partials: u64,
-) -> Result<Draft, LineFault>
-    ensures { Gives result (ends draft ending left partials) }
-{
-    if !is_open(&draft.reached) {
-        return Err(LineFault::NoLine);
-    }
-    let Draft {
-        head,
-        actors,
-        entries,
-        late,
-        reached,
-    } = draft;
-    let entries = held(alloc, entries, reached)?;
-    let mut actors = actors;
-    actors.push(ActorRun {
-        entries,
-        late,
-        ending,
-        left,
-        partials,
-    })?;
-    Ok(Draft {
-        head,
-        actors,
-        entries: Items::new(alloc),
-        late: Items::new(alloc),
-        reached: Open::Heading,
-    })
-}
-
-/// What the lines say with one line more. `NoLine` exactly where it may not stand there.
-pub fn step(alloc: Global, draft: Draft, line: LogLine) -> Result<Draft, LineFault>
-    ensures { Gives result (step draft line) }
-{
-    match line {
-        LogLine::Heading(actor) => begins(draft, actor),
-        LogLine::Arrives(arrival) => arrives(alloc, draft, arrival),
-        LogLine::Fires { rule, taken } => fires(alloc, draft, rule, taken),
-        LogLine::Does(effect) => acts(draft, effect),
-        LogLine::IsLate(source, count) => is_late(alloc, draft, source, count),
-        LogLine::Ends {
-            ending,
-            left,
-            partials,
-        } => ends(alloc, draft, ending, left, partials),
     }
 }

@@ -5,28 +5,28 @@ ghost use Rattle.log_lines.specs.Forms.{HeadFits};
 ghost use Rattle.log_reader.specs.Advance.{Advances, is_done, run_of};
 ghost use Rattle.log_reader.specs.Log.{Answers, FaultsAreOneLine, LogsAreOneRun};
 
-use crate::draft::{Draft, is_open, step};
+use crate::draft::{Draft, is_open};
 use crate::fault::LogFault;
 use fair_semantics::Run;
 use log_lines::{LineFault, cut_line, read_head, read_line};
 use script_types::Plan;
 use std::alloc::Global;
 
-// What was read with one line more.
+// Reads one line more. Behind a fault nothing is said of the draft.
 fn advance(
     alloc: Global,
     plan: &Plan,
-    draft: Draft,
+    draft: &mut Draft,
     text: &[u8],
     line: u64,
-) -> Result<Draft, LogFault>
+) -> Result<(), LogFault>
     requires typed { IsTyped plan.now }
-    requires head { HeadFits plan.now draft.head }
-    ensures { Advances plan.now draft text.now line result }
+    requires head { HeadFits plan.now draft.old.head }
+    ensures { Advances plan.now draft.old text.now line draft.new result }
 {
     match read_line(alloc, plan, &draft.head, text) {
-        Ok(given) => match step(alloc, draft, given) {
-            Ok(next) => Ok(next),
+        Ok(given) => match draft.step(alloc, given) {
+            Ok(()) => Ok(()),
             Err(LineFault::NoLine) => Err(LogFault::Bad { line }),
             Err(LineFault::NoMemory) => Err(LogFault::NoMemory),
         },
@@ -88,7 +88,7 @@ pub fn read_log(alloc: Global, plan: &Plan, bytes: &[u8]) -> Result<Run, LogFaul
     let mut number: u64 = 1;
     'lines: while let Some((text, more)) = cut_line(rest) {
         number += 1;
-        draft = advance(alloc, plan, draft, text, number)?;
+        advance(alloc, plan, &mut draft, text, number)?;
         rest = more;
     }
     if is_whole(plan, &draft, rest) {

@@ -19,16 +19,16 @@ lines-init c =
     subst (λ (d : Draft). Reads c.args.plan.now c.args.bytes.now c.in-Some.behind.now 1 d) (sym c.new-draft.ensures)
     (reads_first c.args.plan.now c.args.bytes.now c.in-Some.first.now c.in-Some.behind.now c.in-Some-read_head.head c.in-Some.ensures.parts c.in-Some-read_head.ensures.found)
 
-pub returns-in_err-draft : goal.returns-in_err-draft
-returns-in_err-draft c =
+pub returns-in_err-advance : goal.returns-in_err-advance
+returns-in_err-advance c =
     let p = err_from_is_err_and c.from_residual.result c.from_residual.ensures.1 in
     record {
-      answer = rw (p.1, p.2) (failed c.args.plan.now c.args.bytes.now c.lines.rest.now c.lines.number c.lines.draft c.in-Some-cut_line.text.now c.in-Some-cut_line.more.now c.in_err-draft.field-0.0 c.requires.typed c.lines.invariant c.in-Some-cut_line.ensures.parts c.in_err-draft.ensures);
+      answer = rw (p.1, p.2) (failed c.args.plan.now c.args.bytes.now c.lines.rest.now c.lines.number c.lines.draft c.advance.new.draft c.in-Some-cut_line.text.now c.in-Some-cut_line.more.now c.in_err-advance.field-0.0 c.requires.typed c.lines.invariant c.in-Some-cut_line.ensures.parts c.in_err-advance.ensures);
     }
 
 pub lines-preserved : goal.lines-preserved
 lines-preserved c =
-    reads_more c.args.plan.now c.args.bytes.now c.lines.rest.now c.lines.number c.lines.draft c.in_ok-draft.draft c.in-Some-cut_line.text.now c.in-Some-cut_line.more.now c.lines.invariant c.in-Some-cut_line.ensures.parts c.in_ok-draft.ensures
+    reads_more c.args.plan.now c.args.bytes.now c.lines.rest.now c.lines.number c.lines.draft c.advance.new.draft c.in-Some-cut_line.text.now c.in-Some-cut_line.more.now c.lines.invariant c.in-Some-cut_line.ensures.parts c.in_ok-advance.ensures
 
 pub returns-then-is_whole : goal.returns-then-is_whole
 returns-then-is_whole c = record {
