@@ -212,8 +212,8 @@ fn entry_with(arrival: Arrival, firing: Fired) -> Entry
     }
 }
 
-/// The same firing, in no more memory than it needs.
-pub fn trimmed(firing: Firing) -> Firing
+// The same firing, in no more memory than it needs: a log has many.
+fn trimmed(firing: Firing) -> Firing
     ensures { result ≡ firing }
 {
     let Firing {

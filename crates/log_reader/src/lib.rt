@@ -2,7 +2,6 @@
 //!
 //! - `read_log` gives the run whose log the bytes are, or the line at fault where they are the log of no run of the
 //!   plan.
-//! - `trimmed` gives back the room that a firing does not need, since a log has many.
 //! - `one_run` says that two runs with one log are equal, and `one_fault` that bytes have one line at fault.
 //!
 //! A contract says by `Answers` (specs/Log) what an answer means: a run that fits the plan and has the bytes as its log
@@ -14,7 +13,6 @@ mod draft;
 mod fault;
 mod read;
 
-pub use draft::trimmed;
 pub use fault::LogFault;
 pub use read::{one_fault, one_run, read_log};
 

@@ -68,9 +68,9 @@ fn run_of(draft: Draft) -> Run
     }
 }
 
-/// The run whose log the bytes are: `print_log` of it gives these bytes. Where they are the log of no run of the plan,
-/// the answer is the line at fault, from 1 on: the first whole line that may not stand where it stands, or one more
-/// than the number of whole lines.
+/// The run of a well typed plan whose log the bytes are: `print_log` of it gives these bytes. Where they are the log of
+/// no run of the plan, the answer is the line at fault, from 1 on: the first whole line that may not stand where it
+/// stands, or one more than the number of whole lines.
 ///
 /// The bytes are read in one pass.
 pub fn read_log(alloc: Global, plan: &Plan, bytes: &[u8]) -> Result<Run, LogFault>
@@ -98,12 +98,12 @@ pub fn read_log(alloc: Global, plan: &Plan, bytes: &[u8]) -> Result<Run, LogFaul
     }
 }
 
-/// Two runs that fit a plan and have one log are equal.
+/// Two runs that fit a well typed plan and have one log are equal.
 pub fn one_run()
     ensures { LogsAreOneRun }
 {}
 
-/// Bytes have one line at fault.
+/// Beside a well typed plan bytes have one line at fault.
 pub fn one_fault()
     ensures { FaultsAreOneLine }
 {}
