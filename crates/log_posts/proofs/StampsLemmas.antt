@@ -1,74 +1,73 @@
 -- Links whose first posts were taken, a stamp more, and entries with stamps.
-use Rattle.std.proofs.Common.{◌≡◌, ◌∙◌, ℕ, zero, suc, ◌+◌, ◌<◌, ◌≤◌, min, List, [], ◌∷◌, ◌++◌, length, take, drop, get_or, append_assoc, refl, sym, ap, arith}
-use Rattle.std.specs.Prelude.{replicate, slice_get, slice_index, slice_set}
-use Rattle.std.specs.List.{AllByRecursion}
+use Rattle.std.proofs.Common.{◌≡◌, ◌∙◌, ℕ, zero, suc, ◌+◌, ◌<◌, ◌≤◌, min, List, [], ◌∷◌, ◌++◌, Bool, true, false, None, Some, length, take, drop, get_or, append_assoc, refl, sym, ap, subst, arith}
+use Rattle.std.specs.Prelude.{slice_get, slice_index, slice_set, ◌==◌, if◌then◌else◌}
+use Rattle.std.specs.List.{cons_option}
 use Rattle.std.proofs.Math.Seq.{drop-nil}
-use Rattle.std.proofs.lemmas.List.{append-nil, drop_all, drop_more, length-replicate, length-set}
+use Rattle.std.proofs.lemmas.Bool.{eqb-true}
+use Rattle.std.proofs.lemmas.Bool.Decides.{nat_tests}
+use Rattle.std.proofs.lemmas.List.{drop_more, length-set}
 use Rattle.join_base.specs.declared.message.Source.{Source}
 use Rattle.join_base.specs.declared.message.Source.TheVariants.{Feed, Actor}
 use Rattle.join_base.specs.declared.message.Stamped.{Stamped}
 use Rattle.fair_semantics.specs.declared.run.Entry.{Entry}
-use Rattle.fair_semantics.specs.Linked.{stamp_at}
+use Rattle.fair_semantics.specs.Fair.{Sent}
+use Rattle.fair_semantics.specs.Linked.{arrived, arrived_after, same_source, stamp_at, taken_from}
 use Rattle.log_posts.specs.Posts.{with_stamp}
-use Rattle.log_posts.proofs.PostsLemmas.{one_more_gone}
-use Rattle.log_posts.specs.Stamps.{IsCounted, carried_by, link_at, links_after, next_carried, next_stamp, stamps_left, stamps_made, taken_after, with_stamps}
+use Rattle.log_posts.specs.Stamps.{link_at, links_after, next_stamp, posts_from, stamps_behind, with_stamps}
 
--- ---- links whose first posts were taken
+-- ---- a post that was taken from its link
 
--- each link without as many posts as were taken of it
-abbrev pub left_of : List (List Stamped) → List ℕ → List (List Stamped)
-left_of [] taken = []
-left_of (posts ∷ links) [] = posts ∷ links
-left_of (posts ∷ links) (count ∷ taken) = drop count posts ∷ left_of links taken
+taken_here : (links : List (List Stamped)) (a : ℕ) → link_at (slice_get (slice_set links a (drop 1 (link_at (slice_get links a)))) a) ≡ drop 1 (link_at (slice_get links a))
+taken_here [] a = refl
+taken_here (posts ∷ links) zero = refl
+taken_here (posts ∷ links) (suc a) = taken_here links a
 
-left_of_none : (links : List (List Stamped)) → left_of links (replicate (length links) 0) ≡ links
-left_of_none [] = refl
-left_of_none (posts ∷ links) = ap (λ (ls : List (List Stamped)). posts ∷ ls) (left_of_none links)
+taken_other : (links : List (List Stamped)) (b a : ℕ) (posts : List Stamped) → (b ≡ a → ⊥) → slice_get (slice_set links b posts) a ≡ slice_get links a
+taken_other [] b a posts apart = refl
+taken_other (first ∷ links) zero zero posts apart = absurd (apart refl)
+taken_other (first ∷ links) zero (suc a) posts apart = refl
+taken_other (first ∷ links) (suc b) zero posts apart = refl
+taken_other (first ∷ links) (suc b) (suc a) posts apart = taken_other links b a posts (λ e. apart (ap suc e))
 
-first_left : (posts : List Stamped) (count : ℕ) → slice_get (drop count posts) 0 ≡ slice_get posts count
-first_left [] zero = refl
-first_left [] (suc count) = refl
-first_left (post ∷ posts) zero = refl
-first_left (post ∷ posts) (suc count) = first_left posts count
+not_equal : (a b : ℕ) → (a == b) ≡ false → a ≡ b → ⊥
+not_equal a b e p = absurd (grind (arith, nat_tests))
 
-carried_left : (links : List (List Stamped)) (taken : List ℕ) (source : Source) → length taken ≡ length links → IsCounted (length links) source → next_carried (left_of links taken) source ≡ carried_by links taken source
-carried_left links taken (Feed k) many counted = refl
-carried_left links taken (Actor a) many counted = at links taken a many counted
+-- from its source
+after_own : (links : List (List Stamped)) (of source : Source) → same_source of source ≡ true → posts_from (links_after links of) source ≡ drop 1 (posts_from links source)
+after_own links (Feed j) (Feed k) is = refl
+after_own links (Feed j) (Actor a) is = absurd cc
+after_own links (Actor b) (Feed k) is = absurd cc
+after_own links (Actor b) (Actor a) is =
+    subst (λ (c : ℕ). link_at (slice_get (slice_set links b (drop 1 (link_at (slice_get links b)))) c) ≡ drop 1 (link_at (slice_get links c))) (eqb-true b a is) (taken_here links b)
+
+-- and from another
+after_other : (links : List (List Stamped)) (of source : Source) → same_source of source ≡ false → posts_from (links_after links of) source ≡ posts_from links source
+after_other links (Feed j) (Feed k) is = refl
+after_other links (Feed j) (Actor a) is = refl
+after_other links (Actor b) (Feed k) is = refl
+after_other links (Actor b) (Actor a) is = ap link_at (taken_other links b a (drop 1 (link_at (slice_get links b))) (not_equal b a is))
+
+behind_first : (posts : List Stamped) (n : ℕ) → slice_get posts (suc n) ≡ slice_get (drop 1 posts) n
+behind_first [] n = refl
+behind_first (post ∷ posts) n = refl
+
+next_post : (links : List (List Stamped)) (e : Entry) (before : List Entry) (source : Source)
+    → slice_get (posts_from links source) (length (taken_from source (e ∷ before))) ≡ slice_get (posts_from (links_after links e.source) source) (length (taken_from source before))
+next_post links e before source = by (same_source e.source source) refl
   where
-    at : (ls : List (List Stamped)) (ts : List ℕ) (p : ℕ) → length ts ≡ length ls → p < length ls → stamp_at (slice_get (link_at (slice_get (left_of ls ts) p)) 0) ≡ stamp_at (slice_get (link_at (slice_get ls p)) (slice_index ts p))
-    at [] ts p many l = absurd (omega arith)
-    at (posts ∷ ls) [] p many l = absurd (omega (arith, many))
-    at (posts ∷ ls) (t ∷ ts) zero many l = ap stamp_at (first_left posts t)
-    at (posts ∷ ls) (t ∷ ts) (suc p) many l = at ls ts p (omega (arith, many)) (omega (arith, l))
+    count : ℕ
+    count = length (taken_from source before)
 
-after_left : (links : List (List Stamped)) (taken : List ℕ) (source : Source) → length taken ≡ length links → IsCounted (length links) source → links_after (left_of links taken) source ≡ left_of links (taken_after taken source)
-after_left links taken (Feed k) many counted = refl
-after_left links taken (Actor a) many counted = at links taken a many counted
-  where
-    at : (ls : List (List Stamped)) (ts : List ℕ) (p : ℕ) → length ts ≡ length ls → p < length ls → slice_set (left_of ls ts) p (drop 1 (link_at (slice_get (left_of ls ts) p))) ≡ left_of ls (slice_set ts p (slice_index ts p + 1))
-    at [] ts p many l = absurd (omega arith)
-    at (posts ∷ ls) [] p many l = absurd (omega (arith, many))
-    at (posts ∷ ls) (t ∷ ts) zero many l = ap (λ (ps : List Stamped). ps ∷ left_of ls ts) (one_more_gone posts t)
-    at (posts ∷ ls) (t ∷ ts) (suc p) many l = ap (λ (rest : List (List Stamped)). drop t posts ∷ rest) (at ls ts p (omega (arith, many)) (omega (arith, l)))
+    by : (b : Bool) → same_source e.source source ≡ b
+        → slice_get (posts_from links source) (length (cons_option (if b then Some e.message else None) (taken_from source before))) ≡ slice_get (posts_from (links_after links e.source) source) count
+    by true is = behind_first (posts_from links source) count ∙ ap (λ (ps : List Stamped). slice_get ps count) (sym (after_own links e.source source is))
+    by false is = ap (λ (ps : List Stamped). slice_get ps count) (sym (after_other links e.source source is))
 
-taken_many : (taken : List ℕ) (source : Source) → length (taken_after taken source) ≡ length taken
-taken_many taken (Feed k) = refl
-taken_many taken (Actor a) = length-set taken a (slice_index taken a + 1)
-
-left_is : (links : List (List Stamped)) (taken : List ℕ) (before : ℕ) (entries : List Entry) → length taken ≡ length links → AllByRecursion (λ entry. IsCounted (length links) entry.source) entries
-    → stamps_left (left_of links taken) before entries ≡ stamps_made links taken before entries
-left_is links taken before [] many counted = refl
-left_is links taken before (entry ∷ entries) many counted =
-    let carried = carried_left links taken entry.source many counted.0 in
-    let stamp : ℕ = next_stamp before (carried_by links taken entry.source) in
-    (λ i. next_stamp before (carried i) ∷ stamps_left (after_left links taken entry.source many counted.0 i) (next_stamp before (carried i)) entries)
-    ∙ ap (λ (ns : List ℕ). stamp ∷ ns) (left_is links (taken_after taken entry.source) stamp entries (taken_many taken entry.source ∙ many) counted.1)
-
--- the stamps by the links that are left are those by how many posts were taken
-left_is_made : (links : List (List Stamped)) (entries : List Entry) → AllByRecursion (λ entry. IsCounted (length links) entry.source) entries → stamps_left links 0 entries ≡ stamps_made links (replicate (length links) 0) 0 entries
-left_is_made links entries counted =
-    ap (λ (ls : List (List Stamped)). stamps_left ls 0 entries) (sym (left_of_none links))
-    ∙ left_is links (replicate (length links) 0) 0 entries (length-replicate (length links) 0) counted
+-- what arrives behind an entry is what arrives where its post is gone
+arrived_behind : (links : List (List Stamped)) (e : Entry) (before entries : List Entry) → arrived_after (posts_from links) (e ∷ before) entries ≡ arrived_after (posts_from (links_after links e.source)) before entries
+arrived_behind links e before [] = refl
+arrived_behind links e before (x ∷ entries) =
+    λ i. (x.source, record { message = x.message; stamp = stamp_at (next_post links e before x.source i) }) ∷ arrived_behind links e (before ++ x ∷ []) entries i
 
 pub after_many : (links : List (List Stamped)) (source : Source) → length (links_after links source) ≡ length links
 after_many links (Feed k) = refl
@@ -76,26 +75,20 @@ after_many links (Actor a) = length-set links a (drop 1 (link_at (slice_get link
 
 -- ---- one arrival more
 
-pub stamps_next : (links later : List (List Stamped)) (before stamp carried : ℕ) (entries : List Entry) (i : ℕ) (e : Entry) (done next whole : List ℕ) → i < length entries → e ≡ get_or entries i e → carried ≡ next_carried links e.source
-    → stamp ≡ next_stamp before carried → later ≡ links_after links e.source → next ≡ done ++ stamp ∷ []
-    → done ++ stamps_left links before (drop i entries) ≡ whole → next ++ stamps_left later stamp (drop (i + 1) entries) ≡ whole
+pub stamps_next : (links later : List (List Stamped)) (before stamp carried : ℕ) (entries : List Entry) (i : ℕ) (e : Entry) (done next whole : List ℕ) → i < length entries → e ≡ get_or entries i e
+    → carried ≡ stamp_at (slice_get (posts_from links e.source) 0) → stamp ≡ next_stamp before carried → later ≡ links_after links e.source → next ≡ done ++ stamp ∷ []
+    → done ++ stamps_behind before (arrived (posts_from links) (drop i entries)) ≡ whole → next ++ stamps_behind stamp (arrived (posts_from later) (drop (i + 1) entries)) ≡ whole
 stamps_next links later before stamp carried entries i e done next whole l is by_carried by_stamp by_later more left =
     let rest : List Entry = drop (i + 1) entries in
-    let stamp_is = by_stamp ∙ ap (next_stamp before) by_carried in
+    let now : ℕ = next_stamp before (stamp_at (slice_get (posts_from links e.source) 0)) in
+    let stamp_is : stamp ≡ now = by_stamp ∙ ap (next_stamp before) by_carried in
     let here : drop i entries ≡ e ∷ rest = drop_more entries i e l ∙ ap (λ (x : Entry). x ∷ rest) (sym is) in
-    ap (λ (ns : List ℕ). ns ++ stamps_left later stamp rest) more
-    ∙ append_assoc done (stamp ∷ []) (stamps_left later stamp rest)
-    ∙ (λ j. done ++ stamp_is j ∷ stamps_left (by_later j) (stamp_is j) rest)
-    ∙ ap (λ (es : List Entry). done ++ stamps_left links before es) (sym here)
+    ap (λ (ns : List ℕ). ns ++ stamps_behind stamp (arrived (posts_from later) rest)) more
+    ∙ append_assoc done (stamp ∷ []) (stamps_behind stamp (arrived (posts_from later) rest))
+    ∙ (λ j. done ++ stamp_is j ∷ stamps_behind (stamp_is j) (arrived (posts_from (by_later j)) rest))
+    ∙ ap (λ (sent : List Sent). done ++ now ∷ stamps_behind now sent) (sym (arrived_behind links e [] rest))
+    ∙ ap (λ (es : List Entry). done ++ stamps_behind before (arrived (posts_from links) es)) (sym here)
     ∙ left
-
-pub stamps_done : (links left : List (List Stamped)) (before : ℕ) (entries : List Entry) (i : ℕ) (done : List ℕ) → length entries ≤ i → AllByRecursion (λ entry. IsCounted (length links) entry.source) entries
-    → done ++ stamps_left left before (drop i entries) ≡ stamps_left links 0 entries → done ≡ stamps_made links (replicate (length links) 0) 0 entries
-stamps_done links left before entries i done all counted told =
-    sym (append-nil done)
-    ∙ ap (λ (es : List Entry). done ++ stamps_left left before es) (sym (drop_all i entries all))
-    ∙ told
-    ∙ left_is_made links entries counted
 
 -- ---- entries with stamps
 

@@ -1,8 +1,8 @@
 //! The stamps of the arrivals of an actor, by the posts of each link to it.
-ghost use Rattle.std.specs.Prelude.{◌≡◌, length, replicate, IfOk};
+ghost use Rattle.std.specs.Prelude.{◌≡◌, length, slice_get, IfOk};
 ghost use Rattle.std.specs.List.{AllByRecursion};
-ghost use Rattle.fair_semantics.specs.Linked.{stamp_at};
-ghost use Rattle.log_posts.specs.Stamps.{IsCounted, links_after, next_carried, next_stamp, stamps_in, stamps_made, with_stamps};
+ghost use Rattle.fair_semantics.specs.Linked.{arrived, stamp_at};
+ghost use Rattle.log_posts.specs.Stamps.{HasLink, links_after, next_stamp, posts_from, stamps_behind, stamps_in, with_stamps};
 
 use crate::posts::{Link, Posted};
 use fair_semantics::{Entry, LogVersion};
@@ -30,10 +30,10 @@ fn stamp_at(post: Option<Posted>) -> u64
     }
 }
 
-// Takes the next post of a source. The answer is its stamp.
-fn carried_by(links: &mut Vec<Link>, source: Source) -> u64
-    requires exists { IsCounted (length links.old.items) source }
-    ensures carried { result ≡ next_carried links.old.items source }
+// Takes the next post of a source from its link. The answer is its stamp, or 0.
+fn take_carried(links: &mut Vec<Link>, source: Source) -> u64
+    requires exists { HasLink (length links.old.items) source }
+    ensures carried { result ≡ stamp_at (slice_get (posts_from links.old.items source) 0) }
     ensures taken { links.new.items ≡ links_after links.old.items source }
 {
     match source {
@@ -42,42 +42,31 @@ fn carried_by(links: &mut Vec<Link>, source: Source) -> u64
     }
 }
 
-// The same links again.
-fn again<'a>(alloc: Global, links: &[Link<'a>]) -> Result<Vec<Link<'a>>, NoMemory>
-    ensures { IfOk result (λ same. same.items ≡ links.now) }
-{
-    let mut same = Vec::with_capacity(alloc, links.len())?;
-    for link in links {
-        same.push(link.again())?;
-    }
-    Ok(same)
-}
-
 // The stamps of the arrivals, where nothing was taken before them.
-fn stamps_made(alloc: Global, links: &[Link], entries: &[Entry]) -> Result<Items<u64>, NoMemory>
-    requires exist { AllByRecursion (λ entry. IsCounted (length links.now) entry.source) entries.now }
-    ensures { IfOk result (λ stamps. stamps ≡ stamps_made links.now (replicate (length links.now) 0) 0 entries.now) }
+fn stamps_made(alloc: Global, links: Items<Link>, entries: &[Entry]) -> Result<Items<u64>, NoMemory>
+    requires exist { AllByRecursion (λ entry. HasLink (length links) entry.source) entries.now }
+    ensures { IfOk result (λ stamps. stamps ≡ stamps_behind 0 (arrived (posts_from links.entry) entries.now)) }
 {
-    let mut left = again(alloc, links)?;
+    let mut left = links.into_vec();
     let mut stamps = Items::new(alloc);
     let mut before: u64 = 0;
     for entry in entries {
-        before = next_stamp(before, carried_by(&mut left, entry.source));
+        before = next_stamp(before, take_carried(&mut left, entry.source));
         stamps.push(before)?;
     }
     Ok(stamps)
 }
 
-/// The stamps of the arrivals of an actor, in order, by the posts to it from each actor. A plain log has none, so each
-/// is 0 there. An arrival from an actor is from one of these.
+/// The stamps of the arrivals of an actor, in order, by the posts to it from each actor, which are taken one after the
+/// other. A plain log has none, so each is 0 there. An arrival from an actor is from one of these.
 pub fn stamps_in(
     alloc: Global,
     version: LogVersion,
-    links: &[Link],
+    links: Items<Link>,
     entries: &[Entry],
 ) -> Result<Items<u64>, NoMemory>
-    requires exist { AllByRecursion (λ entry. IsCounted (length links.now) entry.source) entries.now }
-    ensures { IfOk result (λ stamps. stamps ≡ stamps_in version links.now entries.now) }
+    requires exist { AllByRecursion (λ entry. HasLink (length links) entry.source) entries.now }
+    ensures { IfOk result (λ stamps. stamps ≡ stamps_in version links.entry entries.now) }
 {
     if !version.has_stamps() {
         let zeros = vec![in alloc; 0; entries.len()]?;

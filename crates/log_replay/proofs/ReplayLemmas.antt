@@ -38,7 +38,7 @@ use Rattle.std.proofs.lemmas.List.{length-set}
 use Rattle.join_base.specs.declared.message.Stamped.{Stamped}
 use Rattle.actor_turn.specs.Held.{first_of, posts_for, without_first}
 use Rattle.log_replay.proofs.MadeLemmas.{read_fit}
-use Rattle.log_replay.proofs.SettledLemmas.{replay_is, sources_counted}
+use Rattle.log_replay.proofs.SettledLemmas.{replay_is, sources_linked}
 use Rattle.log_replay.proofs.ConverseLemmas.{count_numbers}
 
 -- what is left of the walk of an actor
@@ -181,7 +181,7 @@ replayed plan run made slice settlements runs typed fit texts settle same by_set
     let all =
     ap (shown_all run.actors) (by_runs ∙ ap (finished_all plan 0 made) (by_settlements ∙ ap (λ (rs : List Shared). settlements_shown (shown_all run.actors rs) run 0 rs run.actors) same))
     ∙ settle
-    ∙ replay_is plan run (made_runs plan run 0 (length plan.actors)) typed fit texts refl (sources_counted plan run fit)
+    ∙ replay_is plan run (made_runs plan run 0 (length plan.actors)) typed fit texts refl (sources_linked plan run fit)
     in λ i. record { version = run.version; limits = run.limits; feeds = run.feeds; actors = all i }
 
 -- ---- arrivals

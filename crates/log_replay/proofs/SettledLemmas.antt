@@ -29,7 +29,7 @@ use Rattle.run_order.proofs.ArrivalLemmas.{length-arrived}
 use Rattle.run_order.specs.Sorted.{entries_in}
 use Rattle.log_posts.specs.Lates.{actor_counts, count_where, lates_made}
 use Rattle.log_posts.specs.Posts.{posts_made, with_stamp}
-use Rattle.log_posts.specs.Stamps.{carried_by, IsCounted, link_at, next_stamp, stamps_in, stamps_made, taken_after, with_stamps}
+use Rattle.log_posts.specs.Stamps.{HasLink, link_at, next_stamp, posts_from, stamps_behind, stamps_in, with_stamps}
 use Rattle.log_posts.proofs.SameLemmas.{itself}
 use Rattle.log_replay.specs.Expected.{expected_actor, expected_late, expected_posts, expected_run, late_in, may_be_late, posts_beyond, read_entries, read_late, restamped, settled, some_late, stamped_in, stamps_sent, stepped, with_entries}
 use Rattle.log_replay.specs.Settling as made
@@ -47,12 +47,7 @@ links_count made run to from n = length-map (numbers_from from n) (λ k. posts_m
 
 -- ---- stamps
 
--- the stamps of these arrivals, where this was the stamp before them
-abbrev follow : ℕ → List Sent → List ℕ
-follow before [] = []
-follow before (one ∷ sent) = let stamp : ℕ = next_stamp before one.1.stamp in stamp ∷ follow stamp sent
-
-restamped_by : (before : ℕ) (sent : List Sent) (entries : List Entry) → length entries ≤ length sent → with_stamps (follow before sent) entries ≡ restamped before sent entries
+restamped_by : (before : ℕ) (sent : List Sent) (entries : List Entry) → length entries ≤ length sent → with_stamps (stamps_behind before sent) entries ≡ restamped before sent entries
 restamped_by before [] [] l = refl
 restamped_by before [] (e ∷ entries) l = absurd (omega arith)
 restamped_by before (one ∷ sent) [] l = refl
@@ -64,65 +59,12 @@ unstamped_by zero (e ∷ entries) l = absurd (omega arith)
 unstamped_by (suc n) [] l = refl
 unstamped_by (suc n) (e ∷ entries) l = ap (λ (es : List Entry). unstamped_entry e ∷ es) (unstamped_by n entries (omega (arith, l)))
 
-set_here : (xs : List ℕ) (p x : ℕ) → p < length xs → slice_index (slice_set xs p x) p ≡ x
-set_here [] p x l = absurd (omega arith)
-set_here (y ∷ xs) zero x l = refl
-set_here (y ∷ xs) (suc p) x l = set_here xs p x (omega (arith, l))
-
-set_other : (xs : List ℕ) (p q x : ℕ) → (p ≡ q → ⊥) → slice_index (slice_set xs p x) q ≡ slice_index xs q
-set_other [] p q x apart = refl
-set_other (y ∷ xs) zero zero x apart = absurd (apart refl)
-set_other (y ∷ xs) zero (suc q) x apart = refl
-set_other (y ∷ xs) (suc p) zero x apart = refl
-set_other (y ∷ xs) (suc p) (suc q) x apart = set_other xs p q x (λ e. apart (ap suc e))
-
-not_equal : (a b : ℕ) → (a == b) ≡ false → a ≡ b → ⊥
-not_equal a b e p = absurd (grind (arith, nat_tests))
-
-module _ (n : ℕ) (links : List (List Stamped)) (sends : Source → List Stamped) (none : (k : ℕ) → sends (Feed k) ≡ []) (are : (a : ℕ) → a < n → link_at (slice_get links a) ≡ sends (Actor a)) where
-  -- of each actor so many were taken
-  pub record IsTaken (taken : List ℕ) (before : List Entry) : Type 0 where
-    pub many : length taken ≡ n
-    pub each : (a : ℕ) → a < n → slice_index taken a ≡ length (taken_from (Actor a) before)
-
-  taken_next : (taken : List ℕ) (before : List Entry) (e : Entry) → IsTaken taken before → IsCounted n e.source → IsTaken (taken_after taken e.source) (before ++ e ∷ [])
-  taken_next taken before e h counted = by e.source refl counted
-    where
-      by : (source : Source) → e.source ≡ source → IsCounted n source → IsTaken (taken_after taken source) (before ++ e ∷ [])
-      by (Feed k) is counted = record {
-        many = h.many;
-        each = λ a l. h.each a l ∙ sym (ap length (taken_same a before e (ap (λ (s : Source). same_source s (Actor a)) is)));
-      }
-      by (Actor b) is counted = record {
-        many = length-set taken b (slice_index taken b + 1) ∙ h.many;
-        each = λ a l. one a l (b == a) refl;
-      }
-        where
-          one : (a : ℕ) → a < n → (t : Bool) → (b == a) ≡ t → slice_index (slice_set taken b (slice_index taken b + 1)) a ≡ length (taken_from (Actor a) (before ++ e ∷ []))
-          one a l true same =
-              let at : b ≡ a = eqb-true b a same in
-              subst (λ (c : ℕ). slice_index (slice_set taken b (slice_index taken b + 1)) c ≡ length (taken_from (Actor c) (before ++ e ∷ []))) at
-              (set_here taken b (slice_index taken b + 1) (omega (arith, counted, h.many)) ∙ ap (λ (m : ℕ). m + 1) (h.each b counted)
-              ∙ sym (taken_more b before e (ap (λ (s : Source). same_source s (Actor b)) is ∙ itself b)))
-          one a l false other =
-              set_other taken b a (slice_index taken b + 1) (not_equal b a other) ∙ h.each a l ∙ sym (ap length (taken_same a before e (ap (λ (s : Source). same_source s (Actor a)) is ∙ other)))
-
-  carried_is : (taken : List ℕ) (before : List Entry) (source : Source) → IsTaken taken before → IsCounted n source → carried_by links taken source ≡ stamp_at (slice_get (sends source) (length (taken_from source before)))
-  carried_is taken before (Feed k) h counted = sym (ap (λ (ps : List Stamped). stamp_at (slice_get ps (length (taken_from (Feed k) before)))) (none k))
-  carried_is taken before (Actor a) h counted = λ i. stamp_at (slice_get (are a counted i) (h.each a counted i))
-
-  stamps_are : (taken : List ℕ) (latest : ℕ) (before entries : List Entry) → IsTaken taken before → AllByRecursion (λ e. IsCounted n e.source) entries → stamps_made links taken latest entries ≡ follow latest (arrived_after sends before entries)
-  stamps_are taken latest before [] h counted = refl
-  stamps_are taken latest before (e ∷ entries) h counted =
-      let stamp = ap (next_stamp latest) (carried_is taken before e.source h counted.0) in
-      let now : ℕ = next_stamp latest (stamp_at (slice_get (sends e.source) (length (taken_from e.source before)))) in
-      (λ i. stamp i ∷ stamps_made links (taken_after taken e.source) (stamp i) entries)
-      ∙ ap (λ (ns : List ℕ). now ∷ ns) (stamps_are (taken_after taken e.source) now (before ++ e ∷ []) entries (taken_next taken before e h counted.0) counted.1)
-
-none_yet : (n a : ℕ) → slice_index (replicate n 0) a ≡ 0
-none_yet zero a = refl
-none_yet (suc n) zero = refl
-none_yet (suc n) (suc a) = none_yet n a
+-- what arrives where the sources of the arrivals send the same
+arrived_alike : (n : ℕ) (one two : Source → List Stamped) → ((source : Source) → HasLink n source → one source ≡ two source) → (before entries : List Entry) → AllByRecursion (λ e. HasLink n e.source) entries
+    → arrived_after one before entries ≡ arrived_after two before entries
+arrived_alike n one two same before [] linked = refl
+arrived_alike n one two same before (e ∷ entries) linked =
+    λ i. (e.source, record { message = e.message; stamp = stamp_at (slice_get (same e.source linked.0 i) (length (taken_from e.source before))) }) ∷ arrived_alike n one two same (before ++ e ∷ []) entries linked.1 i
 
 -- ---- late counts
 
@@ -205,7 +147,7 @@ module _ (plan : Plan) (run : Run) (runs : List ActorRun) (many : length run.act
       by true = λ i. record { entries = state.entries; late = late_counts late; ending = ending.Spent; left = []; partials = count i }
       by false = refl
 
-  module _ (to : ℕ) (read : ActorRun) (there : slice_get run.actors to ≡ Some read) (counted : AllByRecursion (λ e. IsCounted (length run.actors) e.source) read.entries) where
+  module _ (to : ℕ) (read : ActorRun) (there : slice_get run.actors to ≡ Some read) (linked : AllByRecursion (λ e. HasLink (length run.actors) e.source) read.entries) where
     abbrev links : List (List Stamped)
     links = links_to runs run to 0 (length run.actors)
 
@@ -215,19 +157,19 @@ module _ (plan : Plan) (run : Run) (runs : List ActorRun) (many : length run.act
     lines_are : read_entries run to ≡ read.entries
     lines_are = ap entries_in there
 
-    stamps_follow : stamps_made links (replicate (length links) 0) 0 read.entries ≡ follow 0 sent
-    stamps_follow =
-        let n : ℕ = length run.actors in
-        let count = links_count runs run to 0 n in
-        ap (λ (m : ℕ). stamps_made links (replicate m 0) 0 read.entries) count
-        ∙ stamps_are n links (stamps_sent plan run to) (λ k. refl) (λ a l. link_is to a (omega (arith, l, many))) (replicate n 0) 0 [] read.entries (record { many = length-replicate n 0; each = λ a l. none_yet n a }) counted
+    arrives : arrived (posts_from links) read.entries ≡ sent
+    arrives = arrived_alike (length run.actors) (posts_from links) (stamps_sent plan run to) sends [] read.entries linked
+      where
+        sends : (source : Source) → HasLink (length run.actors) source → posts_from links source ≡ stamps_sent plan run to source
+        sends (Feed k) h = refl
+        sends (Actor a) h = link_is to a (omega (arith, h, many))
 
     stamped_is : (entries : List Entry) → length entries ≤ length read.entries → with_stamps (stamps_in run.version links read.entries) entries ≡ stamped_in run.version sent entries
     stamped_is entries few = by (run.version == 1)
       where
-        by : (b : Bool) → with_stamps (if b then replicate (length read.entries) 0 else stamps_made links (replicate (length links) 0) 0 read.entries) entries ≡ (if b then map unstamped_entry entries else restamped 0 sent entries)
+        by : (b : Bool) → with_stamps (if b then replicate (length read.entries) 0 else stamps_behind 0 (arrived (posts_from links) read.entries)) entries ≡ (if b then map unstamped_entry entries else restamped 0 sent entries)
         by true = unstamped_by (length read.entries) entries few
-        by false = ap (λ (ns : List ℕ). with_stamps ns entries) stamps_follow ∙ restamped_by 0 sent entries (omega (arith, few, length-arrived (stamps_sent plan run to) [] read.entries))
+        by false = ap (λ (xs : List Sent). with_stamps (stamps_behind 0 xs) entries) arrives ∙ restamped_by 0 sent entries (omega (arith, few, length-arrived (stamps_sent plan run to) [] read.entries))
 
     -- settled, the run is the expected run of the actor
     pub finished_is : (definitions : ℕ) → definitions ≡ partial_count (letters_of (stepped plan run to).entries) [] (definitions_of (setting_of plan to run.limits).rules)
@@ -246,36 +188,36 @@ module _ (plan : Plan) (run : Run) (runs : List ActorRun) (many : length run.act
         ∙ (λ i. with_entries own (stamped_in run.version (arrived (stamps_sent plan run to) (sym lines_are i)) own.entries))
 
   -- the runs of all actors
-  finished_from : (to m : ℕ) (reads : List ActorRun) → to + m ≡ length plan.actors → length reads ≡ m → ((k : ℕ) → slice_get run.actors (to + k) ≡ slice_get reads k) → AllByRecursion (λ own. AllByRecursion (λ e. IsCounted (length run.actors) e.source) own.entries) reads
+  finished_from : (to m : ℕ) (reads : List ActorRun) → to + m ≡ length plan.actors → length reads ≡ m → ((k : ℕ) → slice_get run.actors (to + k) ≡ slice_get reads k) → AllByRecursion (λ own. AllByRecursion (λ e. HasLink (length run.actors) e.source) own.entries) reads
       → ((a : ℕ) → definition_count plan a ≡ partial_count (letters_of (stepped plan run a).entries) [] (definitions_of (setting_of plan a run.limits).rules))
       → made.finished_runs plan to (made_runs plan run to m) (made.settlements_of runs run to (made_runs plan run to m) reads) ≡ map (expected_actor plan run) (numbers_from to m)
-  finished_from to zero reads whole count at counted definitions = refl
-  finished_from to (suc m) [] whole count at counted definitions = absurd (omega arith)
-  finished_from to (suc m) (read ∷ reads) whole count at counted definitions =
+  finished_from to zero reads whole count at linked definitions = refl
+  finished_from to (suc m) [] whole count at linked definitions = absurd (omega arith)
+  finished_from to (suc m) (read ∷ reads) whole count at linked definitions =
       let here : to + 0 ≡ to = omega arith in
       let there : slice_get run.actors to ≡ Some read = ap (slice_get run.actors) (sym here) ∙ at 0 in
-      let first = finished_is to read there counted.0 (definition_count plan to) (definitions to) in
-      let later = finished_from (to + 1) m reads (omega (arith, whole)) (omega (arith, count)) (λ k. let moved : to + 1 + k ≡ to + suc k = omega arith in ap (slice_get run.actors) moved ∙ at (suc k)) counted.1 definitions in
+      let first = finished_is to read there linked.0 (definition_count plan to) (definitions to) in
+      let later = finished_from (to + 1) m reads (omega (arith, whole)) (omega (arith, count)) (λ k. let moved : to + 1 + k ≡ to + suc k = omega arith in ap (slice_get run.actors) moved ∙ at (suc k)) linked.1 definitions in
       λ i. first i ∷ later i
 
 pub replay_is : (plan : Plan) (run : Run) (runs : List ActorRun) → IsTyped plan → RunFits plan run → AllRulesFit plan run.limits → runs ≡ made_runs plan run 0 (length plan.actors)
-    → AllByRecursion (λ own. AllByRecursion (λ e. IsCounted (length run.actors) e.source) own.entries) run.actors
+    → AllByRecursion (λ own. AllByRecursion (λ e. HasLink (length run.actors) e.source) own.entries) run.actors
     → made.finished_runs plan 0 runs (made.settlements_of runs run 0 runs run.actors) ≡ (expected_run plan run).actors
-replay_is plan run runs typed fit texts are counted =
+replay_is plan run runs typed fit texts are linked =
     let count : (a : ℕ) → definition_count plan a ≡ partial_count (letters_of (stepped plan run a).entries) [] (definitions_of (setting_of plan a run.limits).rules) =
     λ a.
     let rules : List Rule = (setting_of plan a run.limits).rules in
     let sound = rules_sound plan run.version a typed fit.replies (texts a) in
     sym (cleared_exact (letters_of (stepped plan run a).entries) (definitions_of rules) sound.can_rest ∙ length-map rules (λ (r : Rule). r.definition)) in
     ap (λ (rs : List ActorRun). made.finished_runs plan 0 rs (made.settlements_of runs run 0 rs run.actors)) are
-    ∙ finished_from plan run runs fit.actors are 0 (length plan.actors) run.actors (omega arith) fit.actors (λ k. let e : 0 + k ≡ k = omega arith in ap (slice_get run.actors) e) counted count
+    ∙ finished_from plan run runs fit.actors are 0 (length plan.actors) run.actors (omega arith) fit.actors (λ k. let e : 0 + k ≡ k = omega arith in ap (slice_get run.actors) e) linked count
 
--- each source of a run that fits has its counts
-pub sources_counted : (plan : Plan) (run : Run) → RunFits plan run → AllByRecursion (λ own. AllByRecursion (λ e. IsCounted (length run.actors) e.source) own.entries) run.actors
-sources_counted plan run fit =
-    each_from (ActorRunFits plan run.version run.feeds) (λ (own : ActorRun). AllByRecursion (λ (e : Entry). IsCounted (length run.actors) e.source) own.entries)
-    (λ own h. each_from (EntryFits plan run.version run.feeds) (λ (e : Entry). IsCounted (length run.actors) e.source) (λ e h. counted e.source h.source) own.entries h.entries) run.actors fit.each
+-- each source of a run that fits has a link
+pub sources_linked : (plan : Plan) (run : Run) → RunFits plan run → AllByRecursion (λ own. AllByRecursion (λ e. HasLink (length run.actors) e.source) own.entries) run.actors
+sources_linked plan run fit =
+    each_from (ActorRunFits plan run.version run.feeds) (λ (own : ActorRun). AllByRecursion (λ (e : Entry). HasLink (length run.actors) e.source) own.entries)
+    (λ own h. each_from (EntryFits plan run.version run.feeds) (λ (e : Entry). HasLink (length run.actors) e.source) (λ e h. linked e.source h.source) own.entries h.entries) run.actors fit.each
   where
-    counted : (source : Source) → SourceFits plan run.feeds source → IsCounted (length run.actors) source
-    counted (Feed k) h = tt
-    counted (Actor a) h = omega (arith, h, fit.actors)
+    linked : (source : Source) → SourceFits plan run.feeds source → HasLink (length run.actors) source
+    linked (Feed k) h = tt
+    linked (Actor a) h = omega (arith, h, fit.actors)

@@ -10,13 +10,15 @@ use Rattle.fair_semantics.specs.declared.run.Ending.TheVariants as ending
 use Rattle.fair_semantics.specs.declared.run.Entry.{Entry}
 use Rattle.fair_semantics.specs.declared.run.Limits.{Limits}
 use Rattle.fair_semantics.specs.declared.run.Run.{Run}
-use Rattle.fair_semantics.specs.Linked.{entry_posts, numbers_from, unstamped_entry}
+use Rattle.fair_semantics.specs.Fair.{Sent}
+use Rattle.fair_semantics.specs.Linked.{arrived, entry_posts, numbers_from, unstamped_entry}
+use Rattle.run_order.proofs.ArrivalLemmas.{length-arrived}
 use Rattle.fair_semantics.specs.Step.{is_running}
 use Rattle.log_replay.specs.declared.settling.Settlement.{Settlement}
 use Rattle.log_replay.specs.declared.shared.Shared.{Shared}
 use Rattle.run_order.specs.Sorted.{entries_in}
 use Rattle.log_posts.specs.Posts.{posts_made, stamped_as, with_stamp}
-use Rattle.log_posts.specs.Stamps.{carried_by, next_stamp, stamps_in, stamps_made, taken_after, with_stamps}
+use Rattle.log_posts.specs.Stamps.{next_stamp, posts_from, stamps_behind, stamps_in, with_stamps}
 use Rattle.log_replay.specs.Expected.{with_entries}
 use Rattle.log_posts.specs.Same.{same_entries}
 use Rattle.log_posts.specs.Lates.{lates_made}
@@ -176,17 +178,16 @@ as_shown made run to [] (shared ∷ runs) = refl
 as_shown made run to (read ∷ reads) [] = refl
 as_shown made run to (read ∷ reads) (shared ∷ runs) = ap (λ (ss : List Settlement). settlement_of made run to (shown read shared) read ∷ ss) (as_shown made run (to + 1) reads runs)
 
-stamps_count : (links : List (List Stamped)) (taken : List ℕ) (before : ℕ) (entries : List Entry) → length (stamps_made links taken before entries) ≡ length entries
-stamps_count links taken before [] = refl
-stamps_count links taken before (entry ∷ entries) =
-    ap suc (stamps_count links (taken_after taken entry.source) (next_stamp before (carried_by links taken entry.source)) entries)
+stamps_count : (before : ℕ) (sent : List Sent) → length (stamps_behind before sent) ≡ length sent
+stamps_count before [] = refl
+stamps_count before (one ∷ sent) = ap suc (stamps_count (next_stamp before one.1.stamp) sent)
 
 stamps_enough : (version : ℕ) (links : List (List Stamped)) (entries : List Entry) → length (stamps_in version links entries) ≡ length entries
 stamps_enough version links entries = by (version == 1)
   where
-    by : (b : Bool) → length (if b then replicate (length entries) 0 else stamps_made links (replicate (length links) 0) 0 entries) ≡ length entries
+    by : (b : Bool) → length (if b then replicate (length entries) 0 else stamps_behind 0 (arrived (posts_from links) entries)) ≡ length entries
     by true = length-replicate (length entries) 0
-    by false = stamps_count links (replicate (length links) 0) 0 entries
+    by false = stamps_count 0 (arrived (posts_from links) entries) ∙ length-arrived (posts_from links) [] entries
 
 swap_runs : (plan : Plan) (made : List ActorRun) (run : Run) (to : ℕ) (reads owns : List ActorRun)
     → finished_runs plan to (swap_all reads owns) (settlements_of made run to owns reads) ≡ finished_runs plan to owns (settlements_of made run to owns reads)

@@ -1,7 +1,7 @@
 //! What is made of the run that fair steps over the read arrivals show: late counts, stamps and the ending.
 ghost use Rattle.std.specs.Prelude.{◌≡◌, ◌≤◌, length, IfOk};
 ghost use Rattle.std.specs.List.{AllByRecursion};
-ghost use Rattle.log_posts.specs.Stamps.{IsCounted, with_stamps};
+ghost use Rattle.log_posts.specs.Stamps.{HasLink, with_stamps};
 ghost use Rattle.log_replay.specs.Expected.{with_entries};
 ghost use Rattle.log_replay.specs.Settling.{definition_count, links_to, may_be_late, settled_run, settlement_of};
 ghost use Rattle.log_replay.specs.Shared.{finished_all, finished_shared, settlements_shown, shown, shown_all};
@@ -96,7 +96,7 @@ fn settlement_of(
 ) -> Result<Settlement, NoMemory>
     requires few { length run.now.actors ≤ 32 }
     requires feeds { run.now.feeds ≤ 16 }
-    requires exist { AllByRecursion (λ entry. IsCounted (length run.now.actors) entry.source) read.now.entries }
+    requires exist { AllByRecursion (λ entry. HasLink (length run.now.actors) entry.source) read.now.entries }
     ensures { IfOk result (λ s. s ≡ settlement_of (shown_all run.now.actors made.now) run.now to (shown read.now own.now) read.now) }
 {
     let links = links_to(alloc, made, run, to)?;
@@ -110,7 +110,7 @@ fn settlement_of(
         entries,
         links.as_slice(),
     )?;
-    let stamps = stamps_in(alloc, run.version, links.as_slice(), entries)?;
+    let stamps = stamps_in(alloc, run.version, links, entries)?;
     Ok(Settlement { late, stamps })
 }
 
@@ -168,7 +168,7 @@ pub(crate) fn settlements_of(
     requires few { length run.now.actors ≤ 32 }
     requires feeds { run.now.feeds ≤ 16 }
     requires many { length made.now ≡ length run.now.actors }
-    requires exist { AllByRecursion (λ own. AllByRecursion (λ entry. IsCounted (length run.now.actors) entry.source) own.entries) run.now.actors }
+    requires exist { AllByRecursion (λ own. AllByRecursion (λ entry. HasLink (length run.now.actors) entry.source) own.entries) run.now.actors }
     ensures { IfOk result (λ ss. ss ≡ settlements_shown (shown_all run.now.actors made.now) run.now 0 made.now run.now.actors) }
 {
     let mut settlements = Items::new(alloc);

@@ -1,7 +1,7 @@
 use Rattle.std.proofs.Common.{◌∙◌, length, ap, subst, sym}
 use Rattle.fair_semantics.specs.Fits.{RunFits}
 use Rattle.log_replay.proofs.MadeLemmas.{expected_fits}
-use Rattle.log_replay.proofs.SettledLemmas.{sources_counted}
+use Rattle.log_replay.proofs.SettledLemmas.{sources_linked}
 use Rattle.log_replay.proofs.WholeLemmas.{replayed_whole, settled_many, whole_many}
 use Rattle.log_replay.proofs.expected.replay.Goals as goal
 
@@ -9,7 +9,7 @@ pub settlements_of-requires-clause-many : goal.settlements_of-requires-clause-ma
 settlements_of-requires-clause-many g c = ap length c.as_slice.ensures.same ∙ whole_many c.args.plan.now c.args.run.now c.in_ok-made.made c.requires.fits c.in_ok-made.ensures.runs
 
 pub settlements_of-requires-clause-exist : goal.settlements_of-requires-clause-exist
-settlements_of-requires-clause-exist g c = sources_counted c.args.plan.now c.args.run.now c.requires.fits
+settlements_of-requires-clause-exist g c = sources_linked c.args.plan.now c.args.run.now c.requires.fits
 
 pub finished_runs-requires : goal.finished_runs-requires
 finished_runs-requires g c =

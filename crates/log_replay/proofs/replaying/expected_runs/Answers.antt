@@ -4,14 +4,14 @@ use Rattle.fair_semantics.specs.Fits.{RunFits}
 use Rattle.log_replay.specs.Shared.{kept_run, shown_all}
 use Rattle.log_replay.proofs.MadeLemmas.{expected_fits}
 use Rattle.log_replay.proofs.ReplayLemmas.{finished_count, kept_settle, replayed, runs_count, settlements_count}
-use Rattle.log_replay.proofs.SettledLemmas.{sources_counted}
+use Rattle.log_replay.proofs.SettledLemmas.{sources_linked}
 use Rattle.log_replay.proofs.replaying.expected_runs.Goals as goal
 
 pub settlements_of-requires-clause-many : goal.settlements_of-requires-clause-many
 settlements_of-requires-clause-many c = ap length (c.as_slice.ensures.same ∙ c.requires.made) ∙ runs_count (kept_run c.args.plan.now c.args.run.now) (length c.args.plan.now.actors) ∙ sym c.requires.fits.actors
 
 pub settlements_of-requires-clause-exist : goal.settlements_of-requires-clause-exist
-settlements_of-requires-clause-exist c = sources_counted c.args.plan.now c.args.run.now c.requires.fits
+settlements_of-requires-clause-exist c = sources_linked c.args.plan.now c.args.run.now c.requires.fits
 
 pub finished_runs-requires : goal.finished_runs-requires
 finished_runs-requires c =
