@@ -1,10 +1,9 @@
 -- Settled, the run that the fair steps over the read arrivals show is the expected run of the actor.
-use Rattle.std.proofs.Common.{◌≡◌, ◌∙◌, ℕ, zero, suc, ◌+◌, ◌-◌, ◌^◌, ◌<◌, ◌≤◌, min, List, [], ◌∷◌, ◌++◌, length, length-append, map, Bool, true, false, Some, slice_get, refl, sym, ap, subst, arith}
-use Rattle.std.specs.Prelude.{if◌then◌else◌, nat_lt, not, replicate, slice_index, slice_set, ◌&&◌, ◌||◌, ◌==◌}
+use Rattle.std.proofs.Common.{◌≡◌, ◌∙◌, ℕ, zero, suc, ◌+◌, ◌-◌, ◌^◌, ◌<◌, ◌≤◌, min, List, [], ◌∷◌, ◌++◌, length, length-append, map, Bool, true, false, Some, slice_get, refl, sym, ap, arith}
+use Rattle.std.specs.Prelude.{if◌then◌else◌, nat_lt, not, replicate, ◌&&◌, ◌||◌, ◌==◌}
 use Rattle.std.specs.List.{AllByRecursion, list_any}
 use Rattle.std.proofs.lemmas.Bool.Decides.{nat_tests}
-use Rattle.std.proofs.lemmas.List.{length-map, length-replicate, length-set}
-use Rattle.std.proofs.lemmas.Bool.{eqb-true}
+use Rattle.std.proofs.lemmas.List.{length-map}
 use Rattle.join_base.specs.Late.{Late, late_counts, late_list}
 use Rattle.join_base.specs.declared.message.Source.{Source}
 use Rattle.join_base.specs.declared.message.Source.TheVariants.{Feed, Actor}
@@ -23,19 +22,17 @@ use Rattle.run_fits.proofs.LawLemmas.{rules_sound}
 use Rattle.run_fits.proofs.RestLemmas.{cleared_exact}
 use Rattle.log_replay.specs.Law.{AllRulesFit}
 use Rattle.fair_semantics.specs.Fair.{Sent, run_of, setting_of}
-use Rattle.fair_semantics.specs.Linked.{arrived, arrived_after, numbers_from, same_source, stamp_at, taken_from, unstamped_entry}
+use Rattle.fair_semantics.specs.Linked.{arrived, arrived_after, numbers_from, stamp_at, taken_from, unstamped_entry}
 use Rattle.fair_semantics.specs.Step.{State, definitions_of, is_running, letters_of}
 use Rattle.run_order.proofs.ArrivalLemmas.{length-arrived}
 use Rattle.run_order.specs.Sorted.{entries_in}
 use Rattle.log_posts.specs.Lates.{actor_counts, count_where, lates_made}
 use Rattle.log_posts.specs.Posts.{posts_made, with_stamp}
 use Rattle.log_posts.specs.Stamps.{HasLink, link_at, next_stamp, posts_from, stamps_behind, stamps_in, with_stamps}
-use Rattle.log_posts.proofs.SameLemmas.{itself}
 use Rattle.log_replay.specs.Expected.{expected_actor, expected_late, expected_posts, expected_run, late_in, may_be_late, posts_beyond, read_entries, read_late, restamped, settled, some_late, stamped_in, stamps_sent, stepped, with_entries}
 use Rattle.log_replay.specs.Settling as made
 use Rattle.log_replay.specs.Settling.{definition_count, links_to, made_run, made_runs}
 use Rattle.log_replay.proofs.ConverseLemmas.{count_numbers}
-use Rattle.log_replay.proofs.KeepsLemmas.{taken_more, taken_same}
 use Rattle.log_replay.proofs.ReadLemmas.{get_numbers}
 use Rattle.log_replay.proofs.SectionLemmas.{few_stepped}
 use Rattle.log_replay.proofs.EndingLemmas.{settled_entries}
