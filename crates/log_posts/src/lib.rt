@@ -17,6 +17,6 @@ mod same;
 mod stamps;
 
 pub use lates::{is_from, lates_made};
-pub use posts::{Link, Posted, has_message};
+pub use posts::{Link, Posted, effects_of, has_message};
 pub use same::{same_entries, same_fired};
 pub use stamps::{stamps_in, with_stamps};

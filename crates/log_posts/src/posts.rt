@@ -71,7 +71,8 @@ fn first_post<'a>(effects: &'a [Effect], to: u32, stamp: u64) -> Option<(Posted<
     None
 }
 
-fn effects_of<'a>(fired: &'a Fired) -> &'a [Effect]
+/// The effects of a firing, or none where nothing fired.
+pub fn effects_of<'a>(fired: &'a Fired) -> &'a [Effect]
     ensures { result.now ≡ firing_effects fired.now }
 {
     match fired.get() {

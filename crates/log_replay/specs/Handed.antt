@@ -4,11 +4,14 @@ use Rattle.std.specs.List.{AllByRecursion}
 use Rattle.join_base.specs.Late.{HasCount}
 use Rattle.script_types.specs.declared.plan.Plan.{Plan}
 use Rattle.fair_semantics.specs.declared.run.ActorRun.{ActorRun}
+use Rattle.fair_semantics.specs.declared.run.Effect.{Effect}
+use Rattle.fair_semantics.specs.declared.run.Effect.TheVariants.{Print, Post, Reply}
 use Rattle.fair_semantics.specs.declared.run.Entry.{Entry}
 use Rattle.fair_semantics.specs.declared.run.Firing.{Firing}
 use Rattle.fair_semantics.specs.declared.run.Limits.{Limits}
 use Rattle.fair_semantics.specs.declared.run.Run.{Run}
 use Rattle.fair_semantics.specs.Fair.{fair_run}
+use Rattle.fair_semantics.specs.Linked.{firing_effects}
 use Rattle.fair_semantics.specs.Step.{opening}
 use Rattle.log_replay.specs.declared.handed.Made.{Made}
 use Rattle.log_replay.specs.declared.handed.Remade.{Remade}
@@ -28,6 +31,18 @@ fired_as (Some own) firing = same_fired own firing
 -- whether the last of the entries, of which there were so many before, has this number and firing
 abbrev pub is_recorded : List Entry → ℕ → ℕ → Option Firing → Bool
 is_recorded entries before number firing = nat_lt before number && (length entries == number && fired_as (slice_get (map (λ (e : Entry). e.firing) entries) before) firing)
+
+-- the effects of a firing, where there is one
+abbrev pub effects_at : Option (Option Firing) → List Effect
+effects_at None = []
+effects_at (Some firing) = firing_effects firing
+
+-- the actor that an effect posts to, where there is one
+abbrev pub target_at : Option Effect → Option ℕ
+target_at None = None
+target_at (Some (Print text)) = None
+target_at (Some (Post target message)) = Some target
+target_at (Some (Reply number value)) = None
 
 -- a new actor counts late messages of the source of each of the entries
 abbrev pub AreCounted : Plan → ℕ → List Entry → Type 0

@@ -46,7 +46,6 @@ fn arrives_as_read<L: Ledger>(
 ) -> Result<bool, NoMemory>
     requires exists { HasCount actor.old.state.late entry.source }
     requires many { length actor.old.outbox ≡ count }
-    requires few { count ≤ 32 }
     ensures step { OnOk result (actor.new.state ≡ (fair_step actor.old.setting actor.old.state entry.source entry.message 0).0) }
     ensures setting { actor.new.setting ≡ actor.old.setting }
     ensures sources { OnOk result ((other : Source) → HasCount actor.old.state.late other → HasCount actor.new.state.late other) }

@@ -1,11 +1,12 @@
 //! The expected run of a run.
-ghost use Rattle.std.specs.Prelude.{◌≡◌, ◌+◌, ◌<◌, ◌≤◌, length, map, IfOk, OnOk};
+ghost use Rattle.std.specs.Prelude.{◌≡◌, ◌+◌, ◌-◌, ◌<◌, ◌≤◌, length, map, slice_get, IfOk, OnOk};
 ghost use Rattle.script_types.specs.Typed.{IsTyped};
 ghost use Rattle.fair_semantics.specs.Fair.{run_of, setting_of};
 ghost use Rattle.fair_semantics.specs.Fits.{RunFits};
 ghost use Rattle.fair_semantics.specs.Linked.{numbers_from};
 ghost use Rattle.run_fits.specs.FitsLaw.{RulesFit};
 ghost use Rattle.log_replay.specs.Expected.{expected_run, stepped};
+ghost use Rattle.log_replay.specs.Handed.{effects_at, target_at};
 ghost use Rattle.log_replay.specs.Law.{AllRulesFit};
 ghost use Rattle.log_replay.specs.Settling.{made_run};
 ghost use Rattle.log_replay.specs.Shared.{kept_run, kept_runs, shown_run};
@@ -14,26 +15,49 @@ use crate::kept::entries_at;
 use crate::settling::{finished_runs, settlements_of};
 use crate::shared::{Shared, kept};
 use actor_turn::Actor;
-use fair_semantics::{ActorRun, Outcome, Run};
+use fair_semantics::{ActorRun, Effect, Fired, Outcome, Run};
 use join_base::{Items, NoMemory, Steps};
+use log_posts::effects_of;
 use script_types::Plan;
 use std::alloc::Global;
 use std::sync::ledger::Ledger;
 
-// Lets go of the posts that wait for an actor of the plan.
-fn forget_posts(actor: &mut Actor, target: u32)
-    requires exists { target < length actor.old.outbox }
-    ensures state { actor.new.state ≡ actor.old.state }
-    ensures setting { actor.new.setting ≡ actor.old.setting }
-    ensures many { length actor.new.outbox ≡ length actor.old.outbox }
+// The effects of the last of the firings, if there is one.
+fn last_effects(firings: &[Fired]) -> &[Effect]
+    ensures { result.now ≡ effects_at (slice_get firings.now (length firings.now - 1)) }
 {
-    'posts: while let Some(_) = actor.take_post(target) {}
+    match firings.last() {
+        Some(fired) => effects_of(fired),
+        None => &[],
+    }
 }
 
-// Lets go of all posts that wait, where there may be some. Nobody takes them here.
+// The actor that the effect at this place posts to, if there is one.
+fn target_at(effects: &[Effect], place: usize) -> Option<u32>
+    ensures { result ≡ target_at (slice_get effects.now place) }
+{
+    match effects.get(place) {
+        Some(Effect::Post { target, .. }) => Some(*target),
+        _ => None,
+    }
+}
+
+// Lets go of the first post that waits for an actor, if it is one of so many.
+fn forget_post(actor: &mut Actor, target: u32, count: usize)
+    requires many { length actor.old.outbox ≡ count }
+    ensures state { actor.new.state ≡ actor.old.state }
+    ensures setting { actor.new.setting ≡ actor.old.setting }
+    ensures many { length actor.new.outbox ≡ count }
+{
+    if (target as usize) < count {
+        let _ = actor.take_post(target);
+    }
+}
+
+// Lets go of the posts of an arrival that fired: as many as its effects made, and no others wait. Nobody takes them
+// here.
 pub(crate) fn forget_fired(actor: &mut Actor, outcome: Outcome, count: usize)
     requires many { length actor.old.outbox ≡ count }
-    requires few { count ≤ 32 }
     ensures state { actor.new.state ≡ actor.old.state }
     ensures setting { actor.new.setting ≡ actor.old.setting }
     ensures many { length actor.new.outbox ≡ count }
@@ -41,10 +65,10 @@ pub(crate) fn forget_fired(actor: &mut Actor, outcome: Outcome, count: usize)
     if outcome != Outcome::Fired {
         return;
     }
-    let mut target: u32 = 0;
-    while (target as usize) < count {
-        forget_posts(actor, target);
-        target += 1;
+    for place in 0..last_effects(actor.firings()).len() {
+        if let Some(target) = target_at(last_effects(actor.firings()), place) {
+            forget_post(actor, target, count);
+        }
     }
 }
 

@@ -5,9 +5,10 @@ use Rattle.actor_turn.proofs.PostsLemmas.{length-posts_behind}
 use Rattle.log_replay.proofs.HandedLemmas.{as_read}
 use Rattle.log_replay.proofs.handed.arrives_as_read.Goals as goal
 
-pub forget_fired-requires-clause-many : goal.forget_fired-requires-clause-many
-forget_fired-requires-clause-many g c =
-    ap length c.in-Ok.ensures.outbox ∙ length-posts_behind 0 (new_entries c.args.actor.now.state c.receive.new.self.state) c.args.actor.now.outbox ∙ c.requires.many
+pub forget_fired-requires : goal.forget_fired-requires
+forget_fired-requires g c = record {
+  many = ap length c.in-Ok.ensures.outbox ∙ length-posts_behind 0 (new_entries c.args.actor.now.state c.receive.new.self.state) c.args.actor.now.outbox ∙ c.requires.many;
+}
 
 pub returns-in-Ok-clause-as_read : goal.returns-in-Ok-clause-as_read
 returns-in-Ok-clause-as_read g c =

@@ -23,6 +23,7 @@ loop-entry-preserved g c =
     goes_still c.args.plan.now c.args.run.now c.args.index c.arrive.new.self c.forget_fired.new.actor c.entries_at-entry-items.result.now (c.loop-entry.entry-index + 1) next c.forget_fired.ensures.state c.forget_fired.ensures.setting
     in record { left = still.left; setting = still.setting; counted = still.counted; boxes = c.forget_fired.ensures.many ∙ c.len.ensures.count }
 
-pub forget_fired-requires-clause-many : goal.forget_fired-requires-clause-many
-forget_fired-requires-clause-many g c =
-    ap length c.in_ok-outcome.ensures.outbox ∙ length-posts_behind 0 (new_entries c.loop-entry.actor.state c.arrive.new.self.state) c.loop-entry.actor.outbox ∙ c.loop-entry.invariant.boxes ∙ sym c.len.ensures.count
+pub forget_fired-requires : goal.forget_fired-requires
+forget_fired-requires g c = record {
+  many = ap length c.in_ok-outcome.ensures.outbox ∙ length-posts_behind 0 (new_entries c.loop-entry.actor.state c.arrive.new.self.state) c.loop-entry.actor.outbox ∙ c.loop-entry.invariant.boxes ∙ sym c.len.ensures.count;
+}
