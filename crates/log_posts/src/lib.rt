@@ -2,7 +2,7 @@
 //!
 //! - `same_entries` says whether entries are equal but for their stamps, and `same_fired` whether firings are.
 //! - A `Link` has the posts from one actor to another, and gives one after the other. `has_message` says whether a post
-//!   is the one that arrived, and `is_from` whether an arrival is from an actor.
+//!   is the one that arrived, `is_from` whether an arrival is from an actor, and `effects_of` what a firing did.
 //! - `lates_made` makes the late counts of an actor and `stamps_in` the stamps of its arrivals, both by the links to
 //!   it. `with_stamps` puts stamps in place of those of entries.
 //!
