@@ -120,8 +120,8 @@ fn push_actors(
 }
 
 /// The late counts above 0 of an actor, where there may be some: of the feeds those that were read, and of the actors
-/// their posts beyond those that arrived. The entries are those of the actor, and the links the posts to it from each
-/// actor: up to 16 feeds and 32 actors.
+/// their posts beyond those that arrived, each up to the last 64-bit number. The entries are those of the actor, and
+/// the links the posts to it from each actor: up to 16 feeds and 32 actors.
 pub fn lates_made(
     alloc: Global,
     may: bool,

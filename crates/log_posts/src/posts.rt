@@ -25,6 +25,7 @@ impl<'a> Model for Posted<'a> {
 }
 
 impl<'a> Posted<'a> {
+    /// The stamp that the post carries.
     pub fn stamp(&self) -> u64
         ensures { result ≡ self.now.stamp }
     {

@@ -58,7 +58,8 @@ fn stamps_made(alloc: Global, links: Items<Link>, entries: &[Entry]) -> Result<I
 }
 
 /// The stamps of the arrivals of an actor, in order, by the posts to it from each actor, which are taken one after the
-/// other. A plain log has none, so each is 0 there. An arrival from an actor is from one of these.
+/// other: each is 1 more than the greater of the one before and that of the post, or 1 where no stamp is left. A plain
+/// log has none, so each is 0 there. An arrival from an actor is from one of these.
 pub fn stamps_in(
     alloc: Global,
     version: LogVersion,

@@ -21,7 +21,7 @@ use Rattle.arrival_log.specs.LogText.{end_line, late_line}
 use Rattle.run_order.specs.Sorted.{entries_in}
 use Rattle.log_replay.specs.Expected.{expected_posts, expected_run, read_entries}
 use Rattle.log_replay.specs.Fault.{Line, IsPosted, Keeps, LacksNone, ends, entries_lines, entry_lines, firing_texts, lines_of, other_line, section_lines, sections_from, texts_of}
-use Rattle.log_replay.specs.Law.{FeedsFit, LinkedIsAccepted, LinkedIsExpected}
+use Rattle.log_replay.specs.Law.{AllPostsFit, LinkedIsAccepted, LinkedIsExpected}
 use Rattle.log_replay.proofs.SizeLemmas.{contains_actor}
 use Rattle.log_replay.proofs.ActorLemmas.{expected_is}
 use Rattle.log_replay.proofs.BoundLemmas.{actor_fits}
@@ -120,7 +120,7 @@ module _ (plan : Plan) (run : Run) where
 
 -- ---- the sections of a linked run
 
-module _ (plan : Plan) (feeds : List (List (ℕ × Message))) (run : Run) (linked : IsLinked plan run.limits feeds run) (few_actors : length plan.actors ≤ 32) (fit : FeedsFit plan feeds) (actor : ℕ) (own : ActorRun) (there : slice_get run.actors actor ≡ Some own) where
+module _ (plan : Plan) (feeds : List (List (ℕ × Message))) (run : Run) (linked : IsLinked plan run.limits feeds run) (few_actors : length plan.actors ≤ 32) (fit : AllPostsFit plan feeds) (actor : ℕ) (own : ActorRun) (there : slice_get run.actors actor ≡ Some own) where
   posted : (earlier more : List Entry) (entry : Entry) → own.entries ≡ earlier ++ entry ∷ more → IsPosted plan run actor earlier entry
   posted earlier more entry is from source =
       let fits : AllByRecursion (EntryFits plan run.version run.feeds) own.entries = (actor_fits plan feeds run linked few_actors fit actor own there).entries in

@@ -20,16 +20,16 @@ abbrev pub LinesAreText : Type 0
 LinesAreText = (plan : Plan) (run : Run) → flat_map (λ (l : Line). l.text) (lines_of plan run) ≡ log_text plan run
 
 -- each message of the feeds fits the plan
-abbrev pub FeedsFit : Plan → List (List (ℕ × Message)) → Type 0
-FeedsFit plan feeds = AllByRecursion (AllByRecursion (PostFits plan)) feeds
+abbrev pub AllPostsFit : Plan → List (List (ℕ × Message)) → Type 0
+AllPostsFit plan feeds = AllByRecursion (AllByRecursion (PostFits plan)) feeds
 
 -- a run that is linked to feeds that fit is its own expected run
 abbrev pub LinkedIsExpected : Type 0
-LinkedIsExpected = (plan : Plan) (limits : Limits) (feeds : List (List (ℕ × Message))) (run : Run) → IsTyped plan → FeedsFit plan feeds → IsLinked plan limits feeds run → expected_run plan run ≡ run
+LinkedIsExpected = (plan : Plan) (limits : Limits) (feeds : List (List (ℕ × Message))) (run : Run) → IsTyped plan → AllPostsFit plan feeds → IsLinked plan limits feeds run → expected_run plan run ≡ run
 
 -- no line of its log text is in fault
 abbrev pub LinkedIsAccepted : Type 0
-LinkedIsAccepted = (plan : Plan) (limits : Limits) (feeds : List (List (ℕ × Message))) (run : Run) → IsTyped plan → FeedsFit plan feeds → IsLinked plan limits feeds run → IsAccepted plan run
+LinkedIsAccepted = (plan : Plan) (limits : Limits) (feeds : List (List (ℕ × Message))) (run : Run) → IsTyped plan → AllPostsFit plan feeds → IsLinked plan limits feeds run → IsAccepted plan run
 
 -- a run that fits the plan, is its own expected run and has no line in fault is linked to the feeds that it shows
 abbrev pub ExpectedIsLinked : Type 0

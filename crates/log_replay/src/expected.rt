@@ -50,10 +50,10 @@ fn own_runs(alloc: Global, shared: Items<Shared>) -> Result<Items<ActorRun>, NoM
     Ok(runs)
 }
 
-/// The expected run of a run: what its actors do by the fair step with the sources and messages of its arrivals, in
-/// order, under its limits. It has their entries, firings and effects, what is left and the partial matches, late
-/// counts, endings and, in version 2, stamps. It fits the plan, so that `print_log` gives its log: what the log of the
-/// run should have said.
+/// The expected run of a run of a well typed plan: what its actors do by the fair step with the sources and messages of
+/// its arrivals, in order, under its limits. It has their entries, firings and effects, what is left and the partial
+/// matches, late counts, endings and, in version 2, stamps. It fits the plan, so that `print_log` gives its log: what
+/// the log of the run should have said.
 ///
 /// The run that was read stays as it is, and no entry of it is copied: beside it, the memory is that of the expected
 /// run.
