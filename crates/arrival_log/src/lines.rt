@@ -1,4 +1,5 @@
-//! The lines of a log. Each function appends what its name says, and without memory some of it may stay appended.
+//! The lines of a log. Each function appends what its name says. Behind `NoMemory` nothing is said of the bytes: some of
+//! it may stay appended.
 ghost use Rattle.std.specs.Prelude.{◌≡◌, ◌≤◌, ◌++◌, drop, OnOk};
 ghost use Rattle.std.specs.List.{flat_map};
 ghost use Rattle.arrival_log.specs.LogText.{actor_lines, arrival_line, effect_line, end_line, entry_lines, fire_line, firing_lines, head_line, heading_line, last_lines, late_line, stamped};
