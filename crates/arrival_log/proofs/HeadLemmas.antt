@@ -1,5 +1,7 @@
 -- A first line and an arrival's line from the pieces that they are written in.
-use Rattle.std.proofs.Common.{◌≡◌, ◌∙◌, List, ℕ, [], ◌∷◌, ◌++◌, ℕ, Bool, true, false, append-nil, append_assoc, ap, sym}
+use Rattle.std.proofs.Common.{◌≡◌, ◌∙◌, List, ℕ, [], ◌∷◌, ◌++◌, ℕ, Bool, true, false, length, take, drop, append-nil, append_assoc, ap, sym}
+use Rattle.std.proofs.Math.Seq.{take-append_seam}
+use Rattle.std.proofs.lemmas.List.{take-append-drop}
 use Rattle.std.specs.Prelude.{codes, ◌==◌, if◌then◌else◌}
 use Rattle.std.specs.Fmt.{decimal}
 use Rattle.join_base.specs.declared.message.Source.{Source}
@@ -74,3 +76,10 @@ reply_before number value rest = simp append_assoc
 -- a line that was put at the end of the room is appended
 pub line_pushed : (text line now put rest : List ℕ) → rest ≡ [] → put ≡ line ++ rest → now ≡ text ++ put → now ≡ text ++ line
 line_pushed text line now put rest nothing put_is now_is = now_is ∙ ap (λ (piece : List ℕ). text ++ piece) (put_is ∙ ap (λ (piece : List ℕ). line ++ piece) nothing ∙ append-nil line)
+
+-- what begins with a text and a piece begins with the text
+pub kept_behind : (start piece now : List ℕ) → take (length (start ++ piece)) now ≡ start ++ piece → take (length start) now ≡ start
+kept_behind start piece now kept =
+    let rest : List ℕ = drop (length (start ++ piece)) now in
+    ap (take (length start)) (sym (take-append-drop (length (start ++ piece)) now) ∙ ap (λ (front : List ℕ). front ++ rest) kept ∙ append_assoc start piece rest)
+    ∙ take-append_seam start (piece ++ rest)

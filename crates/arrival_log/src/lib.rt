@@ -4,7 +4,7 @@
 //!   as they were.
 //! - `write_head` and `write_actor` append its first line and the section of an actor, and `write_heading`,
 //!   `write_entry` and `write_last_lines` the parts of a section, for a caller that wants the text piece by piece.
-//!   Behind `NoMemory` nothing is said of the bytes: some of a piece may stay appended.
+//!   Without memory what stood before stays, and some of a piece may stay appended.
 //! - `needs_no_escape` says whether a text is its own quoted form but for the quotes.
 //!
 //! A contract sees the text as a function of the plan and the run, `log_text` (specs/LogText), and its pieces as

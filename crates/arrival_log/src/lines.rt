@@ -1,6 +1,6 @@
-//! The lines of a log. Each function appends what its name says. Behind `NoMemory` nothing is said of the bytes: some of
-//! it may stay appended.
-ghost use Rattle.std.specs.Prelude.{◌≡◌, ◌≤◌, ◌++◌, drop, OnOk};
+//! The lines of a log. Each function appends what its name says. Without memory what stood before stays, and some of it
+//! may stay appended.
+ghost use Rattle.std.specs.Prelude.{◌≡◌, ◌≤◌, ◌++◌, drop, OnOk, OnErr, length, take};
 ghost use Rattle.std.specs.List.{flat_map};
 ghost use Rattle.arrival_log.specs.LogText.{actor_lines, arrival_line, effect_line, end_line, entry_lines, fire_line, firing_lines, head_line, heading_line, last_lines, late_line, stamped};
 
@@ -15,7 +15,8 @@ use script_types::{ActorPlan, Plan, write_actor_name};
 
 /// Appends the first line of the log of a run.
 pub fn write_head(text: &mut Bytes, run: &Run) -> Result<(), NoMemory>
-    ensures { OnOk result (text.new ≡ text.old ++ head_line run.now) }
+    ensures ok { OnOk result (text.new ≡ text.old ++ head_line run.now) }
+    ensures err { OnErr result (take (length text.old) text.new ≡ text.old) }
 {
     write_labelled(text, b"joinlog ", u64::from(run.version.number()))?;
     write_labelled(text, b" arrivals ", u64::from(run.limits.arrivals))?;
@@ -28,7 +29,8 @@ pub fn write_head(text: &mut Bytes, run: &Run) -> Result<(), NoMemory>
 #[inline]
 fn push_line(text: &mut Bytes, room: &[u8; ROOM], start: usize) -> Result<(), NoMemory>
     requires within { start ≤ 512 }
-    ensures { OnOk result (text.new ≡ text.old ++ drop start room.now) }
+    ensures ok { OnOk result (text.new ≡ text.old ++ drop start room.now) }
+    ensures err { OnErr result (text.new ≡ text.old) }
 {
     text.push_all(&room[start..])
 }
@@ -40,7 +42,8 @@ fn write_effect(
     plan: &Plan,
     effect: &Effect,
 ) -> Result<(), NoMemory>
-    ensures { OnOk result (text.new ≡ text.old ++ effect_line plan.now effect.now) }
+    ensures ok { OnOk result (text.new ≡ text.old ++ effect_line plan.now effect.now) }
+    ensures err { OnErr result (take (length text.old) text.new ≡ text.old) }
 {
     if let Some(start) = put_effect(room, ROOM, plan, effect) {
         return push_line(text, room, start);
@@ -72,7 +75,8 @@ fn write_effects(
     plan: &Plan,
     effects: &[Effect],
 ) -> Result<(), NoMemory>
-    ensures { OnOk result (text.new ≡ text.old ++ flat_map (effect_line plan.now) effects.now) }
+    ensures ok { OnOk result (text.new ≡ text.old ++ flat_map (effect_line plan.now) effects.now) }
+    ensures err { OnErr result (take (length text.old) text.new ≡ text.old) }
 {
     for effect in effects {
         write_effect(text, room, plan, effect)?;
@@ -81,7 +85,8 @@ fn write_effects(
 }
 
 fn write_fire(text: &mut Bytes, room: &mut [u8; ROOM], firing: &Firing) -> Result<(), NoMemory>
-    ensures { OnOk result (text.new ≡ text.old ++ fire_line firing.now) }
+    ensures ok { OnOk result (text.new ≡ text.old ++ fire_line firing.now) }
+    ensures err { OnErr result (take (length text.old) text.new ≡ text.old) }
 {
     let start = put_fire(room, ROOM, firing);
     push_line(text, room, start)
@@ -94,7 +99,8 @@ fn write_firing(
     plan: &Plan,
     fired: &Fired,
 ) -> Result<(), NoMemory>
-    ensures { OnOk result (text.new ≡ text.old ++ firing_lines plan.now fired.now) }
+    ensures ok { OnOk result (text.new ≡ text.old ++ firing_lines plan.now fired.now) }
+    ensures err { OnErr result (take (length text.old) text.new ≡ text.old) }
 {
     match fired.get() {
         Some(firing) => {
@@ -114,7 +120,8 @@ fn write_arrival(
     entry: &Entry,
     stamp: u64,
 ) -> Result<(), NoMemory>
-    ensures { OnOk result (text.new ≡ text.old ++ arrival_line plan.now version (stamped entry.now stamp)) }
+    ensures ok { OnOk result (text.new ≡ text.old ++ arrival_line plan.now version (stamped entry.now stamp)) }
+    ensures err { OnErr result (take (length text.old) text.new ≡ text.old) }
 {
     if let Some(start) = put_arrival(room, ROOM, plan, version, entry, stamp) {
         return push_line(text, room, start);
@@ -134,7 +141,8 @@ fn write_entry_in(
     entry: &Entry,
     stamp: u64,
 ) -> Result<(), NoMemory>
-    ensures { OnOk result (text.new ≡ text.old ++ entry_lines plan.now version (stamped entry.now stamp)) }
+    ensures ok { OnOk result (text.new ≡ text.old ++ entry_lines plan.now version (stamped entry.now stamp)) }
+    ensures err { OnErr result (take (length text.old) text.new ≡ text.old) }
 {
     if let Some(start) = put_entry(room, plan, version, entry, stamp) {
         return push_line(text, room, start);
@@ -151,7 +159,8 @@ pub fn write_entry(
     entry: &Entry,
     stamp: u64,
 ) -> Result<(), NoMemory>
-    ensures { OnOk result (text.new ≡ text.old ++ entry_lines plan.now version (stamped entry.now stamp)) }
+    ensures ok { OnOk result (text.new ≡ text.old ++ entry_lines plan.now version (stamped entry.now stamp)) }
+    ensures err { OnErr result (take (length text.old) text.new ≡ text.old) }
 {
     let mut room = [0; ROOM];
     write_entry_in(text, &mut room, plan, version, entry, stamp)
@@ -163,7 +172,8 @@ fn write_entries(
     version: LogVersion,
     entries: &[Entry],
 ) -> Result<(), NoMemory>
-    ensures { OnOk result (text.new ≡ text.old ++ flat_map (entry_lines plan.now version) entries.now) }
+    ensures ok { OnOk result (text.new ≡ text.old ++ flat_map (entry_lines plan.now version) entries.now) }
+    ensures err { OnErr result (take (length text.old) text.new ≡ text.old) }
 {
     let mut room = [0; ROOM];
     for entry in entries {
@@ -173,7 +183,8 @@ fn write_entries(
 }
 
 fn write_late(text: &mut Bytes, plan: &Plan, source: Source, count: u64) -> Result<(), NoMemory>
-    ensures { OnOk result (text.new ≡ text.old ++ late_line plan.now (source, count)) }
+    ensures ok { OnOk result (text.new ≡ text.old ++ late_line plan.now (source, count)) }
+    ensures err { OnErr result (take (length text.old) text.new ≡ text.old) }
 {
     text.push_all(b"late ")?;
     write_source(text, plan, source)?;
@@ -183,7 +194,8 @@ fn write_late(text: &mut Bytes, plan: &Plan, source: Source, count: u64) -> Resu
 }
 
 fn write_lates(text: &mut Bytes, plan: &Plan, late: &[(Source, u64)]) -> Result<(), NoMemory>
-    ensures { OnOk result (text.new ≡ text.old ++ flat_map (late_line plan.now) late.now) }
+    ensures ok { OnOk result (text.new ≡ text.old ++ flat_map (late_line plan.now) late.now) }
+    ensures err { OnErr result (take (length text.old) text.new ≡ text.old) }
 {
     for (source, count) in late {
         write_late(text, plan, *source, *count)?;
@@ -191,8 +203,10 @@ fn write_lates(text: &mut Bytes, plan: &Plan, late: &[(Source, u64)]) -> Result<
     Ok(())
 }
 
+#[tactic(auto, using(crate::proofs::HeadLemmas::kept_behind))]
 fn write_end(text: &mut Bytes, run: &ActorRun) -> Result<(), NoMemory>
-    ensures { OnOk result (text.new ≡ text.old ++ end_line run.now) }
+    ensures ok { OnOk result (text.new ≡ text.old ++ end_line run.now) }
+    ensures err { OnErr result (take (length text.old) text.new ≡ text.old) }
 {
     text.push_all(b"end ")?;
     write_ending(text, run.ending)?;
@@ -204,7 +218,8 @@ fn write_end(text: &mut Bytes, run: &ActorRun) -> Result<(), NoMemory>
 
 /// Appends the first line of an actor's section.
 pub fn write_heading(text: &mut Bytes, actor: &ActorPlan) -> Result<(), NoMemory>
-    ensures { OnOk result (text.new ≡ text.old ++ heading_line actor.now) }
+    ensures ok { OnOk result (text.new ≡ text.old ++ heading_line actor.now) }
+    ensures err { OnErr result (take (length text.old) text.new ≡ text.old) }
 {
     text.push_all(b"actor ")?;
     text.push_all(actor.name.bytes())?;
@@ -213,7 +228,8 @@ pub fn write_heading(text: &mut Bytes, actor: &ActorPlan) -> Result<(), NoMemory
 
 /// Appends the lines of an actor's section behind those of its entries.
 pub fn write_last_lines(text: &mut Bytes, plan: &Plan, run: &ActorRun) -> Result<(), NoMemory>
-    ensures { OnOk result (text.new ≡ text.old ++ last_lines plan.now run.now) }
+    ensures ok { OnOk result (text.new ≡ text.old ++ last_lines plan.now run.now) }
+    ensures err { OnErr result (take (length text.old) text.new ≡ text.old) }
 {
     write_lates(text, plan, run.late.as_slice())?;
     write_end(text, run)
@@ -227,7 +243,8 @@ pub fn write_actor(
     actor: &ActorPlan,
     run: &ActorRun,
 ) -> Result<(), NoMemory>
-    ensures { OnOk result (text.new ≡ text.old ++ actor_lines plan.now version actor.now run.now) }
+    ensures ok { OnOk result (text.new ≡ text.old ++ actor_lines plan.now version actor.now run.now) }
+    ensures err { OnErr result (take (length text.old) text.new ≡ text.old) }
 {
     write_heading(text, actor)?;
     write_entries(text, plan, version, run.entries.as_slice())?;

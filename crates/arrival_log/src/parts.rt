@@ -1,5 +1,6 @@
-//! The parts of a line. Each function appends one part, and without memory some of it may stay appended.
-ghost use Rattle.std.specs.Prelude.{◌≡◌, ◌++◌, ◌∷◌, [], map, OnOk};
+//! The parts of a line. Each function appends one part. Without memory what stood before stays, and some of the part may
+//! stay appended.
+ghost use Rattle.std.specs.Prelude.{◌≡◌, ◌++◌, ◌∷◌, [], map, OnOk, OnErr, length, take};
 ghost use Rattle.std.specs.Fmt.{decimal};
 ghost use Rattle.arrival_log.specs.Commas.{comma_before};
 ghost use Rattle.arrival_log.specs.LogText.{comma_joined, left_text, ending_text, message_text, source_text, value_text};
@@ -11,7 +12,8 @@ use join_base::{Bytes, Message, NoMemory, Source, Value, write_quoted};
 use script_types::{Plan, write_actor_name, write_kind_name};
 
 pub(crate) fn write_count(text: &mut Bytes, count: u64) -> Result<(), NoMemory>
-    ensures { OnOk result (text.new ≡ text.old ++ decimal count) }
+    ensures ok { OnOk result (text.new ≡ text.old ++ decimal count) }
+    ensures err { OnErr result (text.new ≡ text.old) }
 {
     let mut buffer = Buffer::new();
     text.push_all(buffer.format(count).as_bytes())
@@ -19,7 +21,8 @@ pub(crate) fn write_count(text: &mut Bytes, count: u64) -> Result<(), NoMemory>
 
 // The words before a number, and the number.
 pub(crate) fn write_labelled(text: &mut Bytes, label: &[u8], number: u64) -> Result<(), NoMemory>
-    ensures { OnOk result (text.new ≡ text.old ++ (label.now ++ decimal number)) }
+    ensures ok { OnOk result (text.new ≡ text.old ++ (label.now ++ decimal number)) }
+    ensures err { OnErr result (take (length text.old) text.new ≡ text.old) }
 {
     text.push_all(label)?;
     write_count(text, number)
@@ -27,7 +30,8 @@ pub(crate) fn write_labelled(text: &mut Bytes, label: &[u8], number: u64) -> Res
 
 // `feed K` or `actor NAME`.
 pub(crate) fn write_source(text: &mut Bytes, plan: &Plan, source: Source) -> Result<(), NoMemory>
-    ensures { OnOk result (text.new ≡ text.old ++ source_text plan.now source) }
+    ensures ok { OnOk result (text.new ≡ text.old ++ source_text plan.now source) }
+    ensures err { OnErr result (take (length text.old) text.new ≡ text.old) }
 {
     match source {
         Source::Feed(feed) => {
@@ -43,7 +47,8 @@ pub(crate) fn write_source(text: &mut Bytes, plan: &Plan, source: Source) -> Res
 
 // The comma before the item at a place, which the first lacks.
 fn write_comma(text: &mut Bytes, place: usize) -> Result<(), NoMemory>
-    ensures { OnOk result (text.new ≡ text.old ++ comma_before place) }
+    ensures ok { OnOk result (text.new ≡ text.old ++ comma_before place) }
+    ensures err { OnErr result (text.new ≡ text.old) }
 {
     if place > 0 {
         text.push_all(b",")
@@ -53,7 +58,8 @@ fn write_comma(text: &mut Bytes, place: usize) -> Result<(), NoMemory>
 }
 
 pub(crate) fn write_value(text: &mut Bytes, value: &Value) -> Result<(), NoMemory>
-    ensures { OnOk result (text.new ≡ text.old ++ value_text value.now) }
+    ensures ok { OnOk result (text.new ≡ text.old ++ value_text value.now) }
+    ensures err { OnErr result (text.new ≡ text.old) }
 {
     match value {
         Value::Int(number) => {
@@ -65,7 +71,8 @@ pub(crate) fn write_value(text: &mut Bytes, value: &Value) -> Result<(), NoMemor
 }
 
 fn write_values(text: &mut Bytes, values: &[Value]) -> Result<(), NoMemory>
-    ensures { OnOk result (text.new ≡ text.old ++ comma_joined (map value_text values.now)) }
+    ensures ok { OnOk result (text.new ≡ text.old ++ comma_joined (map value_text values.now)) }
+    ensures err { OnErr result (take (length text.old) text.new ≡ text.old) }
 {
     for (place, value) in values.iter().enumerate() {
         write_comma(text, place)?;
@@ -80,7 +87,8 @@ pub(crate) fn write_message(
     plan: &Plan,
     message: &Message,
 ) -> Result<(), NoMemory>
-    ensures { OnOk result (text.new ≡ text.old ++ (message_text plan.now message.now ++ 10 ∷ [])) }
+    ensures ok { OnOk result (text.new ≡ text.old ++ (message_text plan.now message.now ++ 10 ∷ [])) }
+    ensures err { OnErr result (take (length text.old) text.new ≡ text.old) }
 {
     write_kind_name(text, plan, message.kind)?;
     text.push_all(b"(")?;
@@ -89,7 +97,8 @@ pub(crate) fn write_message(
 }
 
 fn write_numbers(text: &mut Bytes, numbers: &[u32]) -> Result<(), NoMemory>
-    ensures { OnOk result (text.new ≡ text.old ++ comma_joined (map (λ n. decimal n) numbers.now)) }
+    ensures ok { OnOk result (text.new ≡ text.old ++ comma_joined (map (λ n. decimal n) numbers.now)) }
+    ensures err { OnErr result (take (length text.old) text.new ≡ text.old) }
 {
     for (place, number) in numbers.iter().enumerate() {
         write_comma(text, place)?;
@@ -100,7 +109,8 @@ fn write_numbers(text: &mut Bytes, numbers: &[u32]) -> Result<(), NoMemory>
 
 // The numbers, or `-` where there is none.
 pub(crate) fn write_left(text: &mut Bytes, left: &[u32]) -> Result<(), NoMemory>
-    ensures { OnOk result (text.new ≡ text.old ++ left_text left.now) }
+    ensures ok { OnOk result (text.new ≡ text.old ++ left_text left.now) }
+    ensures err { OnErr result (take (length text.old) text.new ≡ text.old) }
 {
     if left.is_empty() {
         text.push_all(b"-")
@@ -110,7 +120,8 @@ pub(crate) fn write_left(text: &mut Bytes, left: &[u32]) -> Result<(), NoMemory>
 }
 
 pub(crate) fn write_ending(text: &mut Bytes, ending: Ending) -> Result<(), NoMemory>
-    ensures { OnOk result (text.new ≡ text.old ++ ending_text ending) }
+    ensures ok { OnOk result (text.new ≡ text.old ++ ending_text ending) }
+    ensures err { OnErr result (text.new ≡ text.old) }
 {
     match ending {
         Ending::Running => text.push_all(b"running"),
