@@ -22,5 +22,6 @@ pub mod KeptLemmas
 pub mod ReserveLemmas
 pub mod OnceLemmas
 pub mod ExpireLemmas
+pub mod FallLemmas
 pub mod NextLemmas
 pub mod SampleLemmas

@@ -6,6 +6,7 @@ pub mod Tries
 -- What private functions compute: the nodes of a tree as routes, and what a visit or a prune makes of them.
 pub mod Routes
 pub mod Rows
+pub mod Shapes
 pub mod Smaller
 pub mod Below
 pub mod Order

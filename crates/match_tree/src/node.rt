@@ -5,34 +5,52 @@ use std::collections::VecDeque;
 use std::marker::Model;
 
 /// A node takes a number behind the path to it. For each pattern it has the nodes that go on with a later number there.
+#[cycle(nodes)]
 #[derive(Drop)]
 pub struct Node {
-    pub number: u32,
-    pub rows: Vec<VecDeque<Node>>,
+    pub shape: Shape,
 }
 
+/// Nodes of the last level have none behind them, so that the rows of the others stand apart, and a node takes two
+/// words.
+#[cycle(nodes)]
+#[derive(Drop)]
+pub enum Shape {
+    Leaf(u32),
+    Inner(u32, Box<Vec<VecDeque<Node>>>),
+}
+
+// A message that waits costs a node in each definition that it waits in.
+const _: () = prove!(size_of::<Node>() <= 16);
+
 impl Model for Node {
-    ghost use Rattle.std.specs.Prelude.{◌≤◌, ◌+◌, length, map};
-    ghost use Rattle.match_tree.specs.Routes.{Branch, rows_routes};
+    ghost use Rattle.match_tree.specs.Routes.{Branch};
 
     ghost Value = { Branch };
 
-    ghost view = { λ a. record { number = a.number; routes = rows_routes 0 (map (λ row. row.items) a.rows.items) } };
+    ghost use Rattle.std.specs.Prelude.{◌≤◌, length};
+    ghost use Rattle.match_tree.specs.Routes.{rows_routes};
+    ghost use Rattle.match_tree.specs.Shapes.{number_of, rows_behind};
 
-    ghost invariant = { λ a. length a.rows.items ≤ 8 };
+    ghost view = { λ a. record { number = number_of a.shape; routes = rows_routes 0 (rows_behind a.shape) } };
+
+    ghost invariant = { λ a. length (rows_behind a.shape) ≤ 8 };
 
     ghost size = { λ node. length node.routes };
 
     ghost use Rattle.std.proofs.Common.{arith};
-    ghost use Rattle.match_tree.specs.Smaller.{most_of_rows};
+    ghost use Rattle.match_tree.specs.Smaller.{most_behind};
 
-    ghost size_decreases = { λ a h. Prim.omega (arith, most_of_rows (λ node. length node.routes + 1) (λ node. Prim.omega arith) (λ row. row.items) 0 a.rows.items) };
+    ghost size_decreases = { λ a h. Prim.omega (arith, most_behind a.shape) };
 }
 
 impl Node {
     pub fn number(&self) -> u32
         ensures { result ≡ self.now.number }
     {
-        self.number
+        match self.shape {
+            Shape::Leaf(number) => number,
+            Shape::Inner(number, _) => number,
+        }
     }
 }

@@ -6,7 +6,7 @@ ghost use Rattle.match_tree.specs.Rows.{rows_of};
 ghost use Rattle.match_tree.specs.Order.{IsOrderedNode, IsSoundRow, AreSound, Rise};
 ghost use Rattle.match_tree.specs.Pruned.{AreShort, pruned, without_number, without_numbers};
 
-use crate::node::Node;
+use crate::node::{Node, Shape};
 use join_base::Numbers;
 use std::collections::VecDeque;
 
@@ -51,7 +51,10 @@ fn count_node(node: &Node, levels: usize) -> u64
     requires short { AreShort levels node.now.routes }
     ensures { result ≡ length node.now.routes }
 {
-    count_rows(&node.rows, levels)
+    match &node.shape {
+        Shape::Leaf(_) => 0,
+        Shape::Inner(_, rows) => count_rows(rows, levels),
+    }
 }
 
 // The place of the node with the number among nodes whose numbers rise.
@@ -167,5 +170,8 @@ fn prune_node(node: &mut Node, numbers: &Numbers, levels: usize) -> u64
     ensures left { node.new ≡ pruned numbers.now node.old }
     ensures gone { result + length node.new.routes ≡ length node.old.routes }
 {
-    prune_rows(&mut node.rows, numbers, levels)
+    match &mut node.shape {
+        Shape::Leaf(_) => 0,
+        Shape::Inner(_, rows) => prune_rows(rows, numbers, levels),
+    }
 }

@@ -13,7 +13,7 @@ ghost use Rattle.match_tree.specs.Growth.{Lasts, Grows};
 ghost use Rattle.match_tree.specs.Begins.{AreLess, Begins, IsLess};
 ghost use Rattle.match_tree.specs.Tries.{tries_behind};
 
-use crate::node::Node;
+use crate::node::{Node, Shape};
 use crate::offer::{Offer, best_match, contains, growing, takers, without};
 use crate::screen::{is_worth, key_of, next_place, screen_of};
 use join_base::{NoMemory, Numbers, Slots, Steps};
@@ -37,12 +37,7 @@ fn grow_rows(alloc: Global, rows: &mut Vec<VecDeque<Node>>, count: usize) -> Res
 }
 
 // A node for the number at the end of a row.
-fn push_leaf(
-    alloc: Global,
-    row: &mut VecDeque<Node>,
-    number: u32,
-    count: &mut u64,
-) -> Result<(), NoMemory>
+fn push_leaf(row: &mut VecDeque<Node>, number: u32, count: &mut u64) -> Result<(), NoMemory>
     ensures ok { OnOk result (row.new.items ≡ row.old.items ++ record { number = number; routes = [] } ∷ []) }
     ensures err { OnErr result (row.new.items ≡ row.old.items) }
     ensures counted { OnOk result (count.new ≡ count.old + 1) }
@@ -52,8 +47,7 @@ fn push_leaf(
         return Err(NoMemory);
     };
     row.push_back(Node {
-        number,
-        rows: Vec::new(alloc),
+        shape: Shape::Leaf(number),
     })?;
     *count = more;
     Ok(())
@@ -61,7 +55,6 @@ fn push_leaf(
 
 // Adds a node for the number to the row of a pattern at which it begins, unless there is no memory.
 fn begin_row(
-    alloc: Global,
     offer: &Offer<'_>,
     slots: &Slots,
     pattern: u32,
@@ -83,7 +76,7 @@ fn begin_row(
     if !contains(begun, pattern) {
         return true;
     }
-    match push_leaf(alloc, row, offer.number, count) {
+    match push_leaf(row, offer.number, count) {
         Ok(()) => true,
         Err(_) => false,
     }
@@ -91,7 +84,6 @@ fn begin_row(
 
 // Adds a node for the number to each row of a pattern at which it begins, unless there is no memory.
 fn begin_rows(
-    alloc: Global,
     offer: &Offer<'_>,
     slots: &Slots,
     begun: &Numbers,
@@ -112,7 +104,7 @@ fn begin_rows(
 {
     let mut fits = true;
     for (place, row) in rows.iter_mut().enumerate() {
-        fits &= begin_row(alloc, offer, slots, place as u32, begun, row, count);
+        fits &= begin_row(offer, slots, place as u32, begun, row, count);
     }
     fits
 }
@@ -144,9 +136,85 @@ fn begin(
         return true;
     }
     match grow_rows(alloc, rows, offer.definition.patterns.len()) {
-        Ok(()) => begin_rows(alloc, offer, slots, &begun, rows, count),
+        Ok(()) => begin_rows(offer, slots, &begun, rows, count),
         Err(_) => false,
     }
+}
+
+// Adds nodes for the number to the path that ends at a leaf, where it begins. The answer is whether there was memory for
+// all.
+fn begin_leaf(
+    alloc: Global,
+    offer: &Offer<'_>,
+    slots: &Slots,
+    able: &Numbers,
+    node: &mut Node,
+    count: &mut u64,
+) -> bool
+    requires can { CanOffer (offered offer.now) slots.now }
+    requires able { able.now ≡ takers (offered offer.now) slots.now }
+    requires leaf { node.old.routes ≡ [] }
+    ensures number { node.new.number ≡ node.old.number }
+    ensures ordered { IsOrderedNode node.new }
+    ensures free_left { AreOpen slots.now node.new.routes }
+    ensures lasting { Lasts offer.now.number [] node.new.routes }
+    ensures begins { result ≡ true → Begins offer.now.number (growing (offered offer.now) slots.now) [] node.new.routes }
+    ensures counted { count.new ≡ count.old + length node.new.routes }
+{
+    let before = *count;
+    let mut rows = Vec::new(alloc);
+    let fits = begin(alloc, offer, slots, able, &mut rows, count);
+    if rows.len() == 0 {
+        return fits;
+    }
+    match Box::new(alloc, rows) {
+        Ok(rows) => {
+            node.shape = Shape::Inner(node.number(), rows);
+            fits
+        }
+        Err(_) => {
+            *count = before;
+            false
+        }
+    }
+}
+
+// Offers the number to the path that ends at a leaf, which has no further paths behind it.
+fn visit_leaf<L: Ledger>(
+    alloc: Global,
+    offer: &Offer<'_>,
+    slots: &Slots,
+    wanted: &Numbers,
+    node: &mut Node,
+    count: &mut u64,
+    steps: &mut Steps<L>,
+) -> Result<Option<Candidate>, NoMemory>
+    requires can { CanOffer (offered offer.now) slots.now }
+    requires free { AllByRecursion (MayTry slots.now) wanted.now }
+    requires wanted { filter (may_take (offered offer.now) slots.now) wanted.now ≡ takers (offered offer.now) slots.now }
+    requires leaf { node.old.routes ≡ [] }
+
+    ensures number { node.new.number ≡ node.old.number }
+    ensures ordered { IsOrderedNode node.new }
+    ensures free_left { AreOpen slots.now node.new.routes }
+    ensures lasting { Lasts offer.now.number [] node.new.routes }
+    ensures best { IfOk result (λ b. b ≡ least (new_matches (offered offer.now) slots.now ([] ∷ []))) }
+    ensures grows { IfOk result (λ b. b ≡ None → Grows (offered offer.now) slots.now (growing (offered offer.now) slots.now) [] node.new.routes) }
+    ensures counted { count.new ≡ count.old + length node.new.routes }
+    ensures stepped { steps.new ≡ steps.old + length wanted.now }
+{
+    let here = takers(offer, slots, wanted, steps);
+    if here.len() == 0 {
+        return Ok(None);
+    }
+    let best = best_match(offer, slots, &here);
+    if best.is_some() {
+        return Ok(best);
+    }
+    if !begin_leaf(alloc, offer, slots, &here, node, count) {
+        return Err(NoMemory);
+    }
+    Ok(None)
 }
 
 /// Offers the number to a path and to all that go on from it. The answer is the least match that it completes there, in
@@ -305,5 +373,8 @@ fn visit_node<L: Ledger>(
     ensures counted { count.new + length node.old.routes ≡ count.old + length node.new.routes }
     ensures stepped { steps.new ≤ steps.old + (length wanted.now + tries_behind (offered offer.now) slots.now node.old.routes) }
 {
-    visit_rows(alloc, offer, slots, wanted, &mut node.rows, count, steps)
+    match &mut node.shape {
+        Shape::Leaf(_) => visit_leaf(alloc, offer, slots, wanted, node, count, steps),
+        Shape::Inner(_, rows) => visit_rows(alloc, offer, slots, wanted, rows, count, steps),
+    }
 }

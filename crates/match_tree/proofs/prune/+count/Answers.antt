@@ -1,14 +1,16 @@
 use Rattle.std.specs.declared.collections.VecDeque.{VecDeque}
-use Rattle.std.proofs.Common.{◌≡◌, ◌∙◌, ◌≤◌, ◌<◌, ◌+◌, ◌-◌, ◌^◌, ◌∷◌, ℕ, List, ap, sym, subst, arith, length, drop, get_or, refl, length-append}
+use Rattle.std.proofs.Common.{Vec, ◌≡◌, ◌∙◌, ◌≤◌, ◌<◌, ◌+◌, ◌-◌, ◌^◌, ◌∷◌, ℕ, List, ap, sym, subst, arith, length, drop, get_or, refl, length-append}
 use Rattle.std.specs.declared.alloc.Global.{Global}
 use Rattle.std.proofs.lemmas.List.{drop_more, at_drop_more}
 use Rattle.guard_eval.proofs.ReadyLemmas.{all_left, all_right}
 use denote.Param.Weighed.{at_most, most}
 use Rattle.match_tree.specs.declared.node.Node.{Node}
+use Rattle.match_tree.specs.declared.node.Shape.{Shape}
+use Rattle.match_tree.specs.Shapes.{rows_behind}
 use Rattle.match_tree.specs.declared.node.Node.TheDeep.{size-Node}
-use Rattle.match_tree.specs.declared.node.Node.TheShapes.{weighed-Node-rows-at-1}
+use Rattle.match_tree.specs.declared.node.Node.TheShapes.{weighed-Shape-Inner-1-at-1}
 use Rattle.match_tree.specs.declared.node.Node.TheView.{size}
-use Rattle.match_tree.specs.Smaller.{most_of_rows}
+use Rattle.match_tree.proofs.FallLemmas.{rows_fall}
 use Rattle.match_tree.specs.Routes.{Route, Branch, row_routes, rows_routes, node_routes}
 use Rattle.match_tree.specs.Rows.{rows_of}
 use Rattle.match_tree.specs.Order.{AreOrdered, IsOrderedNode, AreSound}
@@ -21,14 +23,14 @@ use Rattle.match_tree.proofs.prune.+count.Goals as goal
 pub count_node-count_rows-requires : goal.count_node-count_rows-requires
 count_node-count_rows-requires t c =
     let a = c.args in
-    let rows = c.node.inside.rows.items in
-    let same = sym c.deref.ensures.value in
-    let routes_are : rows_routes 0 (rows_of rows) ≡ a.node.now.routes = ap (λ (x : Branch). x.routes) c.node.view_is in
-    let smaller : most (weighed-Node-rows-at-1.weight Node size-Node) rows ≤ length (rows_routes 0 (rows_of rows)) = most_of_rows size-Node (λ x. omega arith) (λ row. row.items) 0 rows in
+    let rows = c.in-Inner.rows.value.items in
+    let same : rows ≡ c.deref-in-Inner.result.now = sym (c.deref-in-Inner.ensures.value ∙ ap (λ (v : Vec (VecDeque Node Global) Global). v.items) c.deref.ensures) in
+    let routes_are : rows_routes 0 (rows_of rows) ≡ a.node.now.routes = sym (ap (λ (shape : Shape). rows_routes 0 (rows_behind shape)) c.in-Inner.is) ∙ ap (λ (x : Branch). x.routes) c.node.view_is in
+    let smaller = rows_fall rows in
     let sized : size a.node.now ≡ length a.node.now.routes = refl in
-    let deep = ap (most (weighed-Node-rows-at-1.weight Node size-Node)) same in
+    let deep = ap (most (weighed-Shape-Inner-1-at-1.weight Node size-Node)) same in
     let count = ap (λ (rs : List Route). length rs) routes_are in
-    let at : (P : List (VecDeque Node Global) → Type 0) → P rows → P c.deref.result.now = λ P p. subst P same p in (
+    let at : (P : List (VecDeque Node Global) → Type 0) → P rows → P c.deref-in-Inner.result.now = λ P p. subst P same p in (
       omega (arith, c.decreases),
       (
         at (λ xs. length (rows_routes 0 (rows_of xs)) < 2 ^ 64) (omega (arith, c.requires.few)),
@@ -79,8 +81,8 @@ count_rows-count_nodes-count-requires t c =
     let routes = ap (rows_routes 0) left in
     let count = ap (λ (rs : List Route). length rs) routes ∙ length-append (row_routes 0 d.items) (rows_routes 1 rest) in
     let short = subst (AreShort a.levels) routes c.loop-row.invariant.short in
-    let deep = at_most (weighed-Node-rows-at-1.weight Node size-Node) a.rows.now i d within in
-    let row_size = ap (weighed-Node-rows-at-1.weight Node size-Node) c.row-item.is in (
+    let deep = at_most (weighed-Shape-Inner-1-at-1.weight Node size-Node) a.rows.now i d within in
+    let row_size = ap (weighed-Shape-Inner-1-at-1.weight Node size-Node) c.row-item.is in (
       omega (arith, c.decreases),
       (omega (arith, c.requires.few, c.loop-row.invariant.counted), ((subst AreSound left c.loop-row.invariant.sound).0, all_left (λ (r : Route). length r ≤ a.levels) (row_routes 0 d.items) (rows_routes 1 rest) short)),
     )

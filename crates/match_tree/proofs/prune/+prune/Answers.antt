@@ -1,5 +1,5 @@
 use Rattle.std.specs.declared.collections.VecDeque.{VecDeque}
-use Rattle.std.proofs.Common.{◌≡◌, ◌∙◌, ◌≤◌, ◌<◌, ◌+◌, ◌-◌, ◌^◌, ◌∷◌, [], ◌++◌, ℕ, List, ap, sym, subst, arith, length, take, get_or, set, map, refl}
+use Rattle.std.proofs.Common.{Vec, ◌≡◌, ◌∙◌, ◌≤◌, ◌<◌, ◌+◌, ◌-◌, ◌^◌, ◌∷◌, [], ◌++◌, ℕ, List, ap, sym, subst, arith, length, take, get_or, set, map, refl}
 use Rattle.std.specs.Prelude.{not}
 use Rattle.std.specs.List.{filter, AllByRecursion}
 use Rattle.std.specs.declared.alloc.Global.{Global}
@@ -7,10 +7,12 @@ use Rattle.std.proofs.lemmas.List.{nil_from_length, get_or_default, take_more, t
 use Rattle.std.proofs.lemmas.List.Elements.{filter-append}
 use denote.Param.Weighed.{at_most, most}
 use Rattle.match_tree.specs.declared.node.Node.{Node}
+use Rattle.match_tree.specs.declared.node.Shape.{Shape}
+use Rattle.match_tree.specs.Shapes.{rows_behind}
 use Rattle.match_tree.specs.declared.node.Node.TheDeep.{size-Node}
-use Rattle.match_tree.specs.declared.node.Node.TheShapes.{weighed-Node-rows-at-1}
+use Rattle.match_tree.specs.declared.node.Node.TheShapes.{weighed-Shape-Inner-1-at-1}
 use Rattle.match_tree.specs.declared.node.Node.TheView.{size}
-use Rattle.match_tree.specs.Smaller.{most_of_rows}
+use Rattle.match_tree.proofs.FallLemmas.{rows_fall}
 use Rattle.match_tree.specs.Routes.{Route, Branch, row_routes, rows_routes, lacks}
 use Rattle.join_base.specs.Taken.{contains_number}
 use Rattle.match_tree.specs.Rows.{rows_of}
@@ -26,14 +28,14 @@ use Rattle.match_tree.proofs.prune.+prune.Goals as goal
 pub prune_node-prune_rows-requires : goal.prune_node-prune_rows-requires
 prune_node-prune_rows-requires t c =
     let a = c.args in
-    let rows = c.node.inside.rows.items in
-    let same = sym c.deref_mut.ensures.value in
-    let routes_are : rows_routes 0 (rows_of rows) ≡ a.node.now.routes = ap (λ (x : Branch). x.routes) c.node.view_is in
-    let smaller : most (weighed-Node-rows-at-1.weight Node size-Node) rows ≤ length (rows_routes 0 (rows_of rows)) = most_of_rows size-Node (λ x. omega arith) (λ row. row.items) 0 rows in
+    let rows = c.in-Inner.rows.value.items in
+    let same : rows ≡ c.deref_mut-in-Inner.result.now = sym (c.deref_mut-in-Inner.ensures.value ∙ ap (λ (v : Vec (VecDeque Node Global) Global). v.items) c.deref_mut.ensures.value) in
+    let routes_are : rows_routes 0 (rows_of rows) ≡ a.node.now.routes = sym (ap (λ (shape : Shape). rows_routes 0 (rows_behind shape)) c.in-Inner.is) ∙ ap (λ (x : Branch). x.routes) c.node.view_is in
+    let smaller = rows_fall rows in
     let sized : size a.node.now ≡ length a.node.now.routes = refl in
-    let deep = ap (most (weighed-Node-rows-at-1.weight Node size-Node)) same in
+    let deep = ap (most (weighed-Shape-Inner-1-at-1.weight Node size-Node)) same in
     let count = ap (λ (rs : List Route). length rs) routes_are in
-    let at : (P : List (VecDeque Node Global) → Type 0) → P rows → P c.deref_mut.result.now = λ P p. subst P same p in (
+    let at : (P : List (VecDeque Node Global) → Type 0) → P rows → P c.deref_mut-in-Inner.result.now = λ P p. subst P same p in (
       omega (arith, c.decreases),
       (
         at (λ xs. length (rows_routes 0 (rows_of xs)) < 2 ^ 64) (omega (arith, c.requires.few)),

@@ -1,6 +1,6 @@
 use Rattle.std.specs.declared.collections.VecDeque.{VecDeque}
-use Rattle.std.proofs.Common.{length-append, ◌≡◌, ◌∙◌, ◌<◌, ◌≤◌, ◌+◌, ap, sym, subst, arith, ℕ, List, None, refl, zero-add, take, drop, get_or, set, length}
-use Rattle.std.specs.Prelude.{nat_le, ◌⊎◌, IfSome, ◌==◌, not, IfOk, [], ◌∷◌, ◌++◌, false}
+use Rattle.std.proofs.Common.{Vec, length-append, ◌≡◌, ◌∙◌, ◌<◌, ◌≤◌, ◌+◌, ap, sym, subst, arith, ℕ, List, None, refl, zero-add, take, drop, get_or, set, length}
+use Rattle.std.specs.Prelude.{nat_le, ◌⊎◌, IfSome, ◌==◌, not, [], ◌∷◌, ◌++◌, false}
 use Rattle.std.specs.List.{filter, AllByRecursion}
 use Rattle.std.specs.declared.alloc.Global.{Global}
 use Rattle.guard_eval.specs.Meaning.{Assignment}
@@ -33,12 +33,14 @@ use Rattle.match_tree.proofs.TakeLemmas.{takers_further}
 use Rattle.match_tree.proofs.visit.+visit.Goals as goal
 use Rattle.match_tree.proofs.visit.+visit.Goals.{visit_nodes-then-is_worth+in_ok-found+else-is_some, visit_nodes-else-is_worth, visit_rows-After-visit_each, visit_rows-In_ok-best}
 use denote.Param.Weighed.{at_most}
+use Rattle.match_tree.specs.declared.node.Shape.{Shape}
+use Rattle.match_tree.specs.Shapes.{rows_behind}
 use Rattle.match_tree.specs.declared.node.Node.TheDeep.{size-Node}
 use denote.Param.Weighed.{most}
 use Rattle.match_tree.specs.declared.node.Node.{Node}
-use Rattle.match_tree.specs.declared.node.Node.TheShapes.{weighed-Node-rows-at-1}
+use Rattle.match_tree.specs.declared.node.Node.TheShapes.{weighed-Shape-Inner-1-at-1}
 use Rattle.match_tree.specs.declared.node.Node.TheView.{size}
-use Rattle.match_tree.specs.Smaller.{most_of_rows}
+use Rattle.match_tree.proofs.FallLemmas.{rows_fall}
 
 pub visit_nodes-returns-then-len-eq0-clause-lasting : goal.visit_nodes-returns-then-len-eq0-clause-lasting
 visit_nodes-returns-then-len-eq0-clause-lasting g t c = lead_lasts (offered c.args.offer.now) c.args.slots.now (row_routes c.args.pattern c.args.nodes.now.items) c.requires.lead
@@ -127,12 +129,18 @@ pub visit_node-visit_rows-requires : goal.visit_node-visit_rows-requires
 visit_node-visit_rows-requires g t c =
     let a = c.args in
     let o = offered a.offer.now in
-    let routes_are : rows_routes 0 (rows_of c.node.inside.rows.items) ≡ a.node.now.routes = ap (λ (x : Branch). x.routes) c.node.view_is in
+    let rows = c.in-Inner.rows.value.items in
+    let same : rows ≡ c.deref_mut.result.now.items = ap (λ (v : Vec (VecDeque Node Global) Global). v.items) (sym c.deref_mut.ensures.value) in
+    let routes_are : rows_routes 0 (rows_of rows) ≡ a.node.now.routes = sym (ap (λ (shape : Shape). rows_routes 0 (rows_behind shape)) c.in-Inner.is) ∙ ap (λ (x : Branch). x.routes) c.node.view_is in
+    let few : length (rows_behind c.node.inside.shape) ≤ 8 = c.node.invariant in
+    let count = ap (λ (shape : Shape). length (rows_behind shape)) c.in-Inner.is in
     let Lead : List Route → Type 0 = λ rs. LeadOn o a.slots.now rs in
-    let smaller : most (weighed-Node-rows-at-1.weight Node size-Node) c.node.inside.rows.items ≤ length (rows_routes 0 (rows_of c.node.inside.rows.items)) = most_of_rows size-Node (λ x. omega arith) (λ row. row.items) 0 c.node.inside.rows.items in
+    let smaller = rows_fall rows in
     let sized : size a.node.now ≡ length a.node.now.routes = refl in
+    let deep = ap (most (weighed-Shape-Inner-1-at-1.weight Node size-Node)) same in
+    let at : (P : List (VecDeque Node Global) → Type 0) → P rows → P c.deref_mut.result.now.items = λ P p. subst P same p in
     λ κs h. (
-      omega (arith, c.decreases, smaller, sized, ap (λ (rs : List Route). length rs) routes_are),
+      omega (arith, c.decreases, ap (λ (rs : List Route). length rs) routes_are),
       (
         h,
         (
@@ -141,30 +149,21 @@ visit_node-visit_rows-requires g t c =
             c.requires.free,
             (
               c.requires.wanted,
-              (c.node.invariant, (rows_sound 0 (rows_of c.node.inside.rows.items) (subst AreOrdered (sym routes_are) c.requires.ordered.1), (subst Lead (sym routes_are) c.requires.lead, subst (AreOpen a.slots.now) (sym routes_are) c.requires.free_left))),
+              (
+                at (λ xs. length xs ≤ 8) (omega (arith, length-map rows (λ (row : VecDeque Node Global). row.items))),
+                (
+                  at (λ xs. AreSound (rows_of xs)) (rows_sound 0 (rows_of rows) (subst AreOrdered (sym routes_are) c.requires.ordered.1)),
+                  (at (λ xs. Lead (rows_routes 0 (rows_of xs))) (subst Lead (sym routes_are) c.requires.lead), at (λ xs. AreOpen a.slots.now (rows_routes 0 (rows_of xs))) (subst (AreOpen a.slots.now) (sym routes_are) c.requires.free_left)),
+                ),
+              ),
             ),
           ),
         ),
       ),
     )
 
-pub visit_node-returns : goal.visit_node-returns
-visit_node-returns g t c =
-    let a = c.args in
-    let o = offered a.offer.now in
-    let e = c.visit_rows.ensures in
-    let routes_are : rows_routes 0 (rows_of c.node.inside.rows.items) ≡ a.node.now.routes = ap (λ (x : Branch). x.routes) c.node.view_is in
-    let now : List Route = rows_routes 0 (rows_of c.visit_rows.new.rows.items) in
-    record {
-      number = ap (λ (x : Branch). x.number) c.node.view_is;
-      ordered = rows_ordered_behind 0 (rows_of c.visit_rows.new.rows.items) e.sound;
-      free_left = e.free_left;
-      lasting = e.lasting ∙ routes_are;
-      best = subst (λ (rs : List Route). IfOk c.visit_rows.result (λ b. b ≡ least (new_matches o a.slots.now ([] ∷ seen o rs)))) routes_are e.best;
-      grows = subst (λ (rs : List Route). IfOk c.visit_rows.result (λ b. b ≡ None → Grows o a.slots.now (growing o a.slots.now) rs now)) routes_are e.grows;
-      counted = subst (λ (rs : List Route). c.visit_rows.new.count + length rs ≡ a.count.now + length now) routes_are e.counted;
-      stepped = subst (λ (rs : List Route). c.visit_rows.new.steps ≤ a.steps.now + (length a.wanted.now + tries_behind o a.slots.now rs)) routes_are e.stepped;
-    }
+pub visit_node-returns-in-Inner-clause-ordered : goal.visit_node-returns-in-Inner-clause-ordered
+visit_node-returns-in-Inner-clause-ordered g t c = rows_ordered_behind 0 (rows_of c.visit_rows.new.rows.items) c.visit_rows.ensures.sound
 
 pub visit_nodes-returns-in_err-found : goal.visit_nodes-returns-in_err-found
 visit_nodes-returns-in_err-found g t c =
@@ -429,7 +428,7 @@ visit_rows-visit_each-requires g t c =
     let a = c.args in
     let o = offered a.offer.now in
     let same = sym c.deref_mut.ensures.value in
-    let deep = ap (most (weighed-Node-rows-at-1.weight Node size-Node)) same in
+    let deep = ap (most (weighed-Shape-Inner-1-at-1.weight Node size-Node)) same in
     let at : (P : List (VecDeque Node Global) → Type 0) → P a.rows.now.items → P c.deref_mut.result.now = λ P p. subst P same p in
     λ κs h. (
       omega (arith, c.decreases),
