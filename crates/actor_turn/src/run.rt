@@ -71,7 +71,7 @@ pub fn into_entries(
             number,
             source: mark.source,
             message,
-            stamp: mark.stamp,
+            stamp: u64::from(mark.stamp),
             firing,
         };
         entries.push(entry).unwrap();

@@ -12,13 +12,15 @@ use join_base::{Items, Message, NoMemory, Numbers, Source};
 use std::alloc::Global;
 use std::marker::Model;
 
-/// What is recorded beside a message: its source, the stamp that it carried, and its own stamp.
+/// What is recorded beside a message: its source and its own stamp, which has 32 bits at most.
 #[derive(Clone, Copy, PartialEq, Eq, Debug)]
 pub struct Mark {
     pub source: Source,
-    pub came: u64,
-    pub stamp: u64,
+    pub stamp: u32,
 }
+
+// Each arrival has one.
+const _: () = prove!(size_of::<Mark>() == 12);
 
 /// The arrivals of an actor, which are numbered from 1.
 #[derive(Drop)]
@@ -77,8 +79,8 @@ impl Mailbox {
         self.live.reserve_one()
     }
 
-    /// Records a message with its source and the stamp that it carried, and gives its number, which is unconsumed.
-    /// It takes no memory.
+    /// Records a message with its source and a stamp of its own, and gives its number, which is unconsumed. `came` is
+    /// the stamp that the message carried. It takes no memory.
     pub fn append(&mut self, source: Source, message: Message, came: u64) -> u32
         requires room { 1 ≤ self.old.room }
         requires few { length self.old.mail.arrivals < 1000000 }
@@ -92,8 +94,7 @@ impl Mailbox {
         let stamp = latest_stamp(&self.marks).max(came) + 1;
         let mark = Mark {
             source,
-            came,
-            stamp,
+            stamp: stamp as u32,
         };
         self.letters.push(message).unwrap();
         self.marks.push(mark).unwrap();
@@ -203,6 +204,6 @@ fn latest_stamp(marks: &[Mark]) -> u64
 {
     match marks.last() {
         None => 0,
-        Some(mark) => mark.stamp,
+        Some(mark) => u64::from(mark.stamp),
     }
 }

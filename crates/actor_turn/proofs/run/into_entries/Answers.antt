@@ -22,7 +22,7 @@ loop-message-preserved c =
     = c.pop-in-Some.ensures.items ∙ ap (λ (r : Option Mark). c.pop-in-Some.new.self.items ++ option_to_list r) c.unwrap-mark.ensures ∙ ap (λ (xs : List Mark). xs ++ mark ∷ []) (sym c.give_room_back-in-Some.ensures.same) in
     let firings : c.loop-message.firings.items ≡ fs ++ firing ∷ []
     = c.pop-in-Some-2.ensures.items ∙ ap (λ (r : Option (Option Firing)). c.pop-in-Some-2.new.self.items ++ option_to_list r) c.unwrap-firing.ensures ∙ ap (λ (xs : List (Option Firing)). xs ++ firing ∷ []) (sym c.give_room_back-in-Some-2.ensures.same) in
-    let entries : c.push.new.self.items ≡ c.loop-message.entries.items ++ entry ∷ [] = rw (c.push.ensures.items, c.unwrap.ensures) refl in
+    let entries : c.push.new.self.items ≡ c.loop-message.entries.items ++ entry ∷ [] = rw (c.push.ensures.items, c.unwrap.ensures, c.from.ensures) refl in
     let count : c.len.result ≡ length ls = c.len.ensures ∙ c.pop.new.self.ok.0 ∙ ap length (sym c.give_room_back.ensures.same) in
     let a = ap length letters ∙ length-append ls (message ∷ []) in
     let b = ap length marks ∙ length-append ms (mark ∷ []) in
