@@ -1,5 +1,7 @@
--- Values that are not as many as the types do not fit.
-use Rattle.std.proofs.Common.{◌≡◌, ◌≢◌, ◌∙◌, suc, List, [], ◌∷◌, length, Bool, true, false, refl, ap}
+-- Values against types: values that are not as many do not fit, and one at its place is tested before those behind it.
+use Rattle.std.proofs.Common.{◌≡◌, ◌≢◌, ◌∙◌, ◌+◌, ◌<◌, ℕ, suc, List, [], ◌∷◌, Some, drop, get_or, length, slice_get, Bool, true, false, refl, ap}
+use Rattle.std.proofs.lemmas.List.{drop_more}
+use Rattle.std.proofs.lemmas.Option.{get_or_from_slice_get}
 use Rattle.std.specs.Prelude.{◌&&◌}
 use Rattle.join_base.specs.declared.message.Sort.{Sort}
 use Rattle.join_base.specs.declared.message.Value.{Value}
@@ -17,3 +19,10 @@ unlike_count (s ∷ sorts) [] d = refl
 unlike_count (s ∷ sorts) (v ∷ values) d =
     let rest = unlike_count sorts values (λ e. d (ap suc e)) in
     and_false (is_of_sort s v) ∙ ap (λ (b : Bool). is_of_sort s v && b) rest
+
+pub sorts_at : (sorts : List Sort) (values : List Value) (i : ℕ) (d : Sort) (value : Value) → i < length sorts → i < length values → slice_get values i ≡ Some value → are_of_sorts (drop i sorts) (drop i values) ≡ (is_of_sort (get_or sorts i d) value && are_of_sorts (drop (i + 1) sorts) (drop (i + 1) values))
+sorts_at sorts values i d value few many found =
+    let own : List Sort = get_or sorts i d ∷ drop (i + 1) sorts in
+    ap (λ (ss : List Sort). are_of_sorts ss (drop i values)) (drop_more sorts i d few)
+    ∙ ap (λ (vs : List Value). are_of_sorts own vs) (drop_more values i value many)
+    ∙ ap (λ (v : Value). are_of_sorts own (v ∷ drop (i + 1) values)) (get_or_from_slice_get values i value value found)

@@ -1,31 +1,32 @@
 //! Whether a message fits the kinds of a plan.
 ghost use Rattle.std.specs.Prelude.{◌≡◌, ◌<◌};
+ghost use Rattle.join_base.specs.Fields.{value_seen};
 ghost use Rattle.guard_eval.specs.Meaning.{is_of_sort};
 ghost use Rattle.fair_semantics.specs.Step.{are_of_sorts, fits};
 
-use join_base::{Items, Message, Sort, Value};
+use join_base::{Fields, Items, Message, Sort, ValueRef};
 
 // Whether the value is of the type.
-fn is_of_sort(sort: Sort, value: &Value) -> bool
-    ensures { result ≡ is_of_sort sort value.now }
+fn is_of_sort(sort: Sort, value: ValueRef<'_>) -> bool
+    ensures { result ≡ is_of_sort sort (value_seen value.entry) }
 {
     match (sort, value) {
-        (Sort::Int, Value::Int(_)) => true,
-        (Sort::Int, Value::Words(_)) => false,
-        (Sort::Words, Value::Int(_)) => false,
-        (Sort::Words, Value::Words(_)) => true,
+        (Sort::Int, ValueRef::Int(_)) => true,
+        (Sort::Int, ValueRef::Words(_)) => false,
+        (Sort::Words, ValueRef::Int(_)) => false,
+        (Sort::Words, ValueRef::Words(_)) => true,
     }
 }
 
 // Whether the values are as many as the types, and each of the type at its place.
-fn are_of_sorts(sorts: &[Sort], values: &[Value]) -> bool
+fn are_of_sorts(sorts: &[Sort], values: &Fields) -> bool
     ensures { result ≡ are_of_sorts sorts.now values.now }
 {
     if sorts.len() != values.len() {
         return false;
     }
     for place in 0..sorts.len() {
-        if !is_of_sort(sorts[place], &values[place]) {
+        if !is_of_sort(sorts[place], values.at(place)) {
             return false;
         }
     }
@@ -40,5 +41,5 @@ pub fn fits(sorts: &Items<Items<Sort>>, message: &Message) -> bool
     if kind >= sorts.len() {
         return false;
     }
-    are_of_sorts(sorts.at(kind).as_slice(), message.fields.as_slice())
+    are_of_sorts(sorts.at(kind).as_slice(), &message.fields)
 }

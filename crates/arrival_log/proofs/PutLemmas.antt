@@ -1,10 +1,11 @@
 -- Items with commas between them, put from the last to the first; texts whose bytes stand for themselves; short names.
-use Rattle.std.proofs.Common.{◌≡◌, ◌∙◌, ℕ, ◌+◌, ◌<◌, ◌≤◌, ◌==◌, List, [], ◌∷◌, ◌++◌, true, false, append_assoc, arith, ap, drop, get_or, length, map, nat_le, refl, sym}
+use Rattle.std.proofs.Common.{◌≡◌, ◌∙◌, ℕ, ◌+◌, ◌-◌, ◌<◌, ◌≤◌, ◌==◌, List, [], ◌∷◌, ◌++◌, true, false, append_assoc, arith, ap, drop, get_or, length, map, nat_le, refl, slice_get, Some, sym}
 use Rattle.std.specs.Prelude.{not, ◌&&◌}
 use Rattle.std.specs.List.{flat_map, list_all}
 use Rattle.std.proofs.lemmas.Bool.{and_parts, leb-true}
 use Rattle.std.proofs.lemmas.Bool.Decides.{nat_tests}
 use Rattle.std.proofs.lemmas.List.{drop_all, drop_more}
+use Rattle.std.proofs.lemmas.Option.{get_or_from_slice_get}
 use Rattle.join_base.specs.Quoted.{byte_form, is_control, quoted}
 use Rattle.join_base.specs.Text.{begins_word, goes_on_word, is_name, is_reserved}
 use Rattle.arrival_log.specs.Commas.{is_plain_byte}
@@ -38,6 +39,14 @@ item_put {X} f xs i d x so_far with_comma now rest more item so_far_is comma_is 
     ∙ ap (λ (text : List ℕ). f (get_or xs i d) ++ text) (comma_is ∙ ap (λ (text : List ℕ). 44 ∷ text) so_far_is)
     ∙ sym (append_assoc (f (get_or xs i d)) (44 ∷ others) rest)
     ∙ ap (λ (text : List ℕ). text ++ rest) (sym (joined_more f xs i d more))
+
+-- the value at the place before was put in front of a comma
+pub value_put : {X : Type 0} (f : X → List ℕ) (xs : List X) (place : ℕ) (x : X) (so_far with_comma now rest : List ℕ) → 0 < place → place < length xs → slice_get xs (place - 1) ≡ Some x → so_far ≡ comma_joined (map f (drop place xs)) ++ rest → with_comma ≡ 44 ∷ so_far → now ≡ f x ++ with_comma → now ≡ comma_joined (map f (drop (place - 1) xs)) ++ rest
+value_put f xs place x so_far with_comma now rest some within item so_far_is comma_is now_is =
+    let same : place - 1 + 1 ≡ place = omega (arith, some) in
+    let found = sym (get_or_from_slice_get xs (place - 1) x x item) in
+    let behind = so_far_is ∙ ap (λ (n : ℕ). comma_joined (map f (drop n xs)) ++ rest) (sym same) in
+    item_put f xs (place - 1) x x so_far with_comma now rest (omega (arith, same, within)) found behind comma_is now_is
 
 plain_form : (b : ℕ) → is_plain_byte b ≡ true → byte_form b ≡ b ∷ []
 plain_form b plain =

@@ -63,7 +63,7 @@ fn write_effect(
         Effect::Reply { number, value } => {
             write_labelled(text, b"reply ", u64::from(*number))?;
             text.push_all(b" ")?;
-            write_value(text, value)?;
+            write_value(text, value.seen())?;
             text.push_all(b"\n")
         }
     }

@@ -2,13 +2,14 @@
 //! stay appended.
 ghost use Rattle.std.specs.Prelude.{◌≡◌, ◌++◌, ◌∷◌, [], map, OnOk, OnErr, length, take};
 ghost use Rattle.std.specs.Fmt.{decimal};
+ghost use Rattle.join_base.specs.Fields.{value_seen};
 ghost use Rattle.arrival_log.specs.Commas.{comma_before};
 ghost use Rattle.arrival_log.specs.LogText.{comma_joined, left_text, ending_text, message_text, source_text, value_text};
 ghost use Rattle.script_types.specs.Names.{name_of_actor, name_of_kind};
 
 use fair_semantics::Ending;
 use itoa::Buffer;
-use join_base::{Bytes, Message, NoMemory, Source, Value, write_quoted};
+use join_base::{Bytes, Fields, Message, NoMemory, Source, ValueRef, write_quoted};
 use script_types::{Plan, write_actor_name, write_kind_name};
 
 pub(crate) fn write_count(text: &mut Bytes, count: u64) -> Result<(), NoMemory>
@@ -57,26 +58,26 @@ fn write_comma(text: &mut Bytes, place: usize) -> Result<(), NoMemory>
     }
 }
 
-pub(crate) fn write_value(text: &mut Bytes, value: &Value) -> Result<(), NoMemory>
-    ensures ok { OnOk result (text.new ≡ text.old ++ value_text value.now) }
+pub(crate) fn write_value(text: &mut Bytes, value: ValueRef<'_>) -> Result<(), NoMemory>
+    ensures ok { OnOk result (text.new ≡ text.old ++ value_text (value_seen value.entry)) }
     ensures err { OnErr result (text.new ≡ text.old) }
 {
     match value {
-        Value::Int(number) => {
+        ValueRef::Int(number) => {
             let mut buffer = Buffer::new();
-            text.push_all(buffer.format(*number).as_bytes())
+            text.push_all(buffer.format(number).as_bytes())
         }
-        Value::Words(words) => write_quoted(text, words.bytes()),
+        ValueRef::Words(words) => write_quoted(text, words.bytes()),
     }
 }
 
-fn write_values(text: &mut Bytes, values: &[Value]) -> Result<(), NoMemory>
+fn write_values(text: &mut Bytes, values: &Fields) -> Result<(), NoMemory>
     ensures ok { OnOk result (text.new ≡ text.old ++ comma_joined (map value_text values.now)) }
     ensures err { OnErr result (take (length text.old) text.new ≡ text.old) }
 {
-    for (place, value) in values.iter().enumerate() {
+    for place in 0..values.len() {
         write_comma(text, place)?;
-        write_value(text, value)?;
+        write_value(text, values.at(place))?;
     }
     Ok(())
 }
@@ -92,7 +93,7 @@ pub(crate) fn write_message(
 {
     write_kind_name(text, plan, message.kind)?;
     text.push_all(b"(")?;
-    write_values(text, message.fields.as_slice())?;
+    write_values(text, &message.fields)?;
     text.push_all(b")\n")
 }
 

@@ -4,12 +4,13 @@ ghost use Rattle.std.specs.Prelude.{◌≡◌, ◌≤◌, ◌+◌, ◌++◌, dro
 ghost use Rattle.std.specs.Fmt.{decimal, signed_decimal};
 ghost use Rattle.std.specs.List.{list_all};
 ghost use Rattle.join_base.specs.Quoted.{quoted};
+ghost use Rattle.join_base.specs.Fields.{value_seen};
 ghost use Rattle.arrival_log.specs.Commas.{is_plain_byte, stamp_behind};
 ghost use Rattle.arrival_log.specs.LogText.{comma_joined, value_text};
 
 use fair_semantics::LogVersion;
 use itoa::write_digits;
-use join_base::Value;
+use join_base::{Fields, ValueRef};
 
 /// The bytes of a room.
 pub(crate) const ROOM: usize = 512;
@@ -94,37 +95,37 @@ pub(crate) fn put_text(room: &mut [u8; ROOM], end: usize, text: &[u8]) -> Option
 
 /// A value, where there is room and a text stands for itself.
 #[inline]
-pub(crate) fn put_value(room: &mut [u8; ROOM], end: usize, value: &Value) -> Option<usize>
+pub(crate) fn put_value(room: &mut [u8; ROOM], end: usize, value: ValueRef<'_>) -> Option<usize>
     requires within { end ≤ 512 }
     ensures start { IfSome result (λ start. (235 ≤ start) × (start ≤ 512)) }
-    ensures written { IfSome result (λ start. drop start room.new ≡ value_text value.now ++ drop end room.old) }
+    ensures written { IfSome result (λ start. drop start room.new ≡ value_text (value_seen value.entry) ++ drop end room.old) }
 {
     match value {
-        Value::Int(number) => {
+        ValueRef::Int(number) => {
             if end < FRONT {
                 return None;
             }
-            Some(put_integer(room, end, *number))
+            Some(put_integer(room, end, number))
         }
-        Value::Words(words) => put_text(room, end, words.bytes()),
+        ValueRef::Words(words) => put_text(room, end, words.bytes()),
     }
 }
 
 /// The values with commas between them, likewise.
-pub(crate) fn put_values(room: &mut [u8; ROOM], end: usize, values: &[Value]) -> Option<usize>
+pub(crate) fn put_values(room: &mut [u8; ROOM], end: usize, values: &Fields) -> Option<usize>
     requires within { (235 ≤ end) × (end ≤ 512) }
     ensures start { IfSome result (λ start. (235 ≤ start) × (start ≤ 512)) }
     ensures written { IfSome result (λ start. drop start room.new ≡ comma_joined (map value_text values.now) ++ drop end room.old) }
 {
-    if values.is_empty() {
+    if values.len() == 0 {
         return Some(end);
     }
     let mut place = values.len() - 1;
-    let mut start = put_value(room, end, &values[place])?;
+    let mut start = put_value(room, end, values.at(place))?;
     'values: while place > 0 {
         place -= 1;
         let behind = put_words(room, start, b",");
-        start = put_value(room, behind, &values[place])?;
+        start = put_value(room, behind, values.at(place))?;
     }
     Some(start)
 }

@@ -83,7 +83,7 @@ fn put_message(room: &mut [u8; ROOM], end: usize, plan: &Plan, message: &Message
     ensures written { IfSome result (λ start. drop start room.new ≡ message_text plan.now message.now ++ 10 ∷ drop end room.old) }
 {
     let end = put_words(room, end, b")\n");
-    let end = put_values(room, end, message.fields.as_slice())?;
+    let end = put_values(room, end, &message.fields)?;
     let end = put_words(room, end, b"(");
     Some(put_words(room, end, kind_name(plan, message.kind)))
 }
@@ -154,7 +154,7 @@ fn put_reply(room: &mut [u8; ROOM], end: usize, number: u32, value: &Value) -> O
     ensures written { IfSome result (λ start. drop start room.new ≡ line (codes "reply" ∷ decimal number ∷ value_text value.now ∷ []) ++ drop end room.old) }
 {
     let end = put_words(room, end, b"\n");
-    let end = put_value(room, end, value)?;
+    let end = put_value(room, end, value.seen())?;
     let end = put_words(room, end, b" ");
     let end = put_number(room, end, u64::from(number));
     Some(put_words(room, end, b"reply "))

@@ -14,7 +14,7 @@ fn message_of(alloc: Global, kind: u32, integers: &[u32]) -> Result<Message, NoM
     requires few { length integers.now ≤ 8 }
     ensures { IfOk result (λ message. message ≡ record { kind = kind; fields = map int integers.now }) }
 {
-    let mut fields = Fields::with_room(alloc, integers.len())?;
+    let mut fields = Fields::with_room(alloc, integers.len(), false)?;
     for integer in integers {
         match fields.push(Value::Int(i64::from(*integer))) {
             Ok(()) => {}

@@ -1,12 +1,21 @@
 use crate::{load_feed, load_feeds, load_plan};
-use join_base::{Message, Posts, Value};
+use join_base::{Message, Posts, ValueRef};
 use std::test::Fail;
+
+// The integer at a place, or 99.
+fn int_at(message: &Message, place: usize) -> i64 {
+    match message.fields.get(place) {
+        Some(ValueRef::Int(n)) => n,
+        _ => 99,
+    }
+}
 
 // The kind and its integers, of which there are two or three.
 fn shape(message: &Message) -> (u32, i64, i64, i64) {
-    match message.fields.as_slice() {
-        [Value::Int(room), Value::Int(time)] => (message.kind, *room, -1, *time),
-        [Value::Int(room), Value::Int(lux), Value::Int(time)] => (message.kind, *room, *lux, *time),
+    let room = int_at(message, 0);
+    match message.fields.len() {
+        2 => (message.kind, room, -1, int_at(message, 1)),
+        3 => (message.kind, room, int_at(message, 1), int_at(message, 2)),
         _ => (99, 0, 0, 0),
     }
 }

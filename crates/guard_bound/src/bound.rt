@@ -5,7 +5,7 @@ ghost use Rattle.guard_eval.specs.Shape.{conjunct_condition};
 ghost use Rattle.guard_bound.specs.Bound.{AddsLeaf, BoundsSplits, IsSplit, Says, int_at, meets};
 
 use guard_eval::{Atom, Conjunct, Leaf, Operand, Signed, Term, int_relation, turned};
-use join_base::{Message, Relation, Value};
+use join_base::{Message, Relation, ValueRef};
 use std::marker::Model;
 
 /// An integer field of a number's message stands so to the value.
@@ -95,8 +95,8 @@ pub fn int_at(letters: &[Message], number: u32, field: u32) -> i64
     let Some(message) = letters.get(place as usize) else {
         return 0;
     };
-    match message.fields.as_slice().get(field as usize) {
-        Some(Value::Int(n)) => *n,
+    match message.fields.get(field as usize) {
+        Some(ValueRef::Int(n)) => n,
         _ => 0,
     }
 }

@@ -4,7 +4,7 @@ ghost use Rattle.guard_eval.specs.Shape.{conjunct_condition};
 ghost use Rattle.guard_bound.specs.Same.{SaysSame, are_same, is_same, words_at, words_operand};
 
 use guard_eval::{Atom, Conjunct, Operand, Place, WordsLeaf};
-use join_base::{Message, Relation, Value};
+use join_base::{Message, Relation, ValueRef};
 
 /// A text field of a number's message is equal to a field of the known number's.
 #[derive(Clone, Copy, PartialEq, Eq, Debug)]
@@ -23,8 +23,8 @@ fn words_at(letters: &[Message], number: u32, field: u32) -> &[u8]
     let Some(message) = letters.get(place as usize) else {
         return &[];
     };
-    match message.fields.as_slice().get(field as usize) {
-        Some(Value::Words(text)) => text.bytes(),
+    match message.fields.get(field as usize) {
+        Some(ValueRef::Words(text)) => text.bytes(),
         _ => &[],
     }
 }

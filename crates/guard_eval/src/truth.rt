@@ -1,6 +1,7 @@
 //! Whether a conjunct is true at an assignment.
 ghost use Rattle.std.specs.Prelude.{◌≡◌, ◌++◌, ◌<◌, Some, length};
 ghost use Rattle.std.specs.List.{AllByRecursion};
+ghost use Rattle.join_base.specs.Fields.{value_seen};
 ghost use Rattle.join_base.specs.Text.{IsText};
 ghost use Rattle.guard_eval.specs.Meaning.{compares, is_true, needs_of, operand_needs, words_needs, words_of, words_relation, words_value, value_at};
 ghost use Rattle.guard_eval.specs.Ready.{AreReady, IsWordsReady};
@@ -10,7 +11,7 @@ use crate::conjunct::{Atom, Conjunct};
 use crate::relation::int_relation;
 use crate::sums::sum;
 use crate::term::{Operand, Place, WordsLeaf};
-use join_base::{Message, Relation, Slots, Value, letter};
+use join_base::{Message, Relation, Slots, ValueRef, letter};
 
 // Texts are compared for equality alone.
 fn words_relation(relation: Relation, text: &[u8], other: &[u8]) -> bool
@@ -24,13 +25,13 @@ fn words_relation(relation: Relation, text: &[u8], other: &[u8]) -> bool
 }
 
 // The text of a value, and the empty one of an integer.
-fn words_of(value: &Value) -> &[u8]
-    ensures value { result.now ≡ words_of (Some value.now) }
+fn words_of(value: ValueRef<'_>) -> &[u8]
+    ensures value { result.now ≡ words_of (Some (value_seen value.entry)) }
     ensures text { IsText 120 result.now }
 {
     match value {
-        Value::Int(_) => &[],
-        Value::Words(text) => text.bytes(),
+        ValueRef::Int(_) => &[],
+        ValueRef::Words(text) => text.bytes(),
     }
 }
 

@@ -166,7 +166,7 @@ fn lists_grow(rt: HostRuntime) {
 
 #[test]
 fn messages_have_at_most_eight_values(rt: HostRuntime) {
-    let mut fields = match Fields::with_room(rt.alloc(), 9) {
+    let mut fields = match Fields::with_room(rt.alloc(), 9, false) {
         Ok(fields) => fields,
         Err(_) => return assert!(rt; false),
     };
@@ -188,17 +188,77 @@ fn messages_have_at_most_eight_values(rt: HostRuntime) {
     }
 }
 
+// Whether the fields are these integers.
+fn are_ints(fields: &Fields, ints: &[i64]) -> bool {
+    if fields.len() != ints.len() {
+        return false;
+    }
+    for (place, n) in ints.iter().enumerate() {
+        match fields.get(place) {
+            Some(ValueRef::Int(found)) => {
+                if found != *n {
+                    return false;
+                }
+            }
+            _ => return false,
+        }
+    }
+    fields.get(ints.len()).is_none()
+}
+
 #[test]
-fn fields_grow_and_are_copied_from_none_to_three(rt: HostRuntime) {
+fn integers_grow_and_are_copied_in_place_and_in_a_list(rt: HostRuntime) {
+    let ints = [4, -5, 6, 7, -8];
     let mut fields = Fields::new(rt.alloc());
-    for count in 0..3 {
+    for count in 0..5 {
+        assert!(rt; are_ints(&fields, &ints[..count]));
         match fields.copy(rt.alloc()) {
-            Ok(copy) => assert_eq!(rt; copy.len(), count),
+            Ok(copy) => assert!(rt; are_ints(&copy, &ints[..count])),
             Err(_) => assert!(rt; false),
         }
-        assert!(rt; fields.push(Value::Int(7)).is_ok());
+        assert!(rt; fields.push(Value::Int(ints[count])).is_ok());
     }
-    assert_eq!(rt; fields.as_slice().len(), 3);
+    assert!(rt; are_ints(&fields, &ints));
+}
+
+// Whether the value at a place is this text.
+fn is_text_at(fields: &Fields, place: usize, text: &[u8]) -> bool {
+    match fields.get(place) {
+        Some(ValueRef::Words(found)) => found.bytes() == text,
+        _ => false,
+    }
+}
+
+// Integers, two texts and a 9, and a copy of them.
+fn values_behind(alloc: Global, ints: &[i64]) -> Option<Fields> {
+    let mut fields = Fields::new(alloc);
+    for n in ints {
+        fields.push(Value::Int(*n)).ok()?;
+    }
+    for text in [b"ab", b"cd"] {
+        let words = Text::from_bytes(alloc, text).ok()?;
+        fields.push(Value::Words(words)).ok()?;
+    }
+    fields.push(Value::Int(9)).ok()?;
+    fields.copy(alloc).ok()
+}
+
+#[test]
+fn texts_and_integers_stand_in_their_order(rt: HostRuntime) {
+    let ints = [4, -5, 6, 7];
+    for count in 0..=4 {
+        let Some(fields) = values_behind(rt.alloc(), &ints[..count]) else {
+            return assert!(rt; false);
+        };
+        assert_eq!(rt; fields.len(), count + 3);
+        for place in 0..count {
+            let n = ints[place];
+            assert!(rt; matches!(fields.get(place), Some(ValueRef::Int(found)) if found == n));
+        }
+        assert!(rt; is_text_at(&fields, count, b"ab"));
+        assert!(rt; is_text_at(&fields, count + 1, b"cd"));
+        assert!(rt; matches!(fields.get(count + 2), Some(ValueRef::Int(9))));
+    }
 }
 
 #[test]

@@ -185,7 +185,8 @@ fn values_at<'a>(
     requires few { length fields.now ≤ 8 }
     ensures { GivesValue result (values_at (map (λ (field : List ℕ × Sort). field.1) fields.now) text.now) }
 {
-    let Ok(mut values) = Fields::with_room(alloc, fields.len()) else {
+    let has_texts = fields.iter().any(|(_, sort)| *sort == Sort::Words);
+    let Ok(mut values) = Fields::with_room(alloc, fields.len(), has_texts) else {
         return Err(LineFault::NoMemory);
     };
     let mut rest = text;

@@ -1,5 +1,7 @@
 -- What tests of equality tell, and that each thing is equal to itself.
-use Rattle.std.proofs.Common.{◌≡◌, ℕ, List, [], ◌∷◌, map, length, Bool, true, false, Option, None, Some, refl, subst, ap, arith}
+use Rattle.std.proofs.Common.{◌≡◌, ◌∙◌, ℕ, ◌+◌, List, [], ◌∷◌, drop, get_or, map, length, slice_get, Bool, true, false, Option, None, Some, refl, subst, ap, arith}
+use Rattle.std.proofs.lemmas.List.{drop_more}
+use Rattle.std.proofs.lemmas.Option.{get_or_from_slice_get, slice_get_within}
 use Rattle.std.specs.Prelude.{◌&&◌, ◌==◌, nat_eq, Decides}
 use Rattle.std.specs.Cmp.Lexicographic.{pointwise, pointwise_decides, unequal}
 use Rattle.std.proofs.lemmas.Bool.Decides.{Decides-int_eq, nat_tests}
@@ -18,6 +20,13 @@ use Rattle.log_posts.specs.Same.{same_effect, same_entries, same_entry, same_fir
 
 pub lengths_apart : {A : Type 0} (same : A → A → Bool) (own other : List A) → (length own ≡ length other → ⊥) → pointwise same own other ≡ false
 lengths_apart = unequal
+
+-- the items at one place are compared before those behind it
+pub pointwise_at : {A : Type 0} (same : A → A → Bool) (own other : List A) (i : ℕ) (a b : A) → slice_get own i ≡ Some a → slice_get other i ≡ Some b → pointwise same (drop i own) (drop i other) ≡ (same a b && pointwise same (drop (i + 1) own) (drop (i + 1) other))
+pointwise_at {A} same own other i a b first second =
+    ap (λ (xs : List A). pointwise same xs (drop i other)) (drop_more own i a (slice_get_within own i a first))
+    ∙ ap (λ (ys : List A). pointwise same (get_or own i a ∷ drop (i + 1) own) ys) (drop_more other i b (slice_get_within other i b second))
+    ∙ (λ k. same (get_or_from_slice_get own i a a first k) (get_or_from_slice_get other i b b second k) && pointwise same (drop (i + 1) own) (drop (i + 1) other))
 
 -- a test that tells things to be equal, and each to be so to itself, decides it
 decides : {A : Type 0} (same : A → A → Bool) → ((a b : A) → same a b ≡ true → a ≡ b) → ((a : A) → same a a ≡ true) → (a b : A) → Decides (same a b) (a ≡ b)

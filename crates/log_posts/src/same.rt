@@ -1,11 +1,12 @@
 //! Whether messages are equal, and entries but for their stamps.
 ghost use Rattle.std.specs.Prelude.{◌≡◌, Bool};
 ghost use Rattle.std.specs.Cmp.Lexicographic.{pointwise};
+ghost use Rattle.join_base.specs.Fields.{value_seen};
 ghost use Rattle.fair_semantics.specs.Linked.{same_source};
 ghost use Rattle.log_posts.specs.Same.{same_effect, same_entries, same_entry, same_fired, same_firing, same_message, same_value};
 
 use fair_semantics::{Effect, Entry, Fired, Firing};
-use join_base::{Message, Source, Value};
+use join_base::{Fields, Message, Source, ValueRef};
 
 // What lists of it are compared by.
 trait Same {
@@ -37,22 +38,35 @@ pub(crate) fn same_source(source: Source, other: Source) -> bool
     source == other
 }
 
-impl Same for Value {
-    ghost same = { same_value };
+fn same_value(own: ValueRef<'_>, other: ValueRef<'_>) -> bool
+    ensures { result ≡ same_value (value_seen own.entry) (value_seen other.entry) }
+{
+    match (own, other) {
+        (ValueRef::Int(number), ValueRef::Int(second)) => number == second,
+        (ValueRef::Words(text), ValueRef::Words(second)) => text.bytes() == second.bytes(),
+        _ => false,
+    }
+}
 
-    fn same(&self, other: &Value) -> bool {
-        match (self, other) {
-            (Value::Int(number), Value::Int(second)) => *number == *second,
-            (Value::Words(text), Value::Words(second)) => text.bytes() == second.bytes(),
-            _ => false,
+#[tactic(auto, using(crate::proofs::SameLemmas::lengths_apart))]
+fn same_fields(own: &Fields, other: &Fields) -> bool
+    ensures { result ≡ pointwise same_value own.now other.now }
+{
+    if own.len() != other.len() {
+        return false;
+    }
+    for place in 0..own.len() {
+        if !same_value(own.at(place), other.at(place)) {
+            return false;
         }
     }
+    true
 }
 
 pub(crate) fn same_message(own: &Message, other: &Message) -> bool
     ensures { result ≡ same_message own.now other.now }
 {
-    own.kind == other.kind && same_list(own.fields.as_slice(), other.fields.as_slice())
+    own.kind == other.kind && same_fields(&own.fields, &other.fields)
 }
 
 impl Same for Effect {
@@ -74,7 +88,7 @@ impl Same for Effect {
                     number: second,
                     value: given,
                 },
-            ) => *number == *second && value.same(given),
+            ) => *number == *second && same_value(value.seen(), given.seen()),
             _ => false,
         }
     }

@@ -1,7 +1,7 @@
 -- Helpers and posters may be sent to another thread, and threads may share a pool: type by type, from what holds itself
 -- upwards. `search` finds each step, and not the whole.
 use denote.RattleType.{RattleType}
-use denote.Param.Send.{IsSend, IsSync, sendable}
+use denote.Param.Send.{IsSend, IsSync, sendable, view_send, recorded_send}
 use denote.Struct.Field.{Field, row_field, u32-field, u64-field}
 use Rattle.std.proofs.Common.{List, [], ◌∷◌}
 use denote.Hole.{as_row}
@@ -19,9 +19,10 @@ use Rattle.guard_eval.specs.contracts.term.Operand as Operand
 use Rattle.guard_eval.specs.declared.conjunct.Atom.TheBlock as block
 use denote.Param.SendFields.{variants_send, declared_send, declared_sync, as_row_send}
 use Rattle.std.proofs.Crossing.{crosses}
-use denote.Model.Goals.{send, one_law, tied_goals, has_of, All}
+use denote.Model.Goals.{send, one_law, tied_goals, has_of, part_has, All}
+use denote.Model.Cut.{split_one}
 use denote.Model.Local.{Parts, rows}
-use Rattle.match_tree.specs.declared.node.Node.TheDeep.{the_members, member-Node}
+use Rattle.match_tree.specs.declared.node.Node.TheDeep.{the_members, member-Node, split-Shape, join-Shape, joins-Shape, split-Node, join-Node, joins-Node}
 use Rattle.match_tree.specs.contracts.node.Node.TheKnot as knot
 use Rattle.match_tree.specs.contracts.node.Node as Node
 use Rattle.std.specs.contracts.vec.Vec as Vec
@@ -33,6 +34,7 @@ use Rattle.guard_eval.specs.contracts.conjunct.Conjunct as Conjunct
 use Rattle.guard_eval.specs.contracts.conjunct.ConjunctList as ConjunctList
 use Rattle.pattern_core.specs.contracts.definition.Definition as Definition
 use Rattle.join_base.specs.contracts.message.Message as Message
+use Rattle.join_base.specs.contracts.message.Value as Value
 use Rattle.join_base.specs.contracts.message.Stamped as Stamped
 use Rattle.script_types.specs.contracts.plan.Statement as Statement
 use Rattle.script_types.specs.contracts.plan.Rule as Rule
@@ -59,13 +61,37 @@ use Rattle.pool_run.specs.contracts.parts.FeedPart as FeedPart
 use Rattle.pool_run.specs.contracts.parts.Returned as Returned
 use Rattle.rtrb.proofs.end.End.TheSendSync.{the_send as end-send}
 
--- ---- nodes, which hold nodes in lists of lists
+-- ---- nodes, which hold nodes in boxes of lists of lists, in one of the variants of an enum
+
+box-send : (R : RattleType) → IsSend R → IsSend (Box.the_row R Global.the_row ghosts)
+box-send R s = search (sendable, crosses) depth 40
 
 lists-send : (R : RattleType) → IsSend R → IsSend (Vec.the_row (VecDeque.the_row R Global.the_row ghosts) Global.the_row ghosts)
 lists-send R s = search (sendable, crosses) depth 40
 
+number-send : IsSend (as_row u32-field)
+number-send = search (sendable, crosses) depth 40
+
+-- a leaf has a number, and any other node a number and its rows
+layer-send : (R : RattleType) → IsSend R → IsSend (knot.layer-Shape R)
+layer-send R s =
+    let number : IsSend (as_row (row_field (as_row u32-field))) = as_row_send (row_field (as_row u32-field)) number-send in
+    let boxed = as_row_send (row_field (Box.the_row (Vec.the_row (VecDeque.the_row R Global.the_row ghosts) Global.the_row ghosts) Global.the_row ghosts)) (box-send _ (lists-send R s)) in
+    variants_send (knot.type-Shape R) ((number, tt), ((number, (boxed, tt)), tt))
+
+shape-send : (p : Parts knot.frame) → IsSend (rows knot.frame p member-Node) → IsSend (knot.at-Shape p)
+shape-send p all =
+    let nodes = rows knot.frame p member-Node in
+    recorded_send _ _ _ (split_one (knot.layer-Shape nodes) _ split-Shape join-Shape joins-Shape) (layer-send nodes all)
+
+view-send : (p : Parts knot.frame) → IsSend (rows knot.frame p member-Node) → IsSend (knot.view-Node p)
+view-send p all =
+    let shape = knot.at-Shape p in
+    let fields = declared_send (knot.type-Node shape) (as_row_send (row_field shape) (shape-send p all), tt) in
+    view_send _ _ _ _ _ (recorded_send _ _ _ (split_one (knot.layer-Node shape) _ split-Node join-Node joins-Node) fields)
+
 step-send : (p : Parts knot.frame) → IsSend (rows knot.frame p member-Node) → IsSend (rows knot.frame (knot.step p) member-Node)
-step-send p all = has_of knot.frame send (knot.step p) member-Node (λ d vs x. ((λ vss. (tt, ((tt, tt), ((lists-send (rows knot.frame p member-Node) all).owned (x.0.rows) (vss.1.0), tt)))), tt))
+step-send p all = has_of knot.frame send (knot.step p) member-Node (part_has send (knot.view-Node p) (view-send p all))
 
 by-member : (p : Parts knot.frame) → All (one_law the_members send) (rows knot.frame p) → All (one_law the_members send) (rows knot.frame (knot.step p))
 by-member p all member-Node = step-send p (all member-Node)
@@ -83,9 +109,6 @@ operand-send = search (sendable, crosses) depth 40
 
 relation-send : IsSend Relation.the_row
 relation-send = search (sendable, crosses) depth 40
-
-box-send : (R : RattleType) → IsSend R → IsSend (Box.the_row R Global.the_row ghosts)
-box-send R s = search (sendable, crosses) depth 40
 
 -- the fields of an atom, variant by variant, and of a conjunct, over other atoms and conjuncts
 abbrev atom_parts : RattleType → RattleType → List (List Field)
@@ -187,19 +210,22 @@ mailbox-send = search (sendable, crosses, message-send) depth 40 fits 100000
 outbox-send : IsSend Outbox.the_row
 outbox-send = search (sendable, crosses, stamped-send) depth 40 fits 100000
 
+value-send : IsSend Value.the_row
+value-send = search (sendable, crosses) depth 40 fits 100000
+
 effect-send : IsSend Effect.the_row
-effect-send = search (sendable, crosses) depth 40 fits 100000
+effect-send = search (sendable, crosses, message-send, value-send) depth 40 fits 100000
 
 firing-send : IsSend Firing.the_row
 firing-send = search (sendable, crosses, effect-send) depth 40 fits 100000
 
 entry-send : IsSend Entry.the_row
-entry-send = search (sendable, crosses, firing-send) depth 40 fits 100000
+entry-send = declared_send Entry.the_type (search (sendable, crosses) depth 40, (search (sendable, crosses) depth 40, (search (sendable, crosses, message-send) depth 40, (search (sendable, crosses) depth 40, (search (sendable, crosses, firing-send) depth 40, tt)))))
 
 -- ---- links, cells, helpers and posters
 
 sealed-send : IsSend Sealed.the_row
-sealed-send = search (sendable, crosses) depth 40 fits 100000
+sealed-send = declared_send Sealed.the_type (search (sendable, crosses, stamped-send) depth 40, tt)
 
 in-send : IsSend LinkIn.the_row
 in-send = search (sendable, crosses, end-send, sealed-send) depth 40 fits 100000

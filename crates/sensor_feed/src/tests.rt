@@ -4,7 +4,7 @@ ghost use Rattle.join_base.specs.Text.{is_name};
 ghost use Rattle.script_types.specs.Typed.{IsTyped};
 
 use crate::{FeedCause, FeedFault, feed_law, read_feed};
-use join_base::{Items, Name, NoMemory, Posts, Sort, Value};
+use join_base::{Items, Name, NoMemory, Posts, Sort, ValueRef};
 use script_types::{ActorPlan, Kind, Plan};
 use std::alloc::Global;
 use std::test::Fail;
@@ -142,7 +142,8 @@ fn is_said(posts: &Posts, place: usize, actor: u32, kind: u32, said: &[u8]) -> b
     let Some((target, message)) = posts.as_slice().get(place) else {
         return false;
     };
-    let Some(Value::Words(words)) = message.fields.as_slice().last() else {
+    let last = message.fields.len().saturating_sub(1);
+    let Some(ValueRef::Words(words)) = message.fields.get(last) else {
         return false;
     };
     *target == actor && message.kind == kind && words.bytes() == said

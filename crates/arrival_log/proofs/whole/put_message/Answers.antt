@@ -14,7 +14,6 @@ returns-clause-written c =
     let name : List ℕ = name_of_kind c.args.plan.now message.kind in
     let values =
     c.in_ok-end.ensures.written
-    ∙ ap (λ (fields : List Value). joined fields ++ drop c.put_words-end.result c.put_words-end.new.room) c.as_slice.ensures.same
     ∙ ap (λ (rest : List ℕ). joined message.fields ++ rest) c.put_words-end.ensures.written in
     let bracket = c.put_words-end-2.ensures.written ∙ ap (λ (rest : List ℕ). 40 ∷ rest) values in
     c.put_words.ensures.written

@@ -2,6 +2,7 @@ use Rattle.std.proofs.Common.{◌≡◌, ◌∙◌, ◌≤◌, ap, sym, arith, r
 use mir.Syntax.{w64}
 use mir.Val.{to_z, of_z}
 use Rattle.std.proofs.lemmas.Int.{to_z-of_z}
+use Rattle.join_base.specs.Fields.{value_seen}
 use Rattle.guard_eval.specs.Meaning.{int_of}
 use Rattle.guard_eval.proofs.ReadyLemmas.{value_at_parts}
 use Rattle.guard_eval.proofs.sums.integer.Goals as goal
@@ -13,4 +14,4 @@ returns-in-Some c =
     let same : c.requires.number ≡ c.in-Some.number = cc in
     let above : 1 ≤ c.in-Some.number = omega (arith, same, c.requires.above_zero) in
     read ∙ c.int_value.ensures
-    ∙ ap int_of (sym (value_at_parts c.args.letters.now c.args.slots.now c.args.place c.in-Some.number c.letter-message.result.now c.at.result.now here above c.letter-message.ensures.item c.at.ensures.item))
+    ∙ ap int_of (sym (value_at_parts c.args.letters.now c.args.slots.now c.args.place c.in-Some.number c.letter-message.result.now (value_seen c.at.result) here above c.letter-message.ensures.item c.at.ensures.item))
