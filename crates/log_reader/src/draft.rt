@@ -57,7 +57,7 @@ impl Draft {
             LogLine::Heading(actor) => self.begins(actor),
             LogLine::Arrives(arrival) => self.arrives(alloc, arrival),
             LogLine::Fires { rule, taken } => self.fires(alloc, rule, taken),
-            LogLine::Does(effect) => self.acts(effect),
+            LogLine::Does(effect) => self.acts(alloc, effect),
             LogLine::IsLate(source, count) => self.is_late(alloc, source, count),
             LogLine::Ends {
                 ending,
@@ -105,13 +105,13 @@ impl Draft {
         Ok(())
     }
 
-    fn acts(&mut self, effect: Effect) -> Result<(), LineFault>
+    fn acts(&mut self, alloc: Global, effect: Effect) -> Result<(), LineFault>
         ensures { Becomes result self.new (acts self.old effect) }
     {
         let Open::Fired(_, firing) = &mut self.reached else {
             return Err(LineFault::NoLine);
         };
-        add_effect(firing, effect)
+        add_effect(alloc, firing, effect)
     }
 
     fn is_late(&mut self, alloc: Global, source: Source, count: u64) -> Result<(), LineFault>
@@ -157,7 +157,7 @@ impl Draft {
         match mem::replace(&mut self.reached, next) {
             Open::Arrived(arrival) => self.entries.push(entry_with(arrival, Fired::none()))?,
             Open::Fired(arrival, firing) => {
-                let firing = Box::new(alloc, trimmed(firing))?;
+                let firing = Box::new(alloc, firing)?;
                 self.entries
                     .push(entry_with(arrival, Fired::from_box(firing)))?
             }
@@ -212,28 +212,17 @@ fn entry_with(arrival: Arrival, firing: Fired) -> Entry
     }
 }
 
-// The same firing, in no more memory than it needs: a log has many.
-fn trimmed(firing: Firing) -> Firing
-    ensures { result ≡ firing }
-{
-    let Firing {
-        rule,
-        taken,
-        effects,
-    } = firing;
-    let mut rows = effects.into_vec();
-    rows.shrink_to_fit();
-    Firing {
-        rule,
-        taken,
-        effects: Items::from_vec(rows),
-    }
-}
-
-fn add_effect(firing: &mut Firing, effect: Effect) -> Result<(), LineFault>
+// Adds an effect to a firing, whose list has room for no more than it holds: a log has many. Room that a longer list gave
+// back would stay unused between them.
+fn add_effect(alloc: Global, firing: &mut Firing, effect: Effect) -> Result<(), LineFault>
     ensures { Becomes result firing.new (Some (with_effect firing.old effect)) }
 {
-    firing.effects.push(effect)?;
+    let mut rows = mem::replace(&mut firing.effects, Items::new(alloc)).into_vec();
+    if rows.reserve_exact(1).is_err() {
+        return Err(LineFault::NoMemory);
+    }
+    rows.push_reserved(effect);
+    firing.effects = Items::from_vec(rows);
     Ok(())
 }
 
