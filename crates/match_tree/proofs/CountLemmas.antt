@@ -1,8 +1,6 @@
 -- How many routes go with nodes that are taken out of a row.
 use Rattle.std.proofs.Common.{◌≡◌, ◌∙◌, ℕ, suc, ◌+◌, ◌-◌, ◌<◌, ◌≤◌, List, [], ◌∷◌, ◌++◌, length, take, drop, get_or, set, Bool, true, false, cond, Some, sym, ap, subst, arith, length-append}
 use Rattle.std.specs.List.{filter, remove, AllByRecursion}
-use Rattle.std.specs.Prelude.{◌==◌}
-use Rattle.std.proofs.lemmas.Bool.Decides.{nat_tests}
 use Rattle.match_tree.specs.Routes.{Route, Branch, node_routes, row_routes, rows_routes}
 use Rattle.match_tree.specs.Order.{IsOrderedNode, IsSoundRow}
 use Rattle.match_tree.specs.Pruned.{AreShort}
@@ -77,7 +75,3 @@ counts_row rows i row within is =
     let b = length-append (row_routes i row) (rows_routes (i + 1) (drop (i + 1) rows)) in
     let c = row_count 0 i row in
     omega arith
-
--- a length that is told to be 0
-pub empty_length : (n m : ℕ) → n ≡ m → (n == 0) ≡ true → m ≡ 0
-empty_length n m e h = let is : n ≡ 0 = grind (arith, nat_tests) in omega arith

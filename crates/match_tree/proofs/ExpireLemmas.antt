@@ -1,11 +1,12 @@
 -- The nodes that a definition does not see stand at the front of the first rows.
-use Rattle.std.proofs.Common.{◌≡◌, ◌∙◌, not, length, ℕ, zero, suc, ◌+◌, ◌<◌, ◌≤◌, List, [], ◌∷◌, ◌++◌, map, get_or, Bool, true, false, ◌&&◌, cond, nat_le, nat_lt, Option, None, Some, refl, sym, ap, subst, arith}
+use Rattle.std.proofs.Common.{◌≡◌, ◌∙◌, not, length, ℕ, zero, suc, ◌+◌, ◌<◌, ◌≤◌, List, [], ◌∷◌, ◌++◌, map, Bool, true, false, ◌&&◌, cond, nat_le, nat_lt, Option, None, Some, refl, sym, ap, subst, arith}
 use Rattle.std.specs.Prelude.{MatchOption}
 use Rattle.std.specs.List.{filter, remove, AllByRecursion}
 use Rattle.std.proofs.lemmas.Bool.Decides.{nat_tests}
 use Rattle.std.proofs.lemmas.List.Elements.{filter-append}
 use Rattle.guard_eval.specs.Meaning.{Assignment}
 use Rattle.guard_eval.proofs.ReadyLemmas.{all_left, all_right}
+use Rattle.match_tree.specs.Rows.{node_at}
 use Rattle.match_tree.specs.Routes.{Route, Step, Branch, step, node_routes, row_routes, rows_routes, with_number, is_seen}
 use Rattle.match_tree.specs.Offers.{is_free}
 use Rattle.match_tree.specs.Below.{AreBelow, Climbs, IsOpen, AreOpen}
@@ -104,17 +105,15 @@ keep_seen oldest n (node ∷ row) e h =
     λ i. cond (here i) (node ∷ keep_seen oldest n row e h.1 i) (keep_seen oldest n row e h.1 i)
 
 -- the first node of a row tells whether all are seen
-pub front_seen : (oldest : ℕ) (row : List Branch) (first : Branch) → Rise (map (λ node. node.number) row) → 0 < length row → first ≡ get_or row 0 first → nat_lt first.number oldest ≡ false → seen_nodes oldest row ≡ row
-front_seen oldest [] first rise some is seen = refl
-front_seen oldest (node ∷ row) first rise some is seen =
-    let same : first.number ≡ node.number = ap (λ (x : Branch). x.number) is in
+pub front_seen : (oldest : ℕ) (row : List Branch) → Rise (map (λ node. node.number) row) → nat_lt (node_at row 0).number oldest ≡ false → seen_nodes oldest row ≡ row
+front_seen oldest [] rise seen = refl
+front_seen oldest (node ∷ row) rise seen =
     let here : nat_le oldest node.number ≡ true = grind (arith, nat_tests) in
     λ i. cond (here i) (node ∷ keep_seen oldest node.number row here (later_numbers node.number row rise.0) i) (keep_seen oldest node.number row here (later_numbers node.number row rise.0) i)
 
-pub front_unseen : (oldest : ℕ) (row : List Branch) (first : Branch) → 0 < length row → first ≡ get_or row 0 first → nat_lt first.number oldest ≡ true → seen_nodes oldest (remove row 0) ≡ seen_nodes oldest row
-front_unseen oldest [] first some is unseen = absurd (omega arith)
-front_unseen oldest (node ∷ row) first some is unseen =
-    let same : first.number ≡ node.number = ap (λ (x : Branch). x.number) is in
+pub front_unseen : (oldest : ℕ) (row : List Branch) → 0 < length row → nat_lt (node_at row 0).number oldest ≡ true → seen_nodes oldest (remove row 0) ≡ seen_nodes oldest row
+front_unseen oldest [] some unseen = absurd (omega arith)
+front_unseen oldest (node ∷ row) some unseen =
     let here : nat_le oldest node.number ≡ false = grind (arith, nat_tests) in
     λ i. cond (sym here i) (node ∷ seen_nodes oldest row) (seen_nodes oldest row)
 

@@ -1,8 +1,6 @@
 -- What is kept of a tree, and what its paths are.
 use Rattle.std.proofs.Common.{◌≡◌, inl, inr, ◌∙◌, ℕ, zero, suc, ◌+◌, ◌-◌, List, [], ◌∷◌, ◌++◌, map, length, replicate, Bool, true, false, not, ◌&&◌, cond, Option, None, Some, refl, sym, ap, subst, arith}
 use Rattle.std.specs.List.{filter}
-use Rattle.std.specs.declared.alloc.Global.{Global}
-use Rattle.std.specs.declared.collections.VecDeque.{VecDeque}
 use Rattle.std.proofs.lemmas.List.{length-map, map-append}
 use Rattle.std.proofs.lemmas.List.Filters.{length-filter_both}
 use Rattle.guard_eval.specs.Meaning.{Assignment}
@@ -15,8 +13,6 @@ use Rattle.match_tree.specs.Offers.{is_free}
 use Rattle.match_tree.specs.Below.{Climbs, IsOpen, AreOpen}
 use Rattle.match_tree.specs.Tree.{Tree, empty_of, SameMembers, is_path_without, with_paths}
 use Rattle.match_tree.specs.Routes.{Branch, rows_routes}
-use Rattle.match_tree.specs.Rows.{rows_of}
-use Rattle.match_tree.specs.declared.node.Node.{Node}
 use Rattle.match_tree.specs.Order.{AreOrdered}
 use Rattle.match_tree.specs.Pruned.{AreShort}
 use Rattle.match_tree.specs.Kept.{IsKept, CountsAdded, lasting, added, paths_of, reserve_of, tree_of}
@@ -127,11 +123,11 @@ settled_none d None routes h = refl
 settled_none d (Some x) routes h = absurd cc
 
 -- the paths of rows that are seen as a slice, by the number of patterns that was read
-pub kept_short : {d : Definition} {items seen : List (VecDeque Node Global)} {count patterns : ℕ} {pending : Option Pending} → seen ≡ items → patterns ≡ length d.patterns → IsKept d (rows_of items) count pending
-    → AreShort (patterns - 1) (rows_routes 0 (rows_of seen))
+pub kept_short : {d : Definition} {items seen : List (List Branch)} {count patterns : ℕ} {pending : Option Pending} → seen ≡ items → patterns ≡ length d.patterns → IsKept d items count pending
+    → AreShort (patterns - 1) (rows_routes 0 seen)
 kept_short {d} {items} {seen} {count} {patterns} {pending} same count_is k =
-    let short = open_short (length d.patterns) (rows_routes 0 (rows_of items)) k.free_left in
-    subst (λ (n : ℕ). AreShort (n - 1) (rows_routes 0 (rows_of seen))) (sym count_is) (subst (λ (xs : List (VecDeque Node Global)). AreShort (length d.patterns - 1) (rows_routes 0 (rows_of xs))) (sym same) short)
+    let short = open_short (length d.patterns) (rows_routes 0 items) k.free_left in
+    subst (λ (n : ℕ). AreShort (n - 1) (rows_routes 0 seen)) (sym count_is) (subst (λ (xs : List (List Branch)). AreShort (length d.patterns - 1) (rows_routes 0 xs)) (sym same) short)
 
 pub kept_aside : (d : Definition) (rows : List (List Branch)) (count : ℕ) (pending : Option Pending) (x : Pending) → IsKept d rows count pending → pending ≡ Some x
     → count ≡ x.aside + (1 + length (filter (lacks (x.number ∷ [])) (rows_routes 0 rows)))

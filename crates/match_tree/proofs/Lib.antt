@@ -14,6 +14,8 @@ pub mod ScreenLemmas
 pub mod WalkLemmas
 pub mod RowsLemmas
 pub mod PruneLemmas
+pub mod LeafLemmas
+pub mod KeyLemmas
 pub mod CountLemmas
 pub mod OpenLemmas
 pub mod SkipLemmas

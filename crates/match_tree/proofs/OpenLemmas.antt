@@ -14,7 +14,8 @@ use Rattle.match_tree.specs.Offering.{CanOffer}
 use Rattle.match_tree.proofs.LeadLemmas.{all_both}
 use Rattle.match_tree.proofs.VisitLemmas.{row_append}
 use Rattle.match_tree.proofs.WalkLemmas.{set_at_place, left_more}
-use Rattle.match_tree.proofs.RowsLemmas.{leaf, one_of_in}
+use Rattle.match_tree.specs.Rows.{leaf}
+use Rattle.match_tree.proofs.RowsLemmas.{one_of_in}
 
 module _ (slots : Assignment) where
   open_behind : (s : Step) (routes : List Route) → AreOpen slots (map (λ r. s ∷ r) routes) → AreOpen (with_number slots s.pattern s.number) routes

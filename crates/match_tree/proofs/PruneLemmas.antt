@@ -1,11 +1,10 @@
 -- Leaving nodes out of rows.
-use Rattle.std.proofs.Common.{◌≡◌, inl, inr, ◌∙◌, ℕ, zero, suc, ◌+◌, ◌-◌, ◌<◌, ◌≤◌, ◌≢◌, List, [], ◌∷◌, ◌++◌, map, length, take, drop, get_or, max, Bool, true, false, not, ◌&&◌, ◌||◌, cond, refl, sym, ap, subst, arith, length-append}
+use Rattle.std.proofs.Common.{◌≡◌, inl, inr, ◌∙◌, ℕ, zero, suc, ◌+◌, ◌-◌, ◌<◌, ◌≤◌, ◌≢◌, List, [], ◌∷◌, ◌++◌, map, length, take, drop, get_or, Bool, true, false, not, ◌&&◌, ◌||◌, cond, refl, sym, ap, subst, arith, length-append}
 use Rattle.std.specs.Prelude.{◌==◌}
 use Rattle.std.specs.List.{filter, AllByRecursion}
 use Rattle.std.specs.List.Sorted.{IsNonDecreasingBy, IsPartitionPoint}
 use Rattle.std.specs.Ordering.{nat_cmp, ordering_index}
 use Rattle.std.specs.declared.cmp.Ordering.TheVariants.{Less, Equal, Greater}
-use denote.Param.Weighed.{most}
 use Rattle.std.proofs.lemmas.Bool.{cases_lt}
 use Rattle.match_tree.proofs.LeadLemmas.{all_both}
 use Rattle.std.proofs.lemmas.Cmp.{ranked}
@@ -54,7 +53,7 @@ removed_is n (node ∷ row) (suc i) d rise within is =
 
 -- ---- where a search finds a number
 
-rise_le : (row : List Branch) (i j : ℕ) (d : Branch) → Rise (map (λ node. node.number) row) → i ≤ j → j < length row → (get_or row i d).number ≤ (get_or row j d).number
+pub rise_le : (row : List Branch) (i j : ℕ) (d : Branch) → Rise (map (λ node. node.number) row) → i ≤ j → j < length row → (get_or row i d).number ≤ (get_or row j d).number
 rise_le [] i j d rise l w = absurd (omega arith)
 rise_le (node ∷ row) zero zero d rise l w = omega arith
 rise_le (node ∷ row) zero (suc j) d rise l w = let later = at_place row j (omega arith) (later_numbers node.number row rise.0) in omega arith
@@ -236,15 +235,6 @@ all_rows P p (row ∷ rows) zero d within h =
 all_rows P p (row ∷ rows) (suc i) d within h =
     let same : p + 1 + i ≡ p + suc i = omega arith in
     subst (λ (k : ℕ). AllByRecursion P (row_routes k (get_or rows i d))) same (all_rows P (p + 1) rows i d (omega arith) (all_right P (row_routes p row) (rows_routes (p + 1) rows) h))
-
--- nodes that are left are no deeper
-pub most_filter : (size : Branch → ℕ) (p : Branch → Bool) (row : List Branch) → most size (filter p row) ≤ most size row
-most_filter size p [] = omega arith
-most_filter size p (node ∷ row) = by (p node) (most_filter size p row)
-  where
-    by : (b : Bool) → most size (filter p row) ≤ most size row → most size (cond b (node ∷ filter p row) (filter p row)) ≤ max (size node) (most size row)
-    by true later = omega arith
-    by false later = omega arith
 
 all_drop_from : (P : Route → Type 0) (p : ℕ) (rows : List (List Branch)) (i : ℕ) → AllByRecursion P (rows_routes p rows) → AllByRecursion P (rows_routes (p + i) (drop i rows))
 all_drop_from P p rows zero h = let same : p ≡ p + 0 = omega arith in subst (λ (k : ℕ). AllByRecursion P (rows_routes k rows)) same h

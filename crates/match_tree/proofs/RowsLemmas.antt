@@ -1,9 +1,7 @@
 -- A walk over rows, of which those so far were visited and the others are as they were.
-use Rattle.std.specs.declared.collections.VecDeque.{VecDeque}
-use Rattle.std.proofs.Common.{◌≡◌, inl, inr, ◌∙◌, ℕ, zero, suc, ◌+◌, ◌<◌, ◌≤◌, List, [], ◌∷◌, ◌++◌, map, length, take, drop, get_or, set, max, replicate, Bool, true, false, not, cond, ◌&&◌, ◌||◌, Option, None, Some, refl, sym, ap, subst, arith, length-append, append_assoc}
+use Rattle.std.proofs.Common.{◌≡◌, inl, inr, ◌∙◌, ℕ, zero, suc, ◌+◌, ◌<◌, ◌≤◌, List, [], ◌∷◌, ◌++◌, map, length, take, drop, get_or, set, replicate, Bool, true, false, not, cond, ◌&&◌, ◌||◌, Option, None, Some, refl, sym, ap, subst, arith, length-append, append_assoc}
 use Rattle.std.specs.Prelude.{◌==◌, if◌then◌else◌}
 use Rattle.std.specs.Ordering.{is_le}
-use denote.Param.Weighed.{most}
 use Rattle.pattern_core.specs.Key.{key_cmp}
 use Rattle.std.specs.List.{filter, AllByRecursion}
 use Rattle.std.proofs.lemmas.Bool.Decides.{nat_tests}
@@ -15,12 +13,10 @@ use Rattle.pattern_core.specs.Members.{IsIn}
 use Rattle.pattern_core.specs.Choice.{least, lesser_of}
 use Rattle.pattern_core.proofs.BestLemmas.{least-append}
 use Rattle.pattern_core.proofs.MembersLemmas.{IsIn-filter, IsIn-filter_from}
+use Rattle.match_tree.specs.Rows.{leaf}
 use Rattle.match_tree.specs.Routes.{Route, Branch, step, node_routes, row_routes, rows_routes, lacks}
 use Rattle.join_base.specs.Taken.{contains_number}
-use Rattle.std.specs.declared.alloc.Global.{Global}
 use Rattle.std.proofs.Math.Bool.{or-true}
-use Rattle.match_tree.specs.declared.node.Node.{Node}
-use Rattle.match_tree.specs.Rows.{rows_of}
 use Rattle.match_tree.specs.Offers.{Offered, places, may_take, leaves_one_free, matches_at, seen, new_matches, takers, growing}
 use Rattle.match_tree.specs.Offering.{LeadsOn, LeadOn}
 use Rattle.match_tree.specs.Order.{Rise, IsOrderedNode, IsSoundRow, AreSound}
@@ -191,20 +187,12 @@ module _ (rows items : List (List Branch)) (i : ℕ) (row now d : List Branch) (
       let rest = tries_append o slots (row_routes i row) (rows_routes (i + 1) (drop (i + 1) rows)) in
       omega arith
 
-pub drop-map : (i : ℕ) (xs : List (VecDeque Node Global)) → rows_of (drop i xs) ≡ drop i (rows_of xs)
-drop-map zero xs = refl
-drop-map (suc i) [] = refl
-drop-map (suc i) (x ∷ xs) = drop-map i xs
-
 pub get_or-map : {X Y : Type 0} (xs : List X) (i : ℕ) (d : X) (f : X → Y) → f (get_or xs i d) ≡ get_or (map f xs) i (f d)
 get_or-map [] i d f = refl
 get_or-map (x ∷ xs) zero d f = refl
 get_or-map (x ∷ xs) (suc i) d f = get_or-map xs i d f
 
 -- ---- a node for the number at the end of a row
-
-abbrev pub leaf : ℕ → Branch
-leaf n = record { number = n; routes = [] }
 
 rise_push : (ns : List ℕ) (n : ℕ) → Rise ns → AllByRecursion (λ m. m < n) ns → Rise (ns ++ n ∷ [])
 rise_push [] n h k = (tt, tt)
@@ -286,7 +274,3 @@ less_empty n (suc k) = (tt, less_empty n k)
 
 pub less_more : (n : ℕ) (rows grown : List (List Branch)) (k : ℕ) → grown ≡ rows ++ replicate k [] → AreLess n rows → AreLess n grown
 less_more n rows grown k e h = subst (AreLess n) (sym e) (all_both (IsLess n) rows (replicate k []) h (less_empty n k))
-
-pub most_map : {X Y : Type 0} (f : Y → ℕ) (g : X → Y) (xs : List X) → most f (map g xs) ≡ most (λ x. f (g x)) xs
-most_map f g [] = refl
-most_map f g (x ∷ xs) = ap (max (f (g x))) (most_map f g xs)

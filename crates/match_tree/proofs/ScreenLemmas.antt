@@ -1,7 +1,8 @@
 -- What fails a screen may be left out: no wanted pattern may take the number behind it.
-use Rattle.std.proofs.Common.{◌≡◌, ◌⊎◌, ◌∙◌, inl, inr, ℕ, zero, suc, ◌<◌, List, [], ◌∷◌, ◌++◌, map, length, get_or, Bool, true, false, cond, not, ◌&&◌, ◌||◌, Option, Some, None, slice_get, refl, sym, ap, subst, arith}
+use Rattle.std.proofs.Common.{◌≡◌, ◌⊎◌, ◌∙◌, inl, inr, ℕ, zero, suc, ◌+◌, ◌<◌, List, [], ◌∷◌, ◌++◌, map, length, get_or, Bool, true, false, cond, not, ◌&&◌, ◌||◌, Option, Some, None, slice_get, refl, sym, ap, subst, arith}
 use Rattle.std.specs.Prelude.{nat_le, slice_index, ◌==◌, IfSome}
 use Rattle.std.specs.List.{filter, list_all, AllByRecursion}
+use Rattle.std.proofs.lemmas.Bool.{cases_lt}
 use Rattle.join_base.specs.declared.message.Message.{Message}
 use Rattle.guard_eval.specs.Condition.{Condition}
 use Rattle.guard_eval.specs.Meaning.{Assignment, Need, letter_at, number_at, needs_of, has_some, is_slot_filled, is_filled, is_decided, is_true}
@@ -21,7 +22,8 @@ use Rattle.guard_bound.specs.Bound.{IsPair, meets}
 use Rattle.guard_bound.specs.Same.{is_same}
 use Rattle.guard_bound.proofs.SameLemmas.{same_said}
 use Rattle.guard_bound.specs.declared.same.Same.{Same}
-use Rattle.match_tree.specs.Screen.{AreTests, IsBound, IsDecidedAt, IsSaid, as_bound, passes}
+use Rattle.match_tree.specs.Rows.{node_at}
+use Rattle.match_tree.specs.Screen.{AreTests, AreWorthless, IsBound, IsDecidedAt, IsSaid, IsWorthless, Screens, as_bound, key_of, passes}
 use Rattle.match_tree.specs.declared.screen.Screen.{Screen}
 use Rattle.guard_bound.specs.declared.bound.Bound.{Bound}
 use Rattle.match_tree.specs.declared.screen.Key.{Key}
@@ -234,6 +236,19 @@ pub passed_worthless : (o : Offered) (slots : Assignment) (q : ℕ) (node : Bran
 passed_worthless o slots q node why ordered lead = elim why [
   | inl unseen ↦ passed_unseen o slots q node unseen ordered lead
   | inr none ↦ passed_quiet o slots q node none ordered lead
+]
+
+-- where it lacks the key of the row's screen, no pattern may take the offered number behind it
+pub lacks_screen : (o : Offered) (slots : Assignment) (q m : ℕ) (screen : Option Screen) (key : Option Key) → is_free slots q ≡ true → IfSome screen (Screens o slots q (others o slots q)) → key ≡ key_of screen → passes o.letters key m ≡ false → takers o (with_number slots q m) ≡ []
+lacks_screen o slots q m None key free h is fails = absurd (let bad = ap (λ (k : Option Key). passes o.letters k m) (sym is) ∙ fails in cc)
+lacks_screen o slots q m (Some screen) key free h is fails = lacks_key o slots q m screen.other free h.alone screen.key h.tested.key (ap (λ (k : Option Key). passes o.letters k m) (sym is) ∙ fails)
+
+pub worthless_on : (o : Offered) (slots : Assignment) (q : ℕ) (row : List Branch) (from place : ℕ) → AreWorthless o slots q row from place → IsWorthless o slots q (node_at row place).number → AreWorthless o slots q row from (place + 1)
+worthless_on o slots q row from place before here i l m = elim (cases_lt i place) [
+  | inl below ↦ before i l below
+  | inr above ↦
+      let at : place ≡ i = omega arith in
+      subst (λ (k : ℕ). IsWorthless o slots q (node_at row k).number) at here
 ]
 
 -- ---- what evaluation asks for

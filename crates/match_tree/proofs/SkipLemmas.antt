@@ -1,21 +1,19 @@
 -- A walk over the nodes of a row that leaves out those that are not worth a visit, and what it makes of the node that it has come to.
-use Rattle.std.proofs.Common.{◌≡◌, ◌∙◌, ℕ, zero, suc, ◌+◌, ◌-◌, ◌<◌, ◌≤◌, List, [], ◌∷◌, ◌++◌, length, take, drop, get_or, set, map, true, Option, Some, None, refl, sym, ap, subst, arith}
-use Rattle.std.proofs.lemmas.List.{take_more, length-set}
-use Rattle.std.specs.Prelude.{IfSome}
+use Rattle.std.proofs.Common.{◌≡◌, ◌∙◌, ℕ, zero, suc, ◌+◌, ◌-◌, ◌<◌, ◌≤◌, List, [], ◌∷◌, ◌++◌, length, take, drop, get_or, set, map, refl, sym, ap, subst, arith}
+use Rattle.std.proofs.lemmas.List.{take_more, length-set, get_or-drop}
 use Rattle.guard_eval.specs.Meaning.{Assignment}
 use Rattle.match_tree.specs.Routes.{Branch, with_number, node_routes, row_routes}
-use Rattle.match_tree.specs.Offers.{Offered, is_free, takers}
+use Rattle.match_tree.specs.Offers.{Offered}
 use Rattle.match_tree.specs.Below.{AreOpen}
 use Rattle.match_tree.specs.Offering.{LeadOn}
 use Rattle.match_tree.specs.Order.{IsOrderedNode, IsSoundRow}
 use Rattle.match_tree.specs.Growth.{Lasts}
 use Rattle.match_tree.specs.Tries.{tried, tries_behind}
-use Rattle.match_tree.specs.Screen.{AreLacking, Screens, key_of}
-use Rattle.match_tree.specs.declared.screen.Key.{Key}
-use Rattle.match_tree.specs.declared.screen.Screen.{Screen}
+use Rattle.match_tree.specs.Screen.{AreOffered, AreWorthless, IsOffered, IsWorthless}
+use Rattle.match_tree.specs.Rows.{leaf, node_at}
 use Rattle.match_tree.proofs.LeadLemmas.{Leads, lead_node, lead_below}
-use Rattle.match_tree.proofs.VisitLemmas.{Passed, Stays, passed_both, passed_quiet, passed_none}
-use Rattle.match_tree.proofs.ScreenLemmas.{lacks_key, others}
+use Rattle.match_tree.proofs.VisitLemmas.{Passed, Stays, passed_both, passed_none}
+use Rattle.match_tree.proofs.ScreenLemmas.{passed_worthless}
 use Rattle.match_tree.proofs.WalkLemmas.{all_at, counts_all, counts_on, left_item, left_more, left_set, passed_on, row_length, stays_sound, stopped, tries_most, tries_on}
 use Rattle.match_tree.proofs.OpenLemmas.{open_all, open_both, open_node, open_on, open_one}
 
@@ -30,27 +28,21 @@ pub record Walked (o : Offered) (slots : Assignment) (q : ℕ) (nodes items : Li
   pub counted : count + length (row_routes q (take place nodes)) ≡ count_before + length (row_routes q (take place items))
   pub stepped : steps ≤ steps_before + tries_behind o slots (row_routes q (take place nodes))
 
--- a node that lacks the key of the row's screen is not worth a visit
-lacking_none : (o : Offered) (slots : Assignment) (q : ℕ) (nodes : List Branch) (screen : Option Screen) (from to j : ℕ) (d : Branch) → is_free slots q ≡ true → IfSome screen (Screens o slots q (others o slots q))
-    → AreLacking o.letters (key_of screen) nodes from to → from ≤ j → j < to → takers o (with_number slots q (get_or nodes j d).number) ≡ []
-lacking_none o slots q nodes None from to j d free h lacking l m = absurd (let bad = lacking j l m d in cc)
-lacking_none o slots q nodes (Some screen) from to j d free h lacking l m = lacks_key o slots q (get_or nodes j d).number screen.other free h.alone screen.key h.tested.key (lacking j l m d)
-
-module _ (o : Offered) (slots : Assignment) (q : ℕ) (nodes items : List Branch) (count_before count steps_before steps : ℕ) (d : Branch) (sound : IsSoundRow nodes) (lead : LeadOn o slots (row_routes q nodes)) (opened : AreOpen slots (row_routes q nodes)) where
+module _ (o : Offered) (slots : Assignment) (q : ℕ) (nodes items : List Branch) (count_before count steps_before steps : ℕ) (sound : IsSoundRow nodes) (lead : LeadOn o slots (row_routes q nodes)) (opened : AreOpen slots (row_routes q nodes)) where
   abbrev At : ℕ → Type 0
   At place = Walked o slots q nodes items count_before count steps_before steps place
 
   -- a node more that is not worth a visit
-  walk_on : (i : ℕ) → i < length nodes → (is_free slots q ≡ true → takers o (with_number slots q (get_or items i d).number) ≡ []) → At i → At (i + 1)
-  walk_on i within quiet before =
-      let node : Branch = get_or nodes i d in
-      let is : get_or items i d ≡ node = left_item items nodes i d before.left in
-      let leads = lead_below o slots q node (lead_node o slots q nodes i d within lead) in
-      let none = subst (λ (x : Branch). takers o (with_number slots q x.number) ≡ []) is (quiet leads.free) in
+  walk_on : (i : ℕ) → i < length nodes → IsWorthless o slots q (node_at items i).number → At i → At (i + 1)
+  walk_on i within worthless before =
+      let d : Branch = leaf 0 in
+      let node : Branch = node_at nodes i in
+      let is : node_at items i ≡ node = left_item items nodes i d before.left in
+      let none = subst (λ (x : Branch). IsWorthless o slots q x.number) is worthless in
       let within' : i < length items = omega (arith, before.long) in
       let nodes_is : take (i + 1) nodes ≡ take i nodes ++ node ∷ [] = take_more nodes i d within in
       let items_is : take (i + 1) items ≡ take i items ++ node ∷ [] = take_more items i d within' ∙ ap (λ (x : Branch). take i items ++ x ∷ []) is in
-      let here = passed_quiet o slots q node none (all_at IsOrderedNode nodes i d within sound.ordered) (lead_node o slots q nodes i d within lead) in
+      let here = passed_worthless o slots q node none (all_at IsOrderedNode nodes i d within sound.ordered) (lead_node o slots q nodes i d within lead) in
       let both = passed_both o slots q (take i nodes) (node ∷ []) (take i items) (node ∷ []) before.passed here in
       let open_here = open_both slots q (take i items) (node ∷ []) before.opens (open_one slots q node (open_node slots q nodes i d within opened)) in
       let length_nodes = ap (λ (xs : List Branch). length (row_routes q xs)) nodes_is ∙ row_length q (take i nodes) node in
@@ -66,13 +58,13 @@ module _ (o : Offered) (slots : Assignment) (q : ℕ) (nodes items : List Branch
       }
 
   -- so many nodes more that are not
-  walk_far : (k i : ℕ) → i + k ≤ length nodes → ((j : ℕ) → i ≤ j → j < i + k → is_free slots q ≡ true → takers o (with_number slots q (get_or items j d).number) ≡ []) → At i → At (i + k)
+  walk_far : (k i : ℕ) → i + k ≤ length nodes → AreWorthless o slots q items i (i + k) → At i → At (i + k)
   walk_far zero i within none before = let same : i ≡ i + 0 = omega arith in subst At same before
   walk_far (suc k) i within none before =
       let more : (i + 1) + k ≡ i + suc k = omega arith in
       subst At more (walk_far k (i + 1) (omega arith) (λ j from to. none j (omega arith) (omega arith)) (walk_on i (omega arith) (none i (omega arith) (omega arith)) before))
 
-  pub walk_to : (i to : ℕ) → i ≤ to → to ≤ length nodes → ((j : ℕ) → i ≤ j → j < to → is_free slots q ≡ true → takers o (with_number slots q (get_or items j d).number) ≡ []) → At i → At to
+  pub walk_to : (i to : ℕ) → i ≤ to → to ≤ length nodes → AreWorthless o slots q items i to → At i → At to
   walk_to i to from within none before =
       let k : ℕ = to - i in
       let is : i + k ≡ to = omega arith in
@@ -82,15 +74,16 @@ module _ (o : Offered) (slots : Assignment) (q : ℕ) (nodes items : List Branch
 pub walk_first : (o : Offered) (slots : Assignment) (q : ℕ) (nodes : List Branch) (count steps : ℕ) → Walked o slots q nodes nodes count count steps steps 0
 walk_first o slots q nodes count steps = record { passed = passed_none o slots q; opens = tt; left = refl; long = refl; counted = refl; stepped = omega arith }
 
--- where the numbers up to a place lack the key of the row's screen, the nodes are passed
-pub walk_lacking : (o : Offered) (slots : Assignment) (q : ℕ) (nodes items : List Branch) (count_before count steps_before steps : ℕ) (screen : Option Screen) (key : Option Key) (from to : ℕ)
-    → IsSoundRow nodes → LeadOn o slots (row_routes q nodes) → AreOpen slots (row_routes q nodes) → IfSome screen (Screens o slots q (others o slots q)) → key ≡ key_of screen
-    → from ≤ to → to ≤ length items → AreLacking o.letters key items from to → Walked o slots q nodes items count_before count steps_before steps from → Walked o slots q nodes items count_before count steps_before steps to
-walk_lacking o slots q nodes items count_before count steps_before steps screen key from to sound lead opened screens key_is ordered within lacking before =
-    let d : Branch = record { number = 0; routes = [] } in
-    let Lacks : Option Key → Type 0 = λ k. AreLacking o.letters k items from to in
-    walk_to o slots q nodes items count_before count steps_before steps d sound lead opened from to ordered (omega (arith, before.long))
-    (λ j l m free. lacking_none o slots q items screen from to j d free screens (subst Lacks key_is lacking) l m) before
+-- the numbers of the nodes from the place on may be tried
+pub walked_offers : {o : Offered} {slots : Assignment} {q : ℕ} (nodes items : List Branch) (place : ℕ) → LeadOn o slots (row_routes q nodes) → length items ≡ length nodes → drop place items ≡ drop place nodes → AreOffered o slots q items place
+walked_offers {o} {slots} {q} nodes items place lead long left i from within =
+    let d : Branch = leaf 0 in
+    let gap : ℕ = i - place in
+    let at : place + gap ≡ i = omega arith in
+    let item : (xs : List Branch) → get_or (drop place xs) gap d ≡ get_or xs i d = λ xs. get_or-drop place xs gap d ∙ ap (λ (k : ℕ). get_or xs k d) at in
+    let is : node_at nodes i ≡ node_at items i = sym (item nodes) ∙ ap (λ (xs : List Branch). get_or xs gap d) (sym left) ∙ item items in
+    let leads = lead_below o slots q (node_at nodes i) (lead_node o slots q nodes i d (omega (arith, long)) lead) in
+    subst (λ (x : Branch). IsOffered o slots q x.number) is (record { can = leads.can; free = leads.free })
 
 -- ---- the node that a walk has come to
 

@@ -6,12 +6,14 @@ pub mod Tries
 -- What private functions compute: the nodes of a tree as routes, and what a visit or a prune makes of them.
 pub mod Routes
 pub mod Rows
+pub mod RowNumbers
 pub mod Shapes
 pub mod Smaller
 pub mod Below
 pub mod Order
 pub mod Growth
 pub mod Begins
+pub mod Behind
 pub mod Pruned
 pub mod Kept
 pub mod Screen

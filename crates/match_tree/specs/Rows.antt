@@ -1,9 +1,14 @@
--- The rows of nodes, as lists.
-use Rattle.std.specs.Prelude.{List, map}
-use Rattle.std.specs.declared.alloc.Global.{Global}
-use Rattle.std.specs.declared.collections.VecDeque.{VecDeque}
-use Rattle.match_tree.specs.Routes.{Branch}
-use Rattle.match_tree.specs.declared.node.Node.{Node}
+-- Nodes one by one: a leaf, the node at a place of a row, and a node with other routes.
+use Rattle.std.specs.Prelude.{ℕ, List, [], slice_index_or}
+use Rattle.match_tree.specs.Routes.{Branch, Route}
 
-abbrev pub rows_of : List (VecDeque Node Global) → List (List Branch)
-rows_of rows = map (λ row. row.items) rows
+-- a node from which no routes lead on
+abbrev pub leaf : ℕ → Branch
+leaf number = record { number = number; routes = [] }
+
+abbrev pub node_at : List Branch → ℕ → Branch
+node_at row place = slice_index_or row place (leaf 0)
+
+-- the node with these routes in place of its own
+abbrev pub leads_to : Branch → List Route → Branch
+leads_to node routes = record { number = node.number; routes = routes }

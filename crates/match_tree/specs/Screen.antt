@@ -1,5 +1,5 @@
 -- A test of the numbers of a row: behind those that fail it, no wanted pattern may take the offered number.
-use Rattle.std.specs.Prelude.{false, ◌≡◌, ℕ, List, [], ◌∷◌, Bool, true, Option, Some, None, IfSome, slice_get, slice_index_or, ◌<◌, ◌≤◌}
+use Rattle.std.specs.Prelude.{false, ◌≡◌, ◌⊎◌, ℕ, List, [], ◌∷◌, Bool, true, Option, Some, None, IfSome, slice_get, slice_index, length, nat_le, ◌<◌, ◌≤◌}
 use Rattle.std.specs.List.{AllByRecursion}
 use Rattle.std.specs.Ordering.{int_eq}
 use Rattle.join_base.specs.declared.message.Message.{Message}
@@ -14,7 +14,9 @@ use Rattle.match_tree.specs.declared.screen.Screen.{Screen}
 use Rattle.match_tree.specs.Routes.{Branch, with_number}
 use Rattle.guard_bound.specs.Bound.{Says, int_at}
 use Rattle.guard_bound.specs.Same.{SaysSame}
-use Rattle.match_tree.specs.Offers.{Offered}
+use Rattle.match_tree.specs.Rows.{node_at}
+use Rattle.match_tree.specs.Offers.{Offered, is_free, takers}
+use Rattle.match_tree.specs.Offering.{CanOffer}
 
 -- the equality as a bound
 abbrev pub as_bound : Key → Bound
@@ -61,10 +63,27 @@ pub record IsWith (slots : Assignment) (pattern number : ℕ) (longer : Assignme
   pub free : slice_get slots pattern ≡ Some None
   pub is : longer ≡ with_number slots pattern number
 
+-- those between the two places have not the key's value
+abbrev pub AreLacking : List Message → Option Key → List ℕ → ℕ → ℕ → Type 0
+AreLacking letters key numbers from to = (i : ℕ) → from ≤ i → i < to → passes letters key (slice_index numbers i) ≡ false
+
 abbrev pub key_of : Option Screen → Option Key
 key_of None = None
 key_of (Some screen) = screen.key
 
--- the nodes between the two places have not the key's value
-abbrev pub AreLacking : List Message → Option Key → List Branch → ℕ → ℕ → Type 0
-AreLacking letters key nodes from to = (i : ℕ) → from ≤ i → i < to → (d : Branch) → passes letters key (slice_index_or nodes i d).number ≡ false
+-- the offered number may be tried behind the row's number, which the pattern has no other for
+pub record IsOffered (o : Offered) (slots : Assignment) (pattern number : ℕ) : Type 0 where
+  pub can : CanOffer o (with_number slots pattern number)
+  pub free : is_free slots pattern ≡ true
+
+-- from the place on, all numbers of the row may be tried
+abbrev pub AreOffered : Offered → Assignment → ℕ → List Branch → ℕ → Type 0
+AreOffered o slots pattern row from = (i : ℕ) → from ≤ i → i < length row → IsOffered o slots pattern (node_at row i).number
+
+-- the definition no longer sees the number, or no pattern may take the offered one behind it
+abbrev pub IsWorthless : Offered → Assignment → ℕ → ℕ → Type 0
+IsWorthless o slots pattern number = (nat_le o.oldest number ≡ false) ⊎ (takers o (with_number slots pattern number) ≡ [])
+
+-- those between the two places
+abbrev pub AreWorthless : Offered → Assignment → ℕ → List Branch → ℕ → ℕ → Type 0
+AreWorthless o slots pattern row from to = (i : ℕ) → from ≤ i → i < to → IsWorthless o slots pattern (node_at row i).number

@@ -1,13 +1,23 @@
--- What the two shapes of a node have in common: its number, and the rows behind it, of which a leaf has none.
-use Rattle.std.specs.Prelude.{ℕ, List, [], map}
+-- What the two shapes of a node have in common, its number and the rows behind it, and what the forms of a row have in common, its nodes.
+use Rattle.std.specs.Prelude.{ℕ, List, [], ◌∷◌, map}
 use Rattle.match_tree.specs.Routes.{Branch}
+use Rattle.match_tree.specs.Rows.{leaf}
 use Rattle.match_tree.specs.declared.node.Shape.{Shape}
 use Rattle.match_tree.specs.declared.node.Shape.TheVariants.{Leaf, Inner}
+use Rattle.match_tree.specs.declared.row.Nodes.{Nodes}
+use Rattle.match_tree.specs.declared.row.Nodes.TheVariants.{Empty, One, Leaves, Mixed}
 
 abbrev pub number_of : Shape → ℕ
 number_of (Leaf number) = number
 number_of (Inner number rows) = number
 
+-- a leaf has none
 abbrev pub rows_behind : Shape → List (List Branch)
 rows_behind (Leaf number) = []
-rows_behind (Inner number rows) = map (λ row. row.items) rows.value.items
+rows_behind (Inner number rows) = rows.value.items
+
+abbrev pub branches : Nodes → List Branch
+branches Empty = []
+branches (One number) = leaf number ∷ []
+branches (Leaves numbers) = map leaf numbers.value.items
+branches (Mixed nodes) = nodes.value.items

@@ -2,33 +2,31 @@
 ghost use Rattle.std.specs.Prelude.{◌≡◌, ◌+◌, ◌^◌, ◌<◌, length, map, true, false};
 ghost use Rattle.std.specs.List.{remove};
 ghost use Rattle.match_tree.specs.Routes.{row_routes, rows_routes};
-ghost use Rattle.match_tree.specs.Rows.{rows_of};
 ghost use Rattle.match_tree.specs.Order.{AreSound, IsSoundRow, Rise};
 ghost use Rattle.match_tree.specs.Pruned.{AreShort, seen_nodes};
 
-use crate::node::Node;
 use crate::prune::remove_at;
-use std::collections::VecDeque;
+use crate::row::Row;
 
 // Whether a row has a node with a number before the oldest: then its first node has one, since the numbers rise.
-fn begins_unseen(row: &VecDeque<Node>, oldest: u32) -> bool
-    requires { Rise (map (λ node. node.number) row.now.items) }
-    ensures none { result ≡ false → seen_nodes oldest row.now.items ≡ row.now.items }
-    ensures first { result ≡ true → (0 < length row.now.items) × (seen_nodes oldest (remove row.now.items 0) ≡ seen_nodes oldest row.now.items) }
+fn begins_unseen(row: &Row, oldest: u32) -> bool
+    requires { Rise (map (λ node. node.number) row.now) }
+    ensures none { result ≡ false → seen_nodes oldest row.now ≡ row.now }
+    ensures first { result ≡ true → (0 < length row.now) × (seen_nodes oldest (remove row.now 0) ≡ seen_nodes oldest row.now) }
 {
-    match row.front() {
-        None => false,
-        Some(node) => node.number() < oldest,
+    if row.len() == 0 {
+        return false;
     }
+    row.number_at(0) < oldest
 }
 
 // Takes the nodes with numbers before the oldest out of a row. The answer is how many routes went with them.
-fn drop_front(row: &mut VecDeque<Node>, oldest: u32, levels: usize) -> u64
-    requires sound { IsSoundRow row.old.items }
-    requires few { length (row_routes 0 row.old.items) < 2 ^ 64 }
-    requires short { AreShort levels (row_routes 0 row.old.items) }
-    ensures left { row.new.items ≡ seen_nodes oldest row.old.items }
-    ensures gone { result + length (row_routes 0 row.new.items) ≡ length (row_routes 0 row.old.items) }
+fn drop_front(row: &mut Row, oldest: u32, levels: usize) -> u64
+    requires sound { IsSoundRow row.old }
+    requires few { length (row_routes 0 row.old) < 2 ^ 64 }
+    requires short { AreShort levels (row_routes 0 row.old) }
+    ensures left { row.new ≡ seen_nodes oldest row.old }
+    ensures gone { result + length (row_routes 0 row.new) ≡ length (row_routes 0 row.old) }
 {
     let mut gone = 0;
     for _dropped in 0..row.len() {
@@ -42,12 +40,12 @@ fn drop_front(row: &mut VecDeque<Node>, oldest: u32, levels: usize) -> u64
 
 /// Takes the nodes with numbers before the oldest out of the rows. The answer is how many routes went with them. No route
 /// has more steps than there are levels.
-pub fn drop_unseen(rows: &mut [VecDeque<Node>], oldest: u32, levels: usize) -> u64
-    requires few { length (rows_routes 0 (rows_of rows.old)) < 2 ^ 64 }
-    requires sound { AreSound (rows_of rows.old) }
-    requires short { AreShort levels (rows_routes 0 (rows_of rows.old)) }
-    ensures left { rows_of rows.new ≡ map (seen_nodes oldest) (rows_of rows.old) }
-    ensures gone { result + length (rows_routes 0 (rows_of rows.new)) ≡ length (rows_routes 0 (rows_of rows.old)) }
+pub fn drop_unseen(rows: &mut [Row], oldest: u32, levels: usize) -> u64
+    requires few { length (rows_routes 0 rows.old) < 2 ^ 64 }
+    requires sound { AreSound rows.old }
+    requires short { AreShort levels (rows_routes 0 rows.old) }
+    ensures left { rows.new ≡ map (seen_nodes oldest) rows.old }
+    ensures gone { result + length (rows_routes 0 rows.new) ≡ length (rows_routes 0 rows.old) }
 {
     let mut gone = 0;
     for row in rows.iter_mut() {

@@ -7,7 +7,7 @@
 //! Contracts see a `Tree`: its paths as assignments, of which none stands twice, and what a reserve has set aside. `reserve_for`
 //! counts its tries: at most those of `tries`. Behind that stand nodes, each with a row of later nodes for each pattern. Rows are
 //! ring buffers in the order of their numbers, so that the oldest node goes at a constant cost, and only the nodes that go are
-//! counted; no contract speaks of that.
+//! counted. A row whose nodes have nothing behind them holds their numbers alone. No contract speaks of that.
 //!
 //! Before a node is tried, a screen of its row looks at the conjuncts that the row's pattern and the wanted one decide together,
 //! and first at one that says what an integer field of the row is equal to. It leaves out nodes behind which no try can succeed,
@@ -22,6 +22,8 @@ mod offer;
 mod pending;
 mod prune;
 mod reserve;
+mod row;
+mod row_numbers;
 mod screen;
 #[cfg(test)]
 mod tests;

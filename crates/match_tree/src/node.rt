@@ -1,7 +1,9 @@
 //! Nodes of a tree whose paths are partial matches.
-ghost use Rattle.std.specs.Prelude.{◌≡◌};
+ghost use Rattle.std.specs.Prelude.{◌≡◌, ◌≤◌, [], length};
+ghost use Rattle.match_tree.specs.Routes.{rows_routes};
+ghost use Rattle.match_tree.specs.Rows.{leaf, leads_to};
 
-use std::collections::VecDeque;
+use crate::row::Row;
 use std::marker::Model;
 
 /// A node takes a number behind the path to it. For each pattern it has the nodes that go on with a later number there.
@@ -17,10 +19,10 @@ pub struct Node {
 #[derive(Drop)]
 pub enum Shape {
     Leaf(u32),
-    Inner(u32, Box<Vec<VecDeque<Node>>>),
+    Inner(u32, Box<Vec<Row>>),
 }
 
-// A message that waits costs a node in each definition that it waits in.
+// A message that waits costs a node in each row of nodes that it waits in.
 const _: () = prove!(size_of::<Node>() <= 16);
 
 impl Model for Node {
@@ -28,7 +30,7 @@ impl Model for Node {
 
     ghost Value = { Branch };
 
-    ghost use Rattle.std.specs.Prelude.{◌≤◌, length};
+    ghost use Rattle.std.specs.Prelude.{◌≤◌, ◌*◌, ◌+◌, length};
     ghost use Rattle.match_tree.specs.Routes.{rows_routes};
     ghost use Rattle.match_tree.specs.Shapes.{number_of, rows_behind};
 
@@ -36,7 +38,7 @@ impl Model for Node {
 
     ghost invariant = { λ a. length (rows_behind a.shape) ≤ 8 };
 
-    ghost size = { λ node. length node.routes };
+    ghost size = { λ node. 2 * length node.routes + 1 };
 
     ghost use Rattle.std.proofs.Common.{arith};
     ghost use Rattle.match_tree.specs.Smaller.{most_behind};
@@ -45,6 +47,15 @@ impl Model for Node {
 }
 
 impl Node {
+    /// A node with nothing behind it.
+    pub fn leaf(number: u32) -> Node
+        ensures { result ≡ leaf number }
+    {
+        Node {
+            shape: Shape::Leaf(number),
+        }
+    }
+
     pub fn number(&self) -> u32
         ensures { result ≡ self.now.number }
     {
@@ -52,5 +63,13 @@ impl Node {
             Shape::Leaf(number) => number,
             Shape::Inner(number, _) => number,
         }
+    }
+
+    /// Puts rows behind the node, in place of those that it has.
+    pub fn put_behind(&mut self, rows: Box<Vec<Row>>)
+        requires few { length rows.value.items ≤ 8 }
+        ensures { self.new ≡ leads_to self.old (rows_routes 0 rows.value.items) }
+    {
+        self.shape = Shape::Inner(self.number(), rows);
     }
 }

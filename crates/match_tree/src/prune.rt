@@ -1,44 +1,60 @@
 //! Leaving nodes out, and counting them.
-ghost use Rattle.std.specs.Prelude.{◌≡◌, ◌≢◌, ◌+◌, ◌^◌, ◌<◌, ◌≤◌, ℕ, length, map, MatchOption, slice_index_or};
+ghost use Rattle.std.specs.Prelude.{◌≡◌, ◌+◌, ◌^◌, ◌<◌, ◌≤◌, ℕ, length, map};
 ghost use Rattle.std.specs.List.{filter, remove, AllByRecursion};
 ghost use Rattle.match_tree.specs.Routes.{rows_routes, row_routes, lacks};
-ghost use Rattle.match_tree.specs.Rows.{rows_of};
-ghost use Rattle.match_tree.specs.Order.{IsOrderedNode, IsSoundRow, AreSound, Rise};
+ghost use Rattle.match_tree.specs.Order.{IsOrderedNode, IsSoundRow, AreSound};
 ghost use Rattle.match_tree.specs.Pruned.{AreShort, pruned, without_number, without_numbers};
 
 use crate::node::{Node, Shape};
+use crate::row::{Nodes, Row};
 use join_base::Numbers;
 use std::collections::VecDeque;
 
 // How many routes the rows have, none of which has more steps than there are levels.
 #[cycle(count)]
-pub fn count_rows(rows: &[VecDeque<Node>], levels: usize) -> u64
-    requires few { length (rows_routes 0 (rows_of rows.now)) < 2 ^ 64 }
-    requires sound { AreSound (rows_of rows.now) }
-    requires short { AreShort levels (rows_routes 0 (rows_of rows.now)) }
-    ensures { result ≡ length (rows_routes 0 (rows_of rows.now)) }
+pub fn count_rows(rows: &[Row], levels: usize) -> u64
+    requires few { length (rows_routes 0 rows.now) < 2 ^ 64 }
+    requires sound { AreSound rows.now }
+    requires short { AreShort levels (rows_routes 0 rows.now) }
+    ensures { result ≡ length (rows_routes 0 rows.now) }
 {
     let mut count = 0;
     for row in rows {
-        count += count_nodes(row, levels);
+        count += count_row(row, levels);
     }
     count
 }
 
-// How many routes begin at the nodes.
+// How many routes begin at the nodes of a row. Nothing is behind those of the last level.
+#[cycle(count)]
+fn count_row(row: &Row, levels: usize) -> u64
+    requires few { length (row_routes 0 row.now) < 2 ^ 64 }
+    requires sound { IsSoundRow row.now }
+    requires short { AreShort levels (row_routes 0 row.now) }
+    ensures { result ≡ length (row_routes 0 row.now) }
+{
+    if levels <= 1 {
+        return row.len() as u64;
+    }
+    match &row.nodes {
+        Nodes::Empty => 0,
+        Nodes::One(_) => 1,
+        Nodes::Leaves(leaves) => leaves.len() as u64,
+        Nodes::Mixed(nodes) => count_nodes(nodes, levels - 1),
+    }
+}
+
+// How many routes begin at the nodes, where none that leads on from one has more steps than there are levels.
 #[cycle(count)]
 fn count_nodes(nodes: &VecDeque<Node>, levels: usize) -> u64
     requires few { length (row_routes 0 nodes.now.items) < 2 ^ 64 }
-    requires sound { IsSoundRow nodes.now.items }
-    requires short { AreShort levels (row_routes 0 nodes.now.items) }
+    requires ordered { AllByRecursion IsOrderedNode nodes.now.items }
+    requires short { AllByRecursion (λ node. AreShort levels node.routes) nodes.now.items }
     ensures { result ≡ length (row_routes 0 nodes.now.items) }
 {
-    if levels <= 1 {
-        return nodes.len() as u64;
-    }
     let mut count = 0;
     for place in 0..nodes.len() {
-        count += 1 + count_node(&nodes[place], levels - 1);
+        count += 1 + count_node(&nodes[place], levels);
     }
     count
 }
@@ -57,53 +73,65 @@ fn count_node(node: &Node, levels: usize) -> u64
     }
 }
 
-// The place of the node with the number among nodes whose numbers rise.
-fn place_of(nodes: &VecDeque<Node>, number: u32) -> Option<usize>
-    requires { Rise (map (λ node. node.number) nodes.now.items) }
-    ensures { MatchOption result (AllByRecursion (λ node. node.number ≢ number) nodes.now.items) (λ i. (i < length nodes.now.items) × ((d : _) → (slice_index_or nodes.now.items i d).number ≡ number)) }
+// Takes the node at a place out. The answer is how many routes went with it.
+fn remove_node(nodes: &mut VecDeque<Node>, place: usize, levels: usize) -> u64
+    requires within { place < length nodes.old.items }
+    requires ordered { AllByRecursion IsOrderedNode nodes.old.items }
+    requires few { length (row_routes 0 nodes.old.items) < 2 ^ 64 }
+    requires short { AreShort levels (row_routes 0 nodes.old.items) }
+    ensures left { nodes.new.items ≡ remove nodes.old.items place }
+    ensures gone { result + length (row_routes 0 nodes.new.items) ≡ length (row_routes 0 nodes.old.items) }
 {
-    match nodes.binary_search_by_key(&number, |node| node.number()) {
-        Ok(place) => Some(place),
-        Err(_) => None,
-    }
-}
-
-/// Takes the node at a place out of a row. The answer is how many routes went with it.
-pub fn remove_at(row: &mut VecDeque<Node>, place: usize, levels: usize) -> u64
-    requires within { place < length row.old.items }
-    requires ordered { AllByRecursion IsOrderedNode row.old.items }
-    requires few { length (row_routes 0 row.old.items) < 2 ^ 64 }
-    requires short { AreShort levels (row_routes 0 row.old.items) }
-    ensures left { row.new.items ≡ remove row.old.items place }
-    ensures gone { result + length (row_routes 0 row.new.items) ≡ length (row_routes 0 row.old.items) }
-{
-    let Some(node) = row.remove(place) else {
+    let Some(node) = nodes.remove(place) else {
         return 0;
     };
     1 + count_node(&node, levels - 1)
 }
 
-// Takes the node with the number out of a row. The answer is how many routes went with it.
-fn remove_number(row: &mut VecDeque<Node>, number: u32, levels: usize) -> u64
-    requires sound { IsSoundRow row.old.items }
-    requires few { length (row_routes 0 row.old.items) < 2 ^ 64 }
-    requires short { AreShort levels (row_routes 0 row.old.items) }
-    ensures left { row.new.items ≡ without_number number row.old.items }
-    ensures gone { result + length (row_routes 0 row.new.items) ≡ length (row_routes 0 row.old.items) }
+/// Takes the node at a place out of a row. The answer is how many routes went with it.
+pub fn remove_at(row: &mut Row, place: usize, levels: usize) -> u64
+    requires within { place < length row.old }
+    requires ordered { AllByRecursion IsOrderedNode row.old }
+    requires few { length (row_routes 0 row.old) < 2 ^ 64 }
+    requires short { AreShort levels (row_routes 0 row.old) }
+    ensures left { row.new ≡ remove row.old place }
+    ensures gone { result + length (row_routes 0 row.new) ≡ length (row_routes 0 row.old) }
 {
-    match place_of(row, number) {
+    match &mut row.nodes {
+        Nodes::Empty => 0,
+        Nodes::One(_) => {
+            row.nodes = Nodes::Empty;
+            1
+        }
+        Nodes::Leaves(leaves) => {
+            let _ = leaves.remove(place);
+            1
+        }
+        Nodes::Mixed(nodes) => remove_node(nodes, place, levels),
+    }
+}
+
+// Takes the node with the number out of a row. The answer is how many routes went with it.
+fn remove_number(row: &mut Row, number: u32, levels: usize) -> u64
+    requires sound { IsSoundRow row.old }
+    requires few { length (row_routes 0 row.old) < 2 ^ 64 }
+    requires short { AreShort levels (row_routes 0 row.old) }
+    ensures left { row.new ≡ without_number number row.old }
+    ensures gone { result + length (row_routes 0 row.new) ≡ length (row_routes 0 row.old) }
+{
+    match row.place_of(number) {
         None => 0,
         Some(place) => remove_at(row, place, levels),
     }
 }
 
 // Takes the nodes with the numbers out of a row. The answer is how many routes went with them.
-fn remove_numbers(row: &mut VecDeque<Node>, numbers: &Numbers, levels: usize) -> u64
-    requires sound { IsSoundRow row.old.items }
-    requires few { length (row_routes 0 row.old.items) < 2 ^ 64 }
-    requires short { AreShort levels (row_routes 0 row.old.items) }
-    ensures left { row.new.items ≡ without_numbers numbers.now row.old.items }
-    ensures gone { result + length (row_routes 0 row.new.items) ≡ length (row_routes 0 row.old.items) }
+fn remove_numbers(row: &mut Row, numbers: &Numbers, levels: usize) -> u64
+    requires sound { IsSoundRow row.old }
+    requires few { length (row_routes 0 row.old) < 2 ^ 64 }
+    requires short { AreShort levels (row_routes 0 row.old) }
+    ensures left { row.new ≡ without_numbers numbers.now row.old }
+    ensures gone { result + length (row_routes 0 row.new) ≡ length (row_routes 0 row.old) }
 {
     let mut gone = 0;
     for number in numbers.as_slice() {
@@ -115,12 +143,12 @@ fn remove_numbers(row: &mut VecDeque<Node>, numbers: &Numbers, levels: usize) ->
 /// Leaves out the routes that take one of the numbers. The answer is how many they were. No route has more steps than there
 /// are levels.
 #[cycle(prune)]
-pub fn prune_rows(rows: &mut [VecDeque<Node>], numbers: &Numbers, levels: usize) -> u64
-    requires few { length (rows_routes 0 (rows_of rows.old)) < 2 ^ 64 }
-    requires sound { AreSound (rows_of rows.old) }
-    requires short { AreShort levels (rows_routes 0 (rows_of rows.old)) }
-    ensures left { rows_routes 0 (rows_of rows.new) ≡ filter (lacks numbers.now) (rows_routes 0 (rows_of rows.old)) }
-    ensures gone { result + length (rows_routes 0 (rows_of rows.new)) ≡ length (rows_routes 0 (rows_of rows.old)) }
+pub fn prune_rows(rows: &mut [Row], numbers: &Numbers, levels: usize) -> u64
+    requires few { length (rows_routes 0 rows.old) < 2 ^ 64 }
+    requires sound { AreSound rows.old }
+    requires short { AreShort levels (rows_routes 0 rows.old) }
+    ensures left { rows_routes 0 rows.new ≡ filter (lacks numbers.now) (rows_routes 0 rows.old) }
+    ensures gone { result + length (rows_routes 0 rows.new) ≡ length (rows_routes 0 rows.old) }
 {
     let mut gone = 0;
     for row in rows.iter_mut() {
@@ -130,21 +158,38 @@ pub fn prune_rows(rows: &mut [VecDeque<Node>], numbers: &Numbers, levels: usize)
 }
 
 #[cycle(prune)]
-fn prune_row(row: &mut VecDeque<Node>, numbers: &Numbers, levels: usize) -> u64
-    requires few { length (row_routes 0 row.old.items) < 2 ^ 64 }
-    requires sound { IsSoundRow row.old.items }
-    requires short { AreShort levels (row_routes 0 row.old.items) }
-    ensures left { (pattern : ℕ) → row_routes pattern row.new.items ≡ filter (lacks numbers.now) (row_routes pattern row.old.items) }
-    ensures gone { result + length (row_routes 0 row.new.items) ≡ length (row_routes 0 row.old.items) }
+fn prune_row(row: &mut Row, numbers: &Numbers, levels: usize) -> u64
+    requires few { length (row_routes 0 row.old) < 2 ^ 64 }
+    requires sound { IsSoundRow row.old }
+    requires short { AreShort levels (row_routes 0 row.old) }
+    ensures left { (pattern : ℕ) → row_routes pattern row.new ≡ filter (lacks numbers.now) (row_routes pattern row.old) }
+    ensures gone { result + length (row_routes 0 row.new) ≡ length (row_routes 0 row.old) }
 {
-    if row.is_empty() {
+    if row.len() == 0 {
         return 0;
     }
     let gone = remove_numbers(row, numbers, levels);
     if levels <= 1 {
         return gone;
     }
-    gone + prune_nodes(row, numbers, levels - 1)
+    gone + prune_behind(row, numbers, levels - 1)
+}
+
+// Leaves have nothing behind them that could take one of the numbers.
+#[cycle(prune)]
+fn prune_behind(row: &mut Row, numbers: &Numbers, levels: usize) -> u64
+    requires few { length (row_routes 0 row.old) < 2 ^ 64 }
+    requires ordered { AllByRecursion IsOrderedNode row.old }
+    requires short { AllByRecursion (λ node. AreShort levels node.routes) row.old }
+    ensures left { row.new ≡ map (pruned numbers.now) row.old }
+    ensures gone { result + length (row_routes 0 row.new) ≡ length (row_routes 0 row.old) }
+{
+    match &mut row.nodes {
+        Nodes::Empty => 0,
+        Nodes::One(_) => 0,
+        Nodes::Leaves(_) => 0,
+        Nodes::Mixed(nodes) => prune_nodes(nodes, numbers, levels),
+    }
 }
 
 #[cycle(prune)]

@@ -6,7 +6,6 @@ ghost use Rattle.pattern_core.specs.Choice.{least};
 ghost use Rattle.pattern_core.specs.Matches.{is_of_kind};
 ghost use Rattle.pattern_core.specs.Suits.{IsRecorded};
 ghost use Rattle.match_tree.specs.Routes.{rows_routes, lacks};
-ghost use Rattle.match_tree.specs.Rows.{rows_of};
 ghost use Rattle.match_tree.specs.Offers.{places, growing, matches_at, may_take, seen, takers, new_matches};
 ghost use Rattle.match_tree.specs.Below.{AreOpen};
 ghost use Rattle.match_tree.specs.Offering.{offered, CanOffer, MayTry, LeadOn};
@@ -15,14 +14,13 @@ ghost use Rattle.match_tree.specs.Growth.{Lasts, Grows};
 ghost use Rattle.match_tree.specs.Pruned.{AreShort};
 ghost use Rattle.match_tree.specs.Tries.{tried, tries_behind};
 
-use crate::node::Node;
 use crate::offer::{Offer, best_match, takers};
 use crate::prune::prune_rows;
+use crate::row::Row;
 use crate::visit::visit_rows;
 use join_base::{Message, NoMemory, Numbers, Slots, Steps};
 use pattern_core::{Candidate, Definition, has_kind};
 use std::alloc::Global;
-use std::collections::VecDeque;
 use std::sync::ledger::Ledger;
 
 // The patterns of the message's kind.
@@ -50,15 +48,15 @@ fn more_than(count: &u64, before: u64) -> u64
 }
 
 // Takes the nodes of a number out again, of which so many were added.
-fn remove_new(rows: &mut Vec<VecDeque<Node>>, number: u32, levels: usize, added: u64)
+fn remove_new(rows: &mut Vec<Row>, number: u32, levels: usize, added: u64)
     requires few { length rows.old.items ≤ 8 }
-    requires sound { AreSound (rows_of rows.old.items) }
-    requires counted { length (rows_routes 0 (rows_of rows.old.items)) < 2 ^ 64 }
-    requires added { added ≡ length (filter (λ route. not (lacks (number ∷ []) route)) (rows_routes 0 (rows_of rows.old.items))) }
-    requires short { AreShort levels (rows_routes 0 (rows_of rows.old.items)) }
+    requires sound { AreSound rows.old.items }
+    requires counted { length (rows_routes 0 rows.old.items) < 2 ^ 64 }
+    requires added { added ≡ length (filter (λ route. not (lacks (number ∷ []) route)) (rows_routes 0 rows.old.items)) }
+    requires short { AreShort levels (rows_routes 0 rows.old.items) }
     ensures few { length rows.new.items ≤ 8 }
-    ensures sound { AreSound (rows_of rows.new.items) }
-    ensures left { rows_routes 0 (rows_of rows.new.items) ≡ filter (lacks (number ∷ [])) (rows_routes 0 (rows_of rows.old.items)) }
+    ensures sound { AreSound rows.new.items }
+    ensures left { rows_routes 0 rows.new.items ≡ filter (lacks (number ∷ [])) (rows_routes 0 rows.old.items) }
 {
     if added == 0 {
         return;
@@ -90,27 +88,27 @@ fn visit_path<L: Ledger>(
 pub fn visit_all<L: Ledger>(
     alloc: Global,
     offer: &Offer<'_>,
-    rows: &mut Vec<VecDeque<Node>>,
+    rows: &mut Vec<Row>,
     count: &mut u64,
     steps: &mut Steps<L>,
 ) -> Result<Option<Candidate>, NoMemory>
     requires can { CanOffer (offered offer.now) (replicate (length offer.now.definition.now.patterns) None) }
     requires few { length rows.old.items ≤ 8 }
-    requires sound { AreSound (rows_of rows.old.items) }
-    requires whole { count.old ≡ 1 + length (rows_routes 0 (rows_of rows.old.items)) }
-    requires lead { LeadOn (offered offer.now) (replicate (length offer.now.definition.now.patterns) None) (rows_routes 0 (rows_of rows.old.items)) }
-    requires free_left { AreOpen (replicate (length offer.now.definition.now.patterns) None) (rows_routes 0 (rows_of rows.old.items)) }
+    requires sound { AreSound rows.old.items }
+    requires whole { count.old ≡ 1 + length (rows_routes 0 rows.old.items) }
+    requires lead { LeadOn (offered offer.now) (replicate (length offer.now.definition.now.patterns) None) (rows_routes 0 rows.old.items) }
+    requires free_left { AreOpen (replicate (length offer.now.definition.now.patterns) None) (rows_routes 0 rows.old.items) }
 
     ensures few { length rows.new.items ≤ 8 }
-    ensures sound { AreSound (rows_of rows.new.items) }
-    ensures free_left { AreOpen (replicate (length offer.now.definition.now.patterns) None) (rows_routes 0 (rows_of rows.new.items)) }
-    ensures lasting { Lasts offer.now.number (rows_routes 0 (rows_of rows.old.items)) (rows_routes 0 (rows_of rows.new.items)) }
-    ensures unchanged { OnErr result (rows_routes 0 (rows_of rows.new.items) ≡ rows_routes 0 (rows_of rows.old.items)) }
-    ensures found { IfOk result (λ b. b ≢ None → rows_routes 0 (rows_of rows.new.items) ≡ rows_routes 0 (rows_of rows.old.items)) }
-    ensures best { IfOk result (λ b. b ≡ least (new_matches (offered offer.now) (replicate (length offer.now.definition.now.patterns) None) ([] ∷ seen (offered offer.now) (rows_routes 0 (rows_of rows.old.items))))) }
-    ensures grows { IfOk result (λ b. b ≡ None → Grows (offered offer.now) (replicate (length offer.now.definition.now.patterns) None) (growing (offered offer.now) (replicate (length offer.now.definition.now.patterns) None)) (rows_routes 0 (rows_of rows.old.items)) (rows_routes 0 (rows_of rows.new.items))) }
-    ensures counted { OnOk result (count.new + length (rows_routes 0 (rows_of rows.old.items)) ≡ count.old + length (rows_routes 0 (rows_of rows.new.items))) }
-    ensures stepped { steps.new ≤ steps.old + (length (tried (offered offer.now) (replicate (length offer.now.definition.now.patterns) None)) + tries_behind (offered offer.now) (replicate (length offer.now.definition.now.patterns) None) (rows_routes 0 (rows_of rows.old.items))) }
+    ensures sound { AreSound rows.new.items }
+    ensures free_left { AreOpen (replicate (length offer.now.definition.now.patterns) None) (rows_routes 0 rows.new.items) }
+    ensures lasting { Lasts offer.now.number (rows_routes 0 rows.old.items) (rows_routes 0 rows.new.items) }
+    ensures unchanged { OnErr result (rows_routes 0 rows.new.items ≡ rows_routes 0 rows.old.items) }
+    ensures found { IfOk result (λ b. b ≢ None → rows_routes 0 rows.new.items ≡ rows_routes 0 rows.old.items) }
+    ensures best { IfOk result (λ b. b ≡ least (new_matches (offered offer.now) (replicate (length offer.now.definition.now.patterns) None) ([] ∷ seen (offered offer.now) (rows_routes 0 rows.old.items)))) }
+    ensures grows { IfOk result (λ b. b ≡ None → Grows (offered offer.now) (replicate (length offer.now.definition.now.patterns) None) (growing (offered offer.now) (replicate (length offer.now.definition.now.patterns) None)) (rows_routes 0 rows.old.items) (rows_routes 0 rows.new.items)) }
+    ensures counted { OnOk result (count.new + length (rows_routes 0 rows.old.items) ≡ count.old + length (rows_routes 0 rows.new.items)) }
+    ensures stepped { steps.new ≤ steps.old + (length (tried (offered offer.now) (replicate (length offer.now.definition.now.patterns) None)) + tries_behind (offered offer.now) (replicate (length offer.now.definition.now.patterns) None) (rows_routes 0 rows.old.items)) }
 {
     let patterns = offer.definition.patterns.len();
     let slots = Slots::new(patterns as u32);

@@ -8,14 +8,16 @@ ghost use Rattle.pattern_core.specs.Suits.{DefinitionSuits, SlotsSuit};
 ghost use Rattle.match_tree.specs.Routes.{with_number};
 ghost use Rattle.match_tree.specs.Offers.{takers};
 ghost use Rattle.match_tree.specs.Offering.{offered, CanOffer};
-ghost use Rattle.match_tree.specs.Screen.{AreLacking, AreTests, IsDecidedAt, IsWith, Screens, as_bound, key_of};
+ghost use Rattle.match_tree.specs.RowNumbers.{numbers_in};
+ghost use Rattle.match_tree.specs.Rows.{node_at};
+ghost use Rattle.match_tree.specs.Screen.{AreLacking, AreOffered, AreTests, AreWorthless, IsDecidedAt, IsWith, Screens, as_bound, key_of};
 
-use crate::node::Node;
 use crate::offer::Offer;
+use crate::row::Row;
+use crate::row_numbers::RowNumbers;
 use guard_bound::{Bound, Bounds, Same, bound_of, int_at, is_same, meets_all, same_of};
 use guard_eval::{decided, holds};
 use join_base::{Message, Numbers, Relation, Slots};
-use std::collections::VecDeque;
 
 /// The value that a number of the row has to have at a field.
 #[derive(Clone, Copy, PartialEq, Eq, Debug)]
@@ -172,37 +174,14 @@ pub fn screen_of(
     Some(tests_of(offer, pattern, *other, &shorter, &longer))
 }
 
-/// The screen's key.
-pub fn key_of(screen: &Option<Screen>) -> Option<Key>
+// The screen's key.
+fn key_of(screen: &Option<Screen>) -> Option<Key>
     ensures { result ≡ key_of screen.now }
 {
     match screen {
         None => None,
         Some(screen) => screen.key,
     }
-}
-
-/// The first place from this one on whose number has the key's value, or the row's end.
-pub fn next_place(
-    letters: &[Message],
-    key: Option<Key>,
-    nodes: &VecDeque<Node>,
-    from: usize,
-) -> usize
-    requires within { from ≤ length nodes.now.items }
-    ensures from { from ≤ result }
-    ensures within { result ≤ length nodes.now.items }
-    ensures lacking { AreLacking letters.now key nodes.now.items from result }
-{
-    let Some(wanted) = key else {
-        return from;
-    };
-    for place in from..nodes.len() {
-        if int_at(letters, nodes[place].number(), wanted.field) == wanted.value {
-            return place;
-        }
-    }
-    nodes.len()
 }
 
 // Whether the decided conjunct at the place holds.
@@ -249,9 +228,9 @@ fn agrees(offer: &Offer<'_>, slots: &Slots, pattern: u32, screen: &Screen, numbe
     all_hold(offer, &whole, &screen.tests)
 }
 
-/// Whether a number of a row that has the screen's key is worth a visit. It isn't where the definition no longer sees it, or no
-/// pattern may take the offered number behind it.
-pub fn is_worth(
+// Whether a number of a row that has the screen's key is worth a visit. It isn't where the definition no longer sees it, or no
+// pattern may take the offered number behind it.
+fn is_worth(
     offer: &Offer<'_>,
     slots: &Slots,
     pattern: u32,
@@ -279,4 +258,77 @@ pub fn is_worth(
             agrees(offer, slots, pattern, screen, number)
         }
     }
+}
+
+// The first place from this one on whose number has the key's value, or the end.
+fn find_key(
+    letters: &[Message],
+    key: Key,
+    numbers: &RowNumbers<'_>,
+    from: usize,
+    end: usize,
+) -> usize
+    requires from { from ≤ end }
+    requires end { end ≡ length (numbers_in numbers.now) }
+    ensures from { from ≤ result }
+    ensures within { result ≤ end }
+    ensures lacking { AreLacking letters.now (Some key) (numbers_in numbers.now) from result }
+{
+    for place in from..end {
+        if int_at(letters, numbers.at(place), key.field) == key.value {
+            return place;
+        }
+    }
+    end
+}
+
+// The same where there is a key. Without one each place will do, and a call would cost more than the test at it.
+#[inline(always)]
+fn with_key(
+    letters: &[Message],
+    key: Option<Key>,
+    numbers: &RowNumbers<'_>,
+    from: usize,
+    end: usize,
+) -> usize
+    requires from { from ≤ end }
+    requires end { end ≡ length (numbers_in numbers.now) }
+    ensures from { from ≤ result }
+    ensures within { result ≤ end }
+    ensures lacking { AreLacking letters.now key (numbers_in numbers.now) from result }
+{
+    match key {
+        None => from,
+        Some(key) => find_key(letters, key, numbers, from, end),
+    }
+}
+
+/// The first place from this one on whose number is worth a visit, or the row's end.
+pub fn next_place(
+    offer: &Offer<'_>,
+    slots: &Slots,
+    pattern: u32,
+    screen: &Option<Screen>,
+    row: &Row,
+    from: usize,
+) -> usize
+    requires offered { AreOffered (offered offer.now) slots.now pattern row.now from }
+    requires screen { IfSome screen.now (Screens (offered offer.now) slots.now pattern (filter (λ p. not (p == pattern)) (takers (offered offer.now) slots.now))) }
+    requires within { from ≤ length row.now }
+    ensures from { from ≤ result }
+    ensures within { result ≤ length row.now }
+    ensures seen { result < length row.now → nat_le offer.now.oldest (node_at row.now result).number ≡ true }
+    ensures skipped { AreWorthless (offered offer.now) slots.now pattern row.now from result }
+{
+    let numbers = RowNumbers::of(row);
+    let end = numbers.len();
+    let key = key_of(screen);
+    let mut place = with_key(offer.letters, key, &numbers, from, end);
+    while place < end {
+        if is_worth(offer, slots, pattern, screen, numbers.at(place)) {
+            return place;
+        }
+        place = with_key(offer.letters, key, &numbers, place + 1, end);
+    }
+    end
 }

@@ -7,15 +7,14 @@ ghost use Rattle.match_tree.specs.Offering.{CanOffer};
 ghost use Rattle.match_tree.specs.Tries.{tries};
 
 use crate::expire::drop_unseen;
-use crate::node::Node;
 use crate::offer::Offer;
 use crate::pending::Pending;
 use crate::prune::prune_rows;
 use crate::reserve::visit_all;
+use crate::row::Row;
 use join_base::{Message, NoMemory, Numbers, Steps};
 use pattern_core::{Candidate, Definition, oldest_seen};
 use std::alloc::Global;
-use std::collections::VecDeque;
 use std::marker::Model;
 use std::sync::ledger::Ledger;
 
@@ -39,7 +38,7 @@ pub struct MatchTree {
     alloc: Global,
     definition: Definition,
     rule: u32,
-    rows: Vec<VecDeque<Node>>,
+    rows: Vec<Row>,
     count: u64,
     pending: Option<Pending>,
 }
@@ -53,18 +52,18 @@ impl Model for MatchTree {
 
     ghost coded = { Prim.hlevel (codes, coded_condition) };
 
-    ghost use Rattle.std.specs.Prelude.{[], ◌∷◌, map};
+    ghost use Rattle.std.specs.Prelude.{[], ◌∷◌};
     ghost use Rattle.match_tree.specs.Routes.{rows_routes};
     ghost use Rattle.match_tree.specs.Kept.{IsKept, lasting, paths_of, reserve_of};
 
     ghost view = { λ a. record {
       definition = a.definition;
       rule = a.rule;
-      paths = paths_of a.definition ([] ∷ lasting a.pending (rows_routes 0 (map (λ row. row.items) a.rows.items)));
-      reserve = reserve_of a.definition a.pending (rows_routes 0 (map (λ row. row.items) a.rows.items));
+      paths = paths_of a.definition ([] ∷ lasting a.pending (rows_routes 0 a.rows.items));
+      reserve = reserve_of a.definition a.pending (rows_routes 0 a.rows.items);
     } };
 
-    ghost invariant = { λ a. IsKept a.definition (map (λ row. row.items) a.rows.items) a.count a.pending };
+    ghost invariant = { λ a. IsKept a.definition a.rows.items a.count a.pending };
 }
 
 impl MatchTree {

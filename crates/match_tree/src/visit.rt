@@ -1,10 +1,11 @@
 //! The visit of a new number: it is tried behind each path that may take it, and new nodes are added where it goes on.
-ghost use Rattle.std.specs.Prelude.{◌≡◌, ◌+◌, ◌<◌, ◌≤◌, ◌++◌, [], ◌∷◌, ℕ, length, map, replicate, true, not, ◌==◌, None, OnOk, IfOk, OnErr};
+ghost use Rattle.std.specs.Prelude.{◌≡◌, ◌+◌, ◌<◌, ◌≤◌, ◌++◌, [], ◌∷◌, ℕ, length, map, replicate, true, not, ◌==◌, None, OnOk, IfOk, OnErr, slice_set};
 ghost use Rattle.std.specs.List.{filter, AllByRecursion};
 ghost use Rattle.pattern_core.specs.Choice.{least};
 ghost use Rattle.match_tree.specs.Routes.{rows_routes, row_routes, lacks};
+ghost use Rattle.match_tree.specs.Rows.{leaf, node_at};
+ghost use Rattle.match_tree.specs.Behind.{AreFewBehind, IsBehind, routes_behind};
 ghost use Rattle.join_base.specs.Taken.{contains_number};
-ghost use Rattle.match_tree.specs.Rows.{rows_of};
 ghost use Rattle.match_tree.specs.Offers.{takers, may_take, growing, places, seen, new_matches};
 ghost use Rattle.match_tree.specs.Below.{AreOpen};
 ghost use Rattle.match_tree.specs.Offering.{offered, CanOffer, MayTry, LeadOn};
@@ -15,68 +16,68 @@ ghost use Rattle.match_tree.specs.Tries.{tries_behind};
 
 use crate::node::{Node, Shape};
 use crate::offer::{Offer, best_match, contains, growing, takers, without};
-use crate::screen::{is_worth, key_of, next_place, screen_of};
+use crate::row::{Nodes, Row};
+use crate::screen::{next_place, screen_of};
 use join_base::{NoMemory, Numbers, Slots, Steps};
 use pattern_core::{Candidate, better};
 use std::alloc::Global;
-use std::collections::VecDeque;
 use std::sync::ledger::Ledger;
 
 // Rows for so many patterns.
-fn grow_rows(alloc: Global, rows: &mut Vec<VecDeque<Node>>, count: usize) -> Result<(), NoMemory>
+fn grow_rows(rows: &mut Vec<Row>, count: usize) -> Result<(), NoMemory>
     requires few { length rows.old.items ≤ 8 }
     requires most { count ≤ 8 }
-    ensures same { (k : ℕ) × (rows_of rows.new.items ≡ rows_of rows.old.items ++ replicate k []) }
+    ensures same { (k : ℕ) × (rows.new.items ≡ rows.old.items ++ replicate k []) }
     ensures few { length rows.new.items ≤ 8 }
     ensures room { OnOk result (count ≤ length rows.new.items) }
 {
+    rows.reserve_exact(count.saturating_sub(rows.len()))?;
     while rows.len() < count {
-        rows.push(VecDeque::new(alloc))?;
+        rows.push(Row::new())?;
     }
     Ok(())
 }
 
 // A node for the number at the end of a row.
-fn push_leaf(row: &mut VecDeque<Node>, number: u32, count: &mut u64) -> Result<(), NoMemory>
-    ensures ok { OnOk result (row.new.items ≡ row.old.items ++ record { number = number; routes = [] } ∷ []) }
-    ensures err { OnErr result (row.new.items ≡ row.old.items) }
+fn push_leaf(alloc: Global, row: &mut Row, number: u32, count: &mut u64) -> Result<(), NoMemory>
+    ensures ok { OnOk result (row.new ≡ row.old ++ leaf number ∷ []) }
+    ensures err { OnErr result (row.new ≡ row.old) }
     ensures counted { OnOk result (count.new ≡ count.old + 1) }
     ensures uncounted { OnErr result (count.new ≡ count.old) }
 {
     let Some(more) = count.checked_add(1) else {
         return Err(NoMemory);
     };
-    row.push_back(Node {
-        shape: Shape::Leaf(number),
-    })?;
+    row.push_leaf(alloc, number)?;
     *count = more;
     Ok(())
 }
 
 // Adds a node for the number to the row of a pattern at which it begins, unless there is no memory.
 fn begin_row(
+    alloc: Global,
     offer: &Offer<'_>,
     slots: &Slots,
     pattern: u32,
     begun: &Numbers,
-    row: &mut VecDeque<Node>,
+    row: &mut Row,
     count: &mut u64,
 ) -> bool
     requires can { CanOffer (offered offer.now) slots.now }
     requires begun { begun.now ≡ growing (offered offer.now) slots.now }
-    requires sound { IsSoundRow row.old.items }
-    requires less { IsLess offer.now.number row.old.items }
-    requires free_left { AreOpen slots.now (row_routes pattern row.old.items) }
-    ensures sound { IsSoundRow row.new.items }
-    ensures free_left { AreOpen slots.now (row_routes pattern row.new.items) }
-    ensures lasting { filter (lacks (offer.now.number ∷ [])) (row_routes pattern row.new.items) ≡ filter (lacks (offer.now.number ∷ [])) (row_routes pattern row.old.items) }
-    ensures begins { result ≡ true → Begins offer.now.number (filter (contains_number begun.now) (pattern ∷ [])) (row_routes pattern row.old.items) (row_routes pattern row.new.items) }
-    ensures counted { count.new + length (row_routes pattern row.old.items) ≡ count.old + length (row_routes pattern row.new.items) }
+    requires sound { IsSoundRow row.old }
+    requires less { IsLess offer.now.number row.old }
+    requires free_left { AreOpen slots.now (row_routes pattern row.old) }
+    ensures sound { IsSoundRow row.new }
+    ensures free_left { AreOpen slots.now (row_routes pattern row.new) }
+    ensures lasting { filter (lacks (offer.now.number ∷ [])) (row_routes pattern row.new) ≡ filter (lacks (offer.now.number ∷ [])) (row_routes pattern row.old) }
+    ensures begins { result ≡ true → Begins offer.now.number (filter (contains_number begun.now) (pattern ∷ [])) (row_routes pattern row.old) (row_routes pattern row.new) }
+    ensures counted { count.new + length (row_routes pattern row.old) ≡ count.old + length (row_routes pattern row.new) }
 {
     if !contains(begun, pattern) {
         return true;
     }
-    match push_leaf(row, offer.number, count) {
+    match push_leaf(alloc, row, offer.number, count) {
         Ok(()) => true,
         Err(_) => false,
     }
@@ -84,27 +85,28 @@ fn begin_row(
 
 // Adds a node for the number to each row of a pattern at which it begins, unless there is no memory.
 fn begin_rows(
+    alloc: Global,
     offer: &Offer<'_>,
     slots: &Slots,
     begun: &Numbers,
-    rows: &mut [VecDeque<Node>],
+    rows: &mut [Row],
     count: &mut u64,
 ) -> bool
     requires can { CanOffer (offered offer.now) slots.now }
     requires begun { begun.now ≡ growing (offered offer.now) slots.now }
     requires few { length rows.old ≤ 8 }
-    requires sound { AreSound (rows_of rows.old) }
-    requires less { AreLess offer.now.number (rows_of rows.old) }
-    requires free_left { AreOpen slots.now (rows_routes 0 (rows_of rows.old)) }
-    ensures sound { AreSound (rows_of rows.new) }
-    ensures free_left { AreOpen slots.now (rows_routes 0 (rows_of rows.new)) }
-    ensures lasting { filter (lacks (offer.now.number ∷ [])) (rows_routes 0 (rows_of rows.new)) ≡ filter (lacks (offer.now.number ∷ [])) (rows_routes 0 (rows_of rows.old)) }
-    ensures begins { result ≡ true → Begins offer.now.number (filter (contains_number begun.now) (places 0 (rows_of rows.old))) (rows_routes 0 (rows_of rows.old)) (rows_routes 0 (rows_of rows.new)) }
-    ensures counted { count.new + length (rows_routes 0 (rows_of rows.old)) ≡ count.old + length (rows_routes 0 (rows_of rows.new)) }
+    requires sound { AreSound rows.old }
+    requires less { AreLess offer.now.number rows.old }
+    requires free_left { AreOpen slots.now (rows_routes 0 rows.old) }
+    ensures sound { AreSound rows.new }
+    ensures free_left { AreOpen slots.now (rows_routes 0 rows.new) }
+    ensures lasting { filter (lacks (offer.now.number ∷ [])) (rows_routes 0 rows.new) ≡ filter (lacks (offer.now.number ∷ [])) (rows_routes 0 rows.old) }
+    ensures begins { result ≡ true → Begins offer.now.number (filter (contains_number begun.now) (places 0 rows.old)) (rows_routes 0 rows.old) (rows_routes 0 rows.new) }
+    ensures counted { count.new + length (rows_routes 0 rows.old) ≡ count.old + length (rows_routes 0 rows.new) }
 {
     let mut fits = true;
     for (place, row) in rows.iter_mut().enumerate() {
-        fits &= begin_row(offer, slots, place as u32, begun, row, count);
+        fits &= begin_row(alloc, offer, slots, place as u32, begun, row, count);
     }
     fits
 }
@@ -115,68 +117,71 @@ fn begin(
     offer: &Offer<'_>,
     slots: &Slots,
     able: &Numbers,
-    rows: &mut Vec<VecDeque<Node>>,
+    rows: &mut Vec<Row>,
     count: &mut u64,
 ) -> bool
     requires can { CanOffer (offered offer.now) slots.now }
     requires able { able.now ≡ takers (offered offer.now) slots.now }
     requires few { length rows.old.items ≤ 8 }
-    requires sound { AreSound (rows_of rows.old.items) }
-    requires less { AreLess offer.now.number (rows_of rows.old.items) }
-    requires free_left { AreOpen slots.now (rows_routes 0 (rows_of rows.old.items)) }
+    requires sound { AreSound rows.old.items }
+    requires less { AreLess offer.now.number rows.old.items }
+    requires free_left { AreOpen slots.now (rows_routes 0 rows.old.items) }
     ensures few { length rows.new.items ≤ 8 }
-    ensures sound { AreSound (rows_of rows.new.items) }
-    ensures free_left { AreOpen slots.now (rows_routes 0 (rows_of rows.new.items)) }
-    ensures lasting { filter (lacks (offer.now.number ∷ [])) (rows_routes 0 (rows_of rows.new.items)) ≡ filter (lacks (offer.now.number ∷ [])) (rows_routes 0 (rows_of rows.old.items)) }
-    ensures begins { result ≡ true → Begins offer.now.number (growing (offered offer.now) slots.now) (rows_routes 0 (rows_of rows.old.items)) (rows_routes 0 (rows_of rows.new.items)) }
-    ensures counted { count.new + length (rows_routes 0 (rows_of rows.old.items)) ≡ count.old + length (rows_routes 0 (rows_of rows.new.items)) }
+    ensures sound { AreSound rows.new.items }
+    ensures free_left { AreOpen slots.now (rows_routes 0 rows.new.items) }
+    ensures lasting { filter (lacks (offer.now.number ∷ [])) (rows_routes 0 rows.new.items) ≡ filter (lacks (offer.now.number ∷ [])) (rows_routes 0 rows.old.items) }
+    ensures begins { result ≡ true → Begins offer.now.number (growing (offered offer.now) slots.now) (rows_routes 0 rows.old.items) (rows_routes 0 rows.new.items) }
+    ensures counted { count.new + length (rows_routes 0 rows.old.items) ≡ count.old + length (rows_routes 0 rows.new.items) }
 {
     let begun = growing(offer, slots, able);
     if begun.len() == 0 {
         return true;
     }
-    match grow_rows(alloc, rows, offer.definition.patterns.len()) {
-        Ok(()) => begin_rows(offer, slots, &begun, rows, count),
+    match grow_rows(rows, offer.definition.patterns.len()) {
+        Ok(()) => begin_rows(alloc, offer, slots, &begun, rows, count),
         Err(_) => false,
     }
 }
 
-// Adds nodes for the number to the path that ends at a leaf, where it begins. The answer is whether there was memory for
-// all.
+// The rows behind a leaf, with nodes for the number where it begins: none where it begins nowhere.
 fn begin_leaf(
     alloc: Global,
     offer: &Offer<'_>,
     slots: &Slots,
     able: &Numbers,
-    node: &mut Node,
     count: &mut u64,
-) -> bool
+) -> Result<Option<Box<Vec<Row>>>, NoMemory>
     requires can { CanOffer (offered offer.now) slots.now }
     requires able { able.now ≡ takers (offered offer.now) slots.now }
-    requires leaf { node.old.routes ≡ [] }
-    ensures number { node.new.number ≡ node.old.number }
-    ensures ordered { IsOrderedNode node.new }
-    ensures free_left { AreOpen slots.now node.new.routes }
-    ensures lasting { Lasts offer.now.number [] node.new.routes }
-    ensures begins { result ≡ true → Begins offer.now.number (growing (offered offer.now) slots.now) [] node.new.routes }
-    ensures counted { count.new ≡ count.old + length node.new.routes }
+    ensures behind { IfOk result (λ rows. IsBehind slots.now offer.now.number (routes_behind rows)) }
+    ensures few { IfOk result AreFewBehind }
+    ensures begins { IfOk result (λ rows. Begins offer.now.number (growing (offered offer.now) slots.now) [] (routes_behind rows)) }
+    ensures counted { IfOk result (λ rows. count.new ≡ count.old + length (routes_behind rows)) }
+    ensures uncounted { OnErr result (count.new ≡ count.old) }
 {
     let before = *count;
     let mut rows = Vec::new(alloc);
-    let fits = begin(alloc, offer, slots, able, &mut rows, count);
+    if !begin(alloc, offer, slots, able, &mut rows, count) {
+        *count = before;
+        return Err(NoMemory);
+    }
     if rows.len() == 0 {
-        return fits;
+        return Ok(None);
     }
     match Box::new(alloc, rows) {
-        Ok(rows) => {
-            node.shape = Shape::Inner(node.number(), rows);
-            fits
-        }
+        Ok(rows) => Ok(Some(rows)),
         Err(_) => {
             *count = before;
-            false
+            Err(NoMemory)
         }
     }
+}
+
+/// What a number does at a leaf: the match that it completes there, or the rows that it adds behind it.
+#[derive(Drop)]
+struct AtLeaf {
+    best: Option<Candidate>,
+    rows: Option<Box<Vec<Row>>>,
 }
 
 // Offers the number to the path that ends at a leaf, which has no further paths behind it.
@@ -185,36 +190,73 @@ fn visit_leaf<L: Ledger>(
     offer: &Offer<'_>,
     slots: &Slots,
     wanted: &Numbers,
-    node: &mut Node,
+    count: &mut u64,
+    steps: &mut Steps<L>,
+) -> Result<AtLeaf, NoMemory>
+    requires can { CanOffer (offered offer.now) slots.now }
+    requires free { AllByRecursion (MayTry slots.now) wanted.now }
+    requires wanted { filter (may_take (offered offer.now) slots.now) wanted.now ≡ takers (offered offer.now) slots.now }
+
+    ensures behind { IfOk result (λ at. IsBehind slots.now offer.now.number (routes_behind at.rows)) }
+    ensures few { IfOk result (λ at. AreFewBehind at.rows) }
+    ensures best { IfOk result (λ at. at.best ≡ least (new_matches (offered offer.now) slots.now ([] ∷ []))) }
+    ensures grows { IfOk result (λ at. at.best ≡ None → Grows (offered offer.now) slots.now (growing (offered offer.now) slots.now) [] (routes_behind at.rows)) }
+    ensures counted { IfOk result (λ at. count.new ≡ count.old + length (routes_behind at.rows)) }
+    ensures uncounted { OnErr result (count.new ≡ count.old) }
+    ensures stepped { steps.new ≡ steps.old + length wanted.now }
+{
+    let here = takers(offer, slots, wanted, steps);
+    if here.len() == 0 {
+        return Ok(AtLeaf {
+            best: None,
+            rows: None,
+        });
+    }
+    let best = best_match(offer, slots, &here);
+    if best.is_some() {
+        return Ok(AtLeaf { best, rows: None });
+    }
+    let rows = begin_leaf(alloc, offer, slots, &here, count)?;
+    Ok(AtLeaf { best: None, rows })
+}
+
+// Offers the number to the path that ends at a leaf of a row.
+fn visit_leaf_at<L: Ledger>(
+    alloc: Global,
+    offer: &Offer<'_>,
+    slots: &Slots,
+    wanted: &Numbers,
+    row: &mut Row,
+    place: usize,
     count: &mut u64,
     steps: &mut Steps<L>,
 ) -> Result<Option<Candidate>, NoMemory>
     requires can { CanOffer (offered offer.now) slots.now }
     requires free { AllByRecursion (MayTry slots.now) wanted.now }
     requires wanted { filter (may_take (offered offer.now) slots.now) wanted.now ≡ takers (offered offer.now) slots.now }
-    requires leaf { node.old.routes ≡ [] }
+    requires within { place < length row.old }
+    requires leaf { (node_at row.old place).routes ≡ [] }
 
-    ensures number { node.new.number ≡ node.old.number }
-    ensures ordered { IsOrderedNode node.new }
-    ensures free_left { AreOpen slots.now node.new.routes }
-    ensures lasting { Lasts offer.now.number [] node.new.routes }
+    ensures placed { row.new ≡ slice_set row.old place (node_at row.new place) }
+    ensures number { (node_at row.new place).number ≡ (node_at row.old place).number }
+    ensures behind { IsBehind slots.now offer.now.number (node_at row.new place).routes }
     ensures best { IfOk result (λ b. b ≡ least (new_matches (offered offer.now) slots.now ([] ∷ []))) }
-    ensures grows { IfOk result (λ b. b ≡ None → Grows (offered offer.now) slots.now (growing (offered offer.now) slots.now) [] node.new.routes) }
-    ensures counted { count.new ≡ count.old + length node.new.routes }
+    ensures grows { IfOk result (λ b. b ≡ None → Grows (offered offer.now) slots.now (growing (offered offer.now) slots.now) [] (node_at row.new place).routes) }
+    ensures counted { count.new ≡ count.old + length (node_at row.new place).routes }
     ensures stepped { steps.new ≡ steps.old + length wanted.now }
 {
-    let here = takers(offer, slots, wanted, steps);
-    if here.len() == 0 {
-        return Ok(None);
-    }
-    let best = best_match(offer, slots, &here);
-    if best.is_some() {
+    let before = *count;
+    let AtLeaf { best, rows } = visit_leaf(alloc, offer, slots, wanted, count, steps)?;
+    let Some(rows) = rows else {
         return Ok(best);
+    };
+    match row.put_behind(alloc, place, rows) {
+        Ok(()) => Ok(best),
+        Err(_) => {
+            *count = before;
+            Err(NoMemory)
+        }
     }
-    if !begin_leaf(alloc, offer, slots, &here, node, count) {
-        return Err(NoMemory);
-    }
-    Ok(None)
 }
 
 /// Offers the number to a path and to all that go on from it. The answer is the least match that it completes there, in
@@ -225,7 +267,7 @@ pub fn visit_rows<L: Ledger>(
     offer: &Offer<'_>,
     slots: &Slots,
     wanted: &Numbers,
-    rows: &mut Vec<VecDeque<Node>>,
+    rows: &mut Vec<Row>,
     count: &mut u64,
     steps: &mut Steps<L>,
 ) -> Result<Option<Candidate>, NoMemory>
@@ -233,18 +275,18 @@ pub fn visit_rows<L: Ledger>(
     requires free { AllByRecursion (MayTry slots.now) wanted.now }
     requires wanted { filter (may_take (offered offer.now) slots.now) wanted.now ≡ takers (offered offer.now) slots.now }
     requires few { length rows.old.items ≤ 8 }
-    requires sound { AreSound (rows_of rows.old.items) }
-    requires lead { LeadOn (offered offer.now) slots.now (rows_routes 0 (rows_of rows.old.items)) }
-    requires free_left { AreOpen slots.now (rows_routes 0 (rows_of rows.old.items)) }
+    requires sound { AreSound rows.old.items }
+    requires lead { LeadOn (offered offer.now) slots.now (rows_routes 0 rows.old.items) }
+    requires free_left { AreOpen slots.now (rows_routes 0 rows.old.items) }
 
     ensures few { length rows.new.items ≤ 8 }
-    ensures sound { AreSound (rows_of rows.new.items) }
-    ensures free_left { AreOpen slots.now (rows_routes 0 (rows_of rows.new.items)) }
-    ensures lasting { Lasts offer.now.number (rows_routes 0 (rows_of rows.old.items)) (rows_routes 0 (rows_of rows.new.items)) }
-    ensures best { IfOk result (λ b. b ≡ least (new_matches (offered offer.now) slots.now ([] ∷ seen (offered offer.now) (rows_routes 0 (rows_of rows.old.items))))) }
-    ensures grows { IfOk result (λ b. b ≡ None → Grows (offered offer.now) slots.now (growing (offered offer.now) slots.now) (rows_routes 0 (rows_of rows.old.items)) (rows_routes 0 (rows_of rows.new.items))) }
-    ensures counted { count.new + length (rows_routes 0 (rows_of rows.old.items)) ≡ count.old + length (rows_routes 0 (rows_of rows.new.items)) }
-    ensures stepped { steps.new ≤ steps.old + (length wanted.now + tries_behind (offered offer.now) slots.now (rows_routes 0 (rows_of rows.old.items))) }
+    ensures sound { AreSound rows.new.items }
+    ensures free_left { AreOpen slots.now (rows_routes 0 rows.new.items) }
+    ensures lasting { Lasts offer.now.number (rows_routes 0 rows.old.items) (rows_routes 0 rows.new.items) }
+    ensures best { IfOk result (λ b. b ≡ least (new_matches (offered offer.now) slots.now ([] ∷ seen (offered offer.now) (rows_routes 0 rows.old.items)))) }
+    ensures grows { IfOk result (λ b. b ≡ None → Grows (offered offer.now) slots.now (growing (offered offer.now) slots.now) (rows_routes 0 rows.old.items) (rows_routes 0 rows.new.items)) }
+    ensures counted { count.new + length (rows_routes 0 rows.old.items) ≡ count.old + length (rows_routes 0 rows.new.items) }
+    ensures stepped { steps.new ≤ steps.old + (length wanted.now + tries_behind (offered offer.now) slots.now (rows_routes 0 rows.old.items)) }
 {
     let able = takers(offer, slots, wanted, steps);
     if able.len() == 0 {
@@ -268,82 +310,120 @@ fn visit_each<L: Ledger>(
     offer: &Offer<'_>,
     slots: &Slots,
     able: &Numbers,
-    rows: &mut [VecDeque<Node>],
+    rows: &mut [Row],
     count: &mut u64,
     steps: &mut Steps<L>,
 ) -> Result<Option<Candidate>, NoMemory>
     requires can { CanOffer (offered offer.now) slots.now }
     requires able { able.now ≡ takers (offered offer.now) slots.now }
     requires few { length rows.old ≤ 8 }
-    requires sound { AreSound (rows_of rows.old) }
-    requires lead { LeadOn (offered offer.now) slots.now (rows_routes 0 (rows_of rows.old)) }
-    requires free_left { AreOpen slots.now (rows_routes 0 (rows_of rows.old)) }
+    requires sound { AreSound rows.old }
+    requires lead { LeadOn (offered offer.now) slots.now (rows_routes 0 rows.old) }
+    requires free_left { AreOpen slots.now (rows_routes 0 rows.old) }
 
-    ensures sound { AreSound (rows_of rows.new) }
-    ensures less { OnOk result (AreLess offer.now.number (rows_of rows.new)) }
-    ensures free_left { AreOpen slots.now (rows_routes 0 (rows_of rows.new)) }
-    ensures lasting { Lasts offer.now.number (rows_routes 0 (rows_of rows.old)) (rows_routes 0 (rows_of rows.new)) }
-    ensures best { IfOk result (λ b. b ≡ least (new_matches (offered offer.now) slots.now ([] ∷ seen (offered offer.now) (rows_routes 0 (rows_of rows.old))))) }
-    ensures grows { IfOk result (λ b. b ≡ None → Grows (offered offer.now) slots.now [] (rows_routes 0 (rows_of rows.old)) (rows_routes 0 (rows_of rows.new))) }
-    ensures counted { count.new + length (rows_routes 0 (rows_of rows.old)) ≡ count.old + length (rows_routes 0 (rows_of rows.new)) }
-    ensures stepped { steps.new ≤ steps.old + tries_behind (offered offer.now) slots.now (rows_routes 0 (rows_of rows.old)) }
+    ensures sound { AreSound rows.new }
+    ensures less { OnOk result (AreLess offer.now.number rows.new) }
+    ensures free_left { AreOpen slots.now (rows_routes 0 rows.new) }
+    ensures lasting { Lasts offer.now.number (rows_routes 0 rows.old) (rows_routes 0 rows.new) }
+    ensures best { IfOk result (λ b. b ≡ least (new_matches (offered offer.now) slots.now ([] ∷ seen (offered offer.now) (rows_routes 0 rows.old)))) }
+    ensures grows { IfOk result (λ b. b ≡ None → Grows (offered offer.now) slots.now [] (rows_routes 0 rows.old) (rows_routes 0 rows.new)) }
+    ensures counted { count.new + length (rows_routes 0 rows.old) ≡ count.old + length (rows_routes 0 rows.new) }
+    ensures stepped { steps.new ≤ steps.old + tries_behind (offered offer.now) slots.now (rows_routes 0 rows.old) }
 {
     let mut best = best_match(offer, slots, able);
     for (place, row) in rows.iter_mut().enumerate() {
         let pattern = place as u32;
         let others = without(able, pattern);
-        let found = visit_nodes(alloc, offer, slots, pattern, &others, row, count, steps)?;
+        let found = visit_row(alloc, offer, slots, pattern, &others, row, count, steps)?;
         best = better(best, found);
     }
     Ok(best)
 }
 
-// Offers the number to the paths of these nodes, in the order of their numbers, until a match is found. Those that
+// Offers the number to the paths of a row's nodes, in the order of their numbers, until a match is found. Those that
 // aren't worth a visit are left out.
 #[cycle(visit)]
-fn visit_nodes<L: Ledger>(
+fn visit_row<L: Ledger>(
     alloc: Global,
     offer: &Offer<'_>,
     slots: &Slots,
     pattern: u32,
     wanted: &Numbers,
-    nodes: &mut VecDeque<Node>,
+    row: &mut Row,
     count: &mut u64,
     steps: &mut Steps<L>,
 ) -> Result<Option<Candidate>, NoMemory>
     requires can { CanOffer (offered offer.now) slots.now }
     requires wanted { wanted.now ≡ filter (λ p. not (p == pattern)) (takers (offered offer.now) slots.now) }
-    requires sound { IsSoundRow nodes.old.items }
-    requires lead { LeadOn (offered offer.now) slots.now (row_routes pattern nodes.old.items) }
-    requires free_left { AreOpen slots.now (row_routes pattern nodes.old.items) }
+    requires sound { IsSoundRow row.old }
+    requires lead { LeadOn (offered offer.now) slots.now (row_routes pattern row.old) }
+    requires free_left { AreOpen slots.now (row_routes pattern row.old) }
 
-    ensures sound { IsSoundRow nodes.new.items }
-    ensures free_left { AreOpen slots.now (row_routes pattern nodes.new.items) }
-    ensures numbers { map (λ node. node.number) nodes.new.items ≡ map (λ node. node.number) nodes.old.items }
-    ensures lasting { Lasts offer.now.number (row_routes pattern nodes.old.items) (row_routes pattern nodes.new.items) }
-    ensures best { IfOk result (λ b. b ≡ least (new_matches (offered offer.now) slots.now (seen (offered offer.now) (row_routes pattern nodes.old.items)))) }
-    ensures grows { IfOk result (λ b. b ≡ None → Grows (offered offer.now) slots.now [] (row_routes pattern nodes.old.items) (row_routes pattern nodes.new.items)) }
-    ensures counted { count.new + length (row_routes pattern nodes.old.items) ≡ count.old + length (row_routes pattern nodes.new.items) }
-    ensures stepped { steps.new ≤ steps.old + tries_behind (offered offer.now) slots.now (row_routes pattern nodes.old.items) }
+    ensures sound { IsSoundRow row.new }
+    ensures free_left { AreOpen slots.now (row_routes pattern row.new) }
+    ensures numbers { map (λ node. node.number) row.new ≡ map (λ node. node.number) row.old }
+    ensures lasting { Lasts offer.now.number (row_routes pattern row.old) (row_routes pattern row.new) }
+    ensures best { IfOk result (λ b. b ≡ least (new_matches (offered offer.now) slots.now (seen (offered offer.now) (row_routes pattern row.old)))) }
+    ensures grows { IfOk result (λ b. b ≡ None → Grows (offered offer.now) slots.now [] (row_routes pattern row.old) (row_routes pattern row.new)) }
+    ensures counted { count.new + length (row_routes pattern row.old) ≡ count.old + length (row_routes pattern row.new) }
+    ensures stepped { steps.new ≤ steps.old + tries_behind (offered offer.now) slots.now (row_routes pattern row.old) }
 {
     if wanted.len() == 0 {
         return Ok(None);
     }
-    let screen = screen_of(offer, slots, pattern, wanted, nodes.len());
-    let key = key_of(&screen);
-    let mut place = next_place(offer.letters, key, nodes, 0);
-    while place < nodes.len() {
-        let node = &mut nodes[place];
-        if is_worth(offer, slots, pattern, &screen, node.number()) {
-            let longer = slots.with(pattern, node.number());
-            let found = visit_node(alloc, offer, &longer, wanted, node, count, steps)?;
-            if found.is_some() {
-                return Ok(found);
-            }
+    let end = row.len();
+    let screen = screen_of(offer, slots, pattern, wanted, end);
+    let mut place = next_place(offer, slots, pattern, &screen, row, 0);
+    while place < end {
+        let longer = slots.with(pattern, row.number_at(place));
+        let found = visit_at(alloc, offer, &longer, wanted, row, place, count, steps)?;
+        if found.is_some() {
+            return Ok(found);
         }
-        place = next_place(offer.letters, key, nodes, place + 1);
+        place = next_place(offer, slots, pattern, &screen, row, place + 1);
     }
     Ok(None)
+}
+
+// Offers the number to the path that ends at a node of a row, and to all that go on from it.
+#[cycle(visit)]
+fn visit_at<L: Ledger>(
+    alloc: Global,
+    offer: &Offer<'_>,
+    slots: &Slots,
+    wanted: &Numbers,
+    row: &mut Row,
+    place: usize,
+    count: &mut u64,
+    steps: &mut Steps<L>,
+) -> Result<Option<Candidate>, NoMemory>
+    requires can { CanOffer (offered offer.now) slots.now }
+    requires free { AllByRecursion (MayTry slots.now) wanted.now }
+    requires wanted { filter (may_take (offered offer.now) slots.now) wanted.now ≡ takers (offered offer.now) slots.now }
+    requires within { place < length row.old }
+    requires ordered { IsOrderedNode (node_at row.old place) }
+    requires lead { LeadOn (offered offer.now) slots.now (node_at row.old place).routes }
+    requires free_left { AreOpen slots.now (node_at row.old place).routes }
+
+    ensures placed { row.new ≡ slice_set row.old place (node_at row.new place) }
+    ensures number { (node_at row.new place).number ≡ (node_at row.old place).number }
+    ensures ordered { IsOrderedNode (node_at row.new place) }
+    ensures free_left { AreOpen slots.now (node_at row.new place).routes }
+    ensures lasting { Lasts offer.now.number (node_at row.old place).routes (node_at row.new place).routes }
+    ensures best { IfOk result (λ b. b ≡ least (new_matches (offered offer.now) slots.now ([] ∷ seen (offered offer.now) (node_at row.old place).routes))) }
+    ensures grows { IfOk result (λ b. b ≡ None → Grows (offered offer.now) slots.now (growing (offered offer.now) slots.now) (node_at row.old place).routes (node_at row.new place).routes) }
+    ensures counted { count.new + length (node_at row.old place).routes ≡ count.old + length (node_at row.new place).routes }
+    ensures stepped { steps.new ≤ steps.old + (length wanted.now + tries_behind (offered offer.now) slots.now (node_at row.old place).routes) }
+{
+    match &mut row.nodes {
+        Nodes::Empty => Ok(None),
+        Nodes::One(_) => visit_leaf_at(alloc, offer, slots, wanted, row, place, count, steps),
+        Nodes::Leaves(_) => visit_leaf_at(alloc, offer, slots, wanted, row, place, count, steps),
+        Nodes::Mixed(nodes) => {
+            let node = &mut nodes[place];
+            visit_node(alloc, offer, slots, wanted, node, count, steps)
+        }
+    }
 }
 
 // Offers the number to the path that ends at the node, and to all that go on from it.
@@ -374,7 +454,13 @@ fn visit_node<L: Ledger>(
     ensures stepped { steps.new ≤ steps.old + (length wanted.now + tries_behind (offered offer.now) slots.now node.old.routes) }
 {
     match &mut node.shape {
-        Shape::Leaf(_) => visit_leaf(alloc, offer, slots, wanted, node, count, steps),
+        Shape::Leaf(_) => {
+            let AtLeaf { best, rows } = visit_leaf(alloc, offer, slots, wanted, count, steps)?;
+            if let Some(rows) = rows {
+                node.put_behind(rows);
+            }
+            Ok(best)
+        }
         Shape::Inner(_, rows) => visit_rows(alloc, offer, slots, wanted, rows, count, steps),
     }
 }

@@ -22,9 +22,9 @@ use Rattle.std.proofs.Crossing.{crosses}
 use denote.Model.Goals.{send, one_law, tied_goals, has_of, part_has, All}
 use denote.Model.Cut.{split_one}
 use denote.Model.Local.{Parts, rows}
-use Rattle.match_tree.specs.declared.node.Node.TheDeep.{the_members, member-Node, split-Shape, join-Shape, joins-Shape, split-Node, join-Node, joins-Node}
+use Rattle.match_tree.specs.declared.node.Node.TheDeep.{the_members, member-Node, member-Row, split-Shape, join-Shape, joins-Shape, split-Node, join-Node, joins-Node, split-Nodes, join-Nodes, joins-Nodes, split-Row, join-Row, joins-Row}
 use Rattle.match_tree.specs.contracts.node.Node.TheKnot as knot
-use Rattle.match_tree.specs.contracts.node.Node as Node
+use Rattle.match_tree.specs.contracts.row.Row as Row
 use Rattle.std.specs.contracts.vec.Vec as Vec
 use Rattle.std.specs.contracts.collections.VecDeque as VecDeque
 use Rattle.std.specs.contracts.alloc.Global as Global
@@ -61,48 +61,66 @@ use Rattle.pool_run.specs.contracts.parts.FeedPart as FeedPart
 use Rattle.pool_run.specs.contracts.parts.Returned as Returned
 use Rattle.rtrb.proofs.end.End.TheSendSync.{the_send as end-send}
 
--- ---- nodes, which hold nodes in boxes of lists of lists, in one of the variants of an enum
+-- ---- nodes, which hold rows in boxes, and rows, which hold nodes, each in one of the variants of an enum
 
 box-send : (R : RattleType) → IsSend R → IsSend (Box.the_row R Global.the_row ghosts)
 box-send R s = search (sendable, crosses) depth 40
 
-lists-send : (R : RattleType) → IsSend R → IsSend (Vec.the_row (VecDeque.the_row R Global.the_row ghosts) Global.the_row ghosts)
-lists-send R s = search (sendable, crosses) depth 40
+vec-send : (R : RattleType) → IsSend R → IsSend (Vec.the_row R Global.the_row ghosts)
+vec-send R s = search (sendable, crosses) depth 40
+
+deque-send : (R : RattleType) → IsSend R → IsSend (VecDeque.the_row R Global.the_row ghosts)
+deque-send R s = search (sendable, crosses) depth 40
 
 number-send : IsSend (as_row u32-field)
 number-send = search (sendable, crosses) depth 40
 
 -- a leaf has a number, and any other node a number and its rows
-layer-send : (R : RattleType) → IsSend R → IsSend (knot.layer-Shape R)
-layer-send R s =
+shape-layer-send : (R : RattleType) → IsSend R → IsSend (knot.layer-Shape R)
+shape-layer-send R s =
     let number : IsSend (as_row (row_field (as_row u32-field))) = as_row_send (row_field (as_row u32-field)) number-send in
-    let boxed = as_row_send (row_field (Box.the_row (Vec.the_row (VecDeque.the_row R Global.the_row ghosts) Global.the_row ghosts) Global.the_row ghosts)) (box-send _ (lists-send R s)) in
+    let boxed = as_row_send (row_field (Box.the_row (Vec.the_row R Global.the_row ghosts) Global.the_row ghosts)) (box-send _ (vec-send R s)) in
     variants_send (knot.type-Shape R) ((number, tt), ((number, (boxed, tt)), tt))
 
-shape-send : (p : Parts knot.frame) → IsSend (rows knot.frame p member-Node) → IsSend (knot.at-Shape p)
-shape-send p all =
-    let nodes = rows knot.frame p member-Node in
-    recorded_send _ _ _ (split_one (knot.layer-Shape nodes) _ split-Shape join-Shape joins-Shape) (layer-send nodes all)
+-- a row has nothing, a number, numbers, or nodes
+nodes-layer-send : (R : RattleType) → IsSend R → IsSend (knot.layer-Nodes R)
+nodes-layer-send R s =
+    let number : IsSend (as_row (row_field (as_row u32-field))) = as_row_send (row_field (as_row u32-field)) number-send in
+    let numbers = as_row_send (row_field (Box.the_row (VecDeque.the_row (as_row u32-field) Global.the_row ghosts) Global.the_row ghosts)) (box-send _ (deque-send _ number-send)) in
+    let boxed = as_row_send (row_field (Box.the_row (VecDeque.the_row R Global.the_row ghosts) Global.the_row ghosts)) (box-send _ (deque-send R s)) in
+    variants_send (knot.type-Nodes R) (tt, ((number, tt), ((numbers, tt), ((boxed, tt), tt))))
 
-view-send : (p : Parts knot.frame) → IsSend (rows knot.frame p member-Node) → IsSend (knot.view-Node p)
-view-send p all =
+shape-send : (p : Parts knot.frame) → IsSend (rows knot.frame p member-Row) → IsSend (knot.at-Shape p)
+shape-send p all =
+    let behind = rows knot.frame p member-Row in
+    recorded_send _ _ _ (split_one (knot.layer-Shape behind) _ split-Shape join-Shape joins-Shape) (shape-layer-send behind all)
+
+nodes-send : (p : Parts knot.frame) → IsSend (rows knot.frame p member-Node) → IsSend (knot.at-Nodes p)
+nodes-send p all =
+    let nodes = rows knot.frame p member-Node in
+    recorded_send _ _ _ (split_one (knot.layer-Nodes nodes) _ split-Nodes join-Nodes joins-Nodes) (nodes-layer-send nodes all)
+
+node-view-send : (p : Parts knot.frame) → IsSend (rows knot.frame p member-Row) → IsSend (knot.view-Node p)
+node-view-send p all =
     let shape = knot.at-Shape p in
     let fields = declared_send (knot.type-Node shape) (as_row_send (row_field shape) (shape-send p all), tt) in
     view_send _ _ _ _ _ (recorded_send _ _ _ (split_one (knot.layer-Node shape) _ split-Node join-Node joins-Node) fields)
 
-step-send : (p : Parts knot.frame) → IsSend (rows knot.frame p member-Node) → IsSend (rows knot.frame (knot.step p) member-Node)
-step-send p all = has_of knot.frame send (knot.step p) member-Node (part_has send (knot.view-Node p) (view-send p all))
+row-view-send : (p : Parts knot.frame) → IsSend (rows knot.frame p member-Node) → IsSend (knot.view-Row p)
+row-view-send p all =
+    let nodes = knot.at-Nodes p in
+    let fields = declared_send (knot.type-Row nodes) (as_row_send (row_field nodes) (nodes-send p all), tt) in
+    view_send _ _ _ _ _ (recorded_send _ _ _ (split_one (knot.layer-Row nodes) _ split-Row join-Row joins-Row) fields)
 
+-- each as far as the other
 by-member : (p : Parts knot.frame) → All (one_law the_members send) (rows knot.frame p) → All (one_law the_members send) (rows knot.frame (knot.step p))
-by-member p all member-Node = step-send p (all member-Node)
+by-member p all member-Node = has_of knot.frame send (knot.step p) member-Node (part_has send (knot.view-Node p) (node-view-send p (all member-Row)))
+by-member p all member-Row = has_of knot.frame send (knot.step p) member-Row (part_has send (knot.view-Row p) (row-view-send p (all member-Node)))
 
-node-send : IsSend Node.the_row
-node-send = tied_goals knot.frame knot.step knot.sizes (one_law the_members send) by-member member-Node
+row-send : IsSend Row.the_row
+row-send = tied_goals knot.frame knot.step knot.sizes (one_law the_members send) by-member member-Row
 
 -- ---- atoms and conjuncts, which hold each other
-
-vec-send : (R : RattleType) → IsSend R → IsSend (Vec.the_row R Global.the_row ghosts)
-vec-send R s = search (sendable, crosses) depth 40
 
 operand-send : IsSend Operand.the_row
 operand-send = search (sendable, crosses) depth 40
@@ -163,8 +181,8 @@ statement-send = search (sendable, crosses, operand-send) depth 40 fits 100000
 rule-send : IsSend Rule.the_row
 rule-send = declared_send Rule.the_type (search (sendable, crosses, definition-send) depth 40, (search (sendable, crosses) depth 40, (search (sendable, crosses, statement-send) depth 40, tt)))
 
-rows-send : IsSend (Vec.the_row (VecDeque.the_row Node.the_row Global.the_row ghosts) Global.the_row ghosts)
-rows-send = lists-send Node.the_row node-send
+rows-send : IsSend (Vec.the_row Row.the_row Global.the_row ghosts)
+rows-send = vec-send Row.the_row row-send
 
 candidate-send : IsSend Candidate.the_row
 candidate-send = search (sendable, crosses) depth 40
@@ -177,7 +195,7 @@ maybe-send = search (sendable, crosses, pending-send) depth 40
 
 -- the fields of a tree
 abbrev tree_parts : List Field
-tree_parts = row_field Global.the_row ∷ row_field Definition.the_row ∷ u32-field ∷ row_field (Vec.the_row (VecDeque.the_row Node.the_row Global.the_row ghosts) Global.the_row ghosts) ∷ u64-field ∷ row_field (Option.the_row Pending.the_row) ∷ []
+tree_parts = row_field Global.the_row ∷ row_field Definition.the_row ∷ u32-field ∷ row_field (Vec.the_row Row.the_row Global.the_row ghosts) ∷ u64-field ∷ row_field (Option.the_row Pending.the_row) ∷ []
 
 tree-fields : IsSend (S.row (struct_layer [] [] [] tree_parts))
 tree-fields =
@@ -191,7 +209,7 @@ tree-fields =
         (
           number,
           (
-            as_row_send (row_field (Vec.the_row (VecDeque.the_row Node.the_row Global.the_row ghosts) Global.the_row ghosts)) rows-send,
+            as_row_send (row_field (Vec.the_row Row.the_row Global.the_row ghosts)) rows-send,
             (count, (as_row_send (row_field (Option.the_row Pending.the_row)) maybe-send, tt)),
           ),
         ),

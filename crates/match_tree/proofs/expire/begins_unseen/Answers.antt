@@ -1,14 +1,20 @@
-use Rattle.std.proofs.Common.{◌<◌, ◌∙◌, length, sym, ap, arith, nat_lt}
+use Rattle.std.proofs.Common.{◌<◌, ◌≡◌, ◌∙◌, [], length, sym, ap, arith, nat_lt}
+use Rattle.std.proofs.lemmas.List.{nil_from_length}
+use Rattle.match_tree.specs.Pruned.{seen_nodes}
 use Rattle.match_tree.proofs.ExpireLemmas.{front_seen, front_unseen}
 use Rattle.match_tree.proofs.expire.begins_unseen.Goals as goal
 
-pub returns-in-Some : goal.returns-in-Some
-returns-in-Some c =
+pub returns-then-len-eq0-clause-none : goal.returns-then-len-eq0-clause-none
+returns-then-len-eq0-clause-none c =
+    let none : c.args.row.now ≡ [] = nil_from_length c.args.row.now (sym c.len.ensures ∙ c.if-len-eq0.true) in
+    λ _. ap (seen_nodes c.args.oldest) none ∙ sym none
+
+pub returns : goal.returns
+returns c =
     let row = c.args.row.now in
-    let e = c.in-Some.ensures in
-    let some : 0 < length row.items = omega (arith, e.variant, row.ok.0) in
-    let same = ap (λ n. nat_lt n c.args.oldest) (sym c.number.ensures) in
+    let some : 0 < length row = omega (arith, c.len.ensures, c.if-len-eq0.false) in
+    let same = ap (λ n. nat_lt n c.args.oldest) (sym c.number_at.ensures) in
     record {
-      none = λ seen. front_seen c.args.oldest row.items c.in-Some.node.now c.requires some e.lookup (same ∙ seen);
-      first = λ unseen. (some, front_unseen c.args.oldest row.items c.in-Some.node.now some e.lookup (same ∙ unseen));
+      none = λ seen. front_seen c.args.oldest row c.requires (same ∙ seen);
+      first = λ unseen. (some, front_unseen c.args.oldest row some (same ∙ unseen));
     }

@@ -27,8 +27,8 @@ overflow_add-gone c = omega (arith, c.requires.few, c.loop-dropped.invariant.cou
 pub loop-dropped-preserved : goal.loop-dropped-preserved
 loop-dropped-preserved c =
     let inv = c.loop-dropped.invariant in
-    let row = c.loop-dropped.row.items in
-    let left : c.remove_at-gone.new.row.items ≡ remove row 0 = c.remove_at-gone.ensures.left in
+    let row = c.loop-dropped.row in
+    let left : c.remove_at-gone.new.row ≡ remove row 0 = c.remove_at-gone.ensures.left in
     let first = c.begins_unseen.ensures.first c.if-not-begins_unseen.false in
     let shorter = ap (λ (xs : List Branch). length xs) left in
     record {
@@ -42,5 +42,5 @@ loop-dropped-preserved c =
 pub returns : goal.returns
 returns c =
     let inv = c.loop-dropped.invariant in
-    let none : c.loop-dropped.row.items ≡ [] = nil_from_length c.loop-dropped.row.items (omega (arith, inv.long, c.loop-dropped-test.false, c.len-dropped-end.ensures, c.args.row.now.ok.0)) in
+    let none : c.loop-dropped.row ≡ [] = nil_from_length c.loop-dropped.row (omega (arith, inv.long, c.loop-dropped-test.false, c.len-dropped-end.ensures)) in
     record { left = none ∙ sym (ap (seen_nodes c.args.oldest) none) ∙ inv.same; gone = inv.counted }

@@ -6,9 +6,9 @@ use Rattle.match_tree.proofs.expire.drop_front.Given as goal
 
 abbrev pub invariant-loop-dropped : goal.invariant-loop-dropped
 invariant-loop-dropped l = record {
-  same : seen_nodes l.oldest l.row.items ≡ seen_nodes l.oldest l.initial.row.items;
-  sound : IsSoundRow l.row.items;
-  short : AreShort l.levels (row_routes 0 l.row.items);
-  long : l._dropped + length l.row.items ≡ length l.initial.row.items;
-  counted : l.gone + length (row_routes 0 l.row.items) ≡ length (row_routes 0 l.initial.row.items);
+  same : seen_nodes l.oldest l.row ≡ seen_nodes l.oldest l.initial.row;
+  sound : IsSoundRow l.row;
+  short : AreShort l.levels (row_routes 0 l.row);
+  long : l._dropped + length l.row ≡ length l.initial.row;
+  counted : l.gone + length (row_routes 0 l.row) ≡ length (row_routes 0 l.initial.row);
 }

@@ -1,5 +1,4 @@
-use Rattle.std.specs.declared.collections.VecDeque.{VecDeque}
-use Rattle.std.proofs.Common.{Vec, ◌≡◌, ◌∙◌, ◌≤◌, ◌<◌, ◌+◌, ◌-◌, ◌^◌, ◌∷◌, ℕ, List, ap, sym, subst, arith, length, drop, get_or, refl, length-append}
+use Rattle.std.proofs.Common.{Vec, ◌≡◌, ◌∙◌, ◌≤◌, ◌<◌, ◌+◌, ◌-◌, ◌^◌, ◌∷◌, ℕ, List, ap, sym, subst, arith, length, drop, get_or, map, deque_len, length-append}
 use Rattle.std.specs.declared.alloc.Global.{Global}
 use Rattle.std.proofs.lemmas.List.{drop_more, at_drop_more}
 use Rattle.guard_eval.proofs.ReadyLemmas.{all_left, all_right}
@@ -7,12 +6,14 @@ use denote.Param.Weighed.{at_most, most}
 use Rattle.match_tree.specs.declared.node.Node.{Node}
 use Rattle.match_tree.specs.declared.node.Shape.{Shape}
 use Rattle.match_tree.specs.Shapes.{rows_behind}
-use Rattle.match_tree.specs.declared.node.Node.TheDeep.{size-Node}
-use Rattle.match_tree.specs.declared.node.Node.TheShapes.{weighed-Shape-Inner-1-at-1}
-use Rattle.match_tree.specs.declared.node.Node.TheView.{size}
-use Rattle.match_tree.proofs.FallLemmas.{rows_fall}
+use Rattle.match_tree.specs.declared.node.Node.TheDeep.{size-Node, size-Row}
+use Rattle.match_tree.specs.Rows.{leaf}
+use Rattle.match_tree.specs.Shapes.{branches}
+use Rattle.match_tree.proofs.FallLemmas.{node_weighs, nodes_fall, rows_fall}
+use Rattle.match_tree.proofs.LeafLemmas.{leaf_count}
+use Rattle.std.specs.declared.collections.VecDeque.{VecDeque}
+use Rattle.std.specs.List.{AllByRecursion}
 use Rattle.match_tree.specs.Routes.{Route, Branch, row_routes, rows_routes, node_routes}
-use Rattle.match_tree.specs.Rows.{rows_of}
 use Rattle.match_tree.specs.Order.{AreOrdered, IsOrderedNode, AreSound}
 use Rattle.match_tree.specs.Pruned.{AreShort}
 use Rattle.match_tree.proofs.OrderLemmas.{rows_sound}
@@ -24,29 +25,53 @@ pub count_node-count_rows-requires : goal.count_node-count_rows-requires
 count_node-count_rows-requires t c =
     let a = c.args in
     let rows = c.in-Inner.rows.value.items in
-    let same : rows ≡ c.deref-in-Inner.result.now = sym (c.deref-in-Inner.ensures.value ∙ ap (λ (v : Vec (VecDeque Node Global) Global). v.items) c.deref.ensures) in
-    let routes_are : rows_routes 0 (rows_of rows) ≡ a.node.now.routes = sym (ap (λ (shape : Shape). rows_routes 0 (rows_behind shape)) c.in-Inner.is) ∙ ap (λ (x : Branch). x.routes) c.node.view_is in
-    let smaller = rows_fall rows in
-    let sized : size a.node.now ≡ length a.node.now.routes = refl in
-    let deep = ap (most (weighed-Shape-Inner-1-at-1.weight Node size-Node)) same in
+    let same : rows ≡ c.deref-in-Inner.result.now = sym (c.deref-in-Inner.ensures.value ∙ ap (λ (v : Vec (List Branch) Global). v.items) c.deref.ensures) in
+    let routes_are : rows_routes 0 rows ≡ a.node.now.routes = sym (ap (λ (shape : Shape). rows_routes 0 (rows_behind shape)) c.in-Inner.is) ∙ ap (λ (x : Branch). x.routes) c.node.view_is in
     let count = ap (λ (rs : List Route). length rs) routes_are in
-    let at : (P : List (VecDeque Node Global) → Type 0) → P rows → P c.deref-in-Inner.result.now = λ P p. subst P same p in (
+    let smaller = rows_fall rows in
+    let weight = node_weighs a.node.now in
+    let deep = ap (most size-Row) same in
+    let at : (P : List (List Branch) → Type 0) → P rows → P c.deref-in-Inner.result.now = λ P p. subst P same p in (
       omega (arith, c.decreases),
       (
-        at (λ xs. length (rows_routes 0 (rows_of xs)) < 2 ^ 64) (omega (arith, c.requires.few)),
+        at (λ xs. length (rows_routes 0 xs) < 2 ^ 64) (omega (arith, c.requires.few)),
         (
-          at (λ xs. AreSound (rows_of xs)) (rows_sound 0 (rows_of rows) (subst AreOrdered (sym routes_are) c.requires.ordered.1)),
-          at (λ xs. AreShort a.levels (rows_routes 0 (rows_of xs))) (subst (AreShort a.levels) (sym routes_are) c.requires.short),
+          at (λ xs. AreSound xs) (rows_sound 0 rows (subst AreOrdered (sym routes_are) c.requires.ordered.1)),
+          at (λ xs. AreShort a.levels (rows_routes 0 xs)) (subst (AreShort a.levels) (sym routes_are) c.requires.short),
         ),
       ),
     )
 
-pub count_nodes-returns-then-levels-le1 : goal.count_nodes-returns-then-levels-le1
-count_nodes-returns-then-levels-le1 t c =
+pub count_row-returns-then-levels-le1 : goal.count_row-returns-then-levels-le1
+count_row-returns-then-levels-le1 t c =
     let a = c.args in
-    let count = a.nodes.now.ok.0 in
-    let all = leaves_count a.levels 0 a.nodes.now.items c.if-levels-le1.true c.requires.sound.ordered (short_below a.levels 0 a.nodes.now.items c.requires.short) in
+    let all = leaves_count a.levels 0 a.row.now c.if-levels-le1.true c.requires.sound.ordered (short_below a.levels 0 a.row.now c.requires.short) in
     omega (arith, c.len.ensures)
+
+pub count_row-returns-in-Leaves : goal.count_row-returns-in-Leaves
+count_row-returns-in-Leaves t c =
+    let leaves = c.in-Leaves.leaves.value in
+    let is : map leaf leaves.items ≡ c.args.row.now = sym (ap branches c.in-Leaves.is) ∙ c.row.view_is in
+    let count = ap (λ (row : List Branch). length (row_routes 0 row)) is in
+    omega (arith, c.len-in-Leaves.ensures, ap deque_len c.deref.ensures, leaves.ok.0, leaf_count leaves.items, count)
+
+pub count_row-count_nodes-requires : goal.count_row-count_nodes-requires
+count_row-count_nodes-requires t c =
+    let a = c.args in
+    let is : c.in-Mixed.nodes.value.items ≡ a.row.now = sym (ap branches c.in-Mixed.is) ∙ c.row.view_is in
+    let same : a.row.now ≡ c.deref-in-Mixed.result.now.items = sym (ap (λ (v : VecDeque Node Global). v.items) c.deref-in-Mixed.ensures ∙ is) in
+    let deep = ap (most size-Node) same in
+    let smaller = nodes_fall a.row.now in
+    let at : (P : List Branch → Type 0) → P a.row.now → P c.deref-in-Mixed.result.now.items = λ P p. subst P same p in (
+      omega (arith, c.decreases),
+      (
+        at (λ xs. length (row_routes 0 xs) < 2 ^ 64) c.requires.few,
+        (
+          at (λ xs. AllByRecursion IsOrderedNode xs) c.requires.sound.ordered,
+          at (λ xs. AllByRecursion (λ node. AreShort (a.levels - 1) node.routes) xs) (short_below a.levels 0 a.row.now c.requires.short),
+        ),
+      ),
+    )
 
 pub count_nodes-count_node-requires : goal.count_nodes-count_node-requires
 count_nodes-count_node-requires t c =
@@ -64,27 +89,27 @@ count_nodes-count_node-requires t c =
       (
         omega (arith, c.requires.few, c.loop-place.invariant),
         (
-          subst IsOrderedNode (sym is) (all_at IsOrderedNode items i d within c.requires.sound.ordered),
-          subst (λ (x : Branch). AreShort (a.levels - 1) x.routes) (sym is) (all_at (λ (x : Branch). AreShort (a.levels - 1) x.routes) items i d within (short_below a.levels 0 items c.requires.short)),
+          subst IsOrderedNode (sym is) (all_at IsOrderedNode items i d within c.requires.ordered),
+          subst (λ (x : Branch). AreShort a.levels x.routes) (sym is) (all_at (λ (x : Branch). AreShort a.levels x.routes) items i d within c.requires.short),
         ),
       ),
     )
 
-pub count_rows-count_nodes-count-requires : goal.count_rows-count_nodes-count-requires
-count_rows-count_nodes-count-requires t c =
+pub count_rows-count_row-count-requires : goal.count_rows-count_row-count-requires
+count_rows-count_row-count-requires t c =
     let a = c.args in
     let i : ℕ = c.loop-row.row-index in
     let d = c.row-item.result in
     let within = c.loop-row-test.true in
-    let rest = rows_of (drop (i + 1) a.rows.now) in
-    let left : rows_of (drop i a.rows.now) ≡ d.items ∷ rest = ap rows_of (drop_more a.rows.now i d within) ∙ ap (λ (v : VecDeque Node Global). v.items ∷ rest) (sym c.row-item.is) in
+    let rest = drop (i + 1) a.rows.now in
+    let left : drop i a.rows.now ≡ d ∷ rest = drop_more a.rows.now i d within ∙ ap (λ (row : List Branch). row ∷ rest) (sym c.row-item.is) in
     let routes = ap (rows_routes 0) left in
-    let count = ap (λ (rs : List Route). length rs) routes ∙ length-append (row_routes 0 d.items) (rows_routes 1 rest) in
+    let count = ap (λ (rs : List Route). length rs) routes ∙ length-append (row_routes 0 d) (rows_routes 1 rest) in
     let short = subst (AreShort a.levels) routes c.loop-row.invariant.short in
-    let deep = at_most (weighed-Shape-Inner-1-at-1.weight Node size-Node) a.rows.now i d within in
-    let row_size = ap (weighed-Shape-Inner-1-at-1.weight Node size-Node) c.row-item.is in (
+    let deep = at_most size-Row a.rows.now i d within in
+    let weight = ap size-Row c.row-item.is in (
       omega (arith, c.decreases),
-      (omega (arith, c.requires.few, c.loop-row.invariant.counted), ((subst AreSound left c.loop-row.invariant.sound).0, all_left (λ (r : Route). length r ≤ a.levels) (row_routes 0 d.items) (rows_routes 1 rest) short)),
+      (omega (arith, c.requires.few, c.loop-row.invariant.counted), ((subst AreSound left c.loop-row.invariant.sound).0, all_left (λ (r : Route). length r ≤ a.levels) (row_routes 0 d) (rows_routes 1 rest) short)),
     )
 
 pub count_rows-loop-row-preserved : goal.count_rows-loop-row-preserved
@@ -93,13 +118,13 @@ count_rows-loop-row-preserved t c =
     let i : ℕ = c.loop-row.row-index in
     let d = c.row-item.result in
     let within = c.loop-row-test.true in
-    let rest = rows_of (drop (i + 1) a.rows.now) in
-    let left : rows_of (drop i a.rows.now) ≡ d.items ∷ rest = ap rows_of (drop_more a.rows.now i d within) ∙ ap (λ (v : VecDeque Node Global). v.items ∷ rest) (sym c.row-item.is) in
+    let rest = drop (i + 1) a.rows.now in
+    let left : drop i a.rows.now ≡ d ∷ rest = drop_more a.rows.now i d within ∙ ap (λ (row : List Branch). row ∷ rest) (sym c.row-item.is) in
     let routes = ap (rows_routes 0) left in
-    let count = ap (λ (rs : List Route). length rs) routes ∙ length-append (row_routes 0 d.items) (rows_routes 1 rest) in
+    let count = ap (λ (rs : List Route). length rs) routes ∙ length-append (row_routes 0 d) (rows_routes 1 rest) in
     let short = subst (AreShort a.levels) routes c.loop-row.invariant.short in
     record {
-      counted = omega (arith, c.loop-row.invariant.counted, c.count_nodes-count.ensures, rows_count 1 0 rest);
+      counted = omega (arith, c.loop-row.invariant.counted, c.count_row-count.ensures, rows_count 1 0 rest);
       sound = (subst AreSound left c.loop-row.invariant.sound).1;
-      short = short_rows a.levels 1 0 rest (all_right (λ (r : Route). length r ≤ a.levels) (row_routes 0 d.items) (rows_routes 1 rest) short);
+      short = short_rows a.levels 1 0 rest (all_right (λ (r : Route). length r ≤ a.levels) (row_routes 0 d) (rows_routes 1 rest) short);
     }

@@ -1,47 +1,45 @@
 use Rattle.std.specs.declared.collections.VecDeque.{VecDeque}
 use Rattle.std.proofs.Common.{Vec, ◌≡◌, ◌∙◌, ◌≤◌, ◌<◌, ◌+◌, ◌-◌, ◌^◌, ◌∷◌, [], ◌++◌, ℕ, List, ap, sym, subst, arith, length, take, get_or, set, map, refl}
-use Rattle.std.specs.Prelude.{not}
 use Rattle.std.specs.List.{filter, AllByRecursion}
 use Rattle.std.specs.declared.alloc.Global.{Global}
-use Rattle.std.proofs.lemmas.List.{nil_from_length, get_or_default, take_more, take_more_set, drop-set-lt, length-map, length-set, map-append, map-set}
+use Rattle.std.proofs.lemmas.List.{nil_from_length, get_or_default, take_more, take_more_set, drop-set-lt, length-set, map-append}
 use Rattle.std.proofs.lemmas.List.Elements.{filter-append}
 use denote.Param.Weighed.{at_most, most}
 use Rattle.match_tree.specs.declared.node.Node.{Node}
 use Rattle.match_tree.specs.declared.node.Shape.{Shape}
-use Rattle.match_tree.specs.Shapes.{rows_behind}
-use Rattle.match_tree.specs.declared.node.Node.TheDeep.{size-Node}
-use Rattle.match_tree.specs.declared.node.Node.TheShapes.{weighed-Shape-Inner-1-at-1}
-use Rattle.match_tree.specs.declared.node.Node.TheView.{size}
-use Rattle.match_tree.proofs.FallLemmas.{rows_fall}
+use Rattle.match_tree.specs.Shapes.{rows_behind, branches}
+use Rattle.match_tree.specs.declared.node.Node.TheDeep.{size-Node, size-Row}
+use Rattle.match_tree.specs.declared.row.Row.TheInside.{Inside}
+use Rattle.match_tree.proofs.LeafLemmas.{leaves_kept}
+use Rattle.match_tree.proofs.FallLemmas.{node_weighs, row_weighs, nodes_fall, rows_fall}
 use Rattle.match_tree.specs.Routes.{Route, Branch, row_routes, rows_routes, lacks}
-use Rattle.join_base.specs.Taken.{contains_number}
-use Rattle.match_tree.specs.Rows.{rows_of}
 use Rattle.match_tree.specs.Order.{AreOrdered, IsOrderedNode, IsSoundRow, AreSound}
 use Rattle.match_tree.specs.Pruned.{AreShort, pruned, without_numbers}
 use Rattle.match_tree.proofs.OrderLemmas.{rows_sound}
 use Rattle.match_tree.proofs.WalkLemmas.{all_at, left_item, left_more}
-use Rattle.match_tree.proofs.RowsLemmas.{before_routes, now_routes, counts_rows_on, get_or-map, most_map}
-use Rattle.match_tree.proofs.PruneLemmas.{row_count, short_below, pruned_row, pruned_leaves, all_filtered, all_rows, short_row, most_filter}
-use Rattle.match_tree.proofs.CountLemmas.{empty_length, counts_parts, counts_steps, counts_row}
+use Rattle.match_tree.proofs.RowsLemmas.{before_routes, now_routes, counts_rows_on}
+use Rattle.match_tree.proofs.PruneLemmas.{row_count, short_below, pruned_row, pruned_leaves, all_filtered, all_rows, short_row}
+use Rattle.match_tree.proofs.CountLemmas.{counts_parts, counts_steps, counts_row}
 use Rattle.match_tree.proofs.prune.+prune.Goals as goal
+use Rattle.match_tree.proofs.prune.+prune.Goals.{prune_behind-in-Empty, prune_behind-in-One, prune_behind-in-Leaves, prune_behind-in-Mixed}
 
 pub prune_node-prune_rows-requires : goal.prune_node-prune_rows-requires
 prune_node-prune_rows-requires t c =
     let a = c.args in
     let rows = c.in-Inner.rows.value.items in
-    let same : rows ≡ c.deref_mut-in-Inner.result.now = sym (c.deref_mut-in-Inner.ensures.value ∙ ap (λ (v : Vec (VecDeque Node Global) Global). v.items) c.deref_mut.ensures.value) in
-    let routes_are : rows_routes 0 (rows_of rows) ≡ a.node.now.routes = sym (ap (λ (shape : Shape). rows_routes 0 (rows_behind shape)) c.in-Inner.is) ∙ ap (λ (x : Branch). x.routes) c.node.view_is in
+    let same : rows ≡ c.deref_mut-in-Inner.result.now = sym (c.deref_mut-in-Inner.ensures.value ∙ ap (λ (v : Vec (List Branch) Global). v.items) c.deref_mut.ensures.value) in
+    let routes_are : rows_routes 0 rows ≡ a.node.now.routes = sym (ap (λ (shape : Shape). rows_routes 0 (rows_behind shape)) c.in-Inner.is) ∙ ap (λ (x : Branch). x.routes) c.node.view_is in
     let smaller = rows_fall rows in
-    let sized : size a.node.now ≡ length a.node.now.routes = refl in
-    let deep = ap (most (weighed-Shape-Inner-1-at-1.weight Node size-Node)) same in
+    let weight = node_weighs a.node.now in
+    let deep = ap (most size-Row) same in
     let count = ap (λ (rs : List Route). length rs) routes_are in
-    let at : (P : List (VecDeque Node Global) → Type 0) → P rows → P c.deref_mut-in-Inner.result.now = λ P p. subst P same p in (
+    let at : (P : List (List Branch) → Type 0) → P rows → P c.deref_mut-in-Inner.result.now = λ P p. subst P same p in (
       omega (arith, c.decreases),
       (
-        at (λ xs. length (rows_routes 0 (rows_of xs)) < 2 ^ 64) (omega (arith, c.requires.few)),
+        at (λ xs. length (rows_routes 0 xs) < 2 ^ 64) (omega (arith, c.requires.few)),
         (
-          at (λ xs. AreSound (rows_of xs)) (rows_sound 0 (rows_of rows) (subst AreOrdered (sym routes_are) c.requires.ordered.1)),
-          at (λ xs. AreShort a.levels (rows_routes 0 (rows_of xs))) (subst (AreShort a.levels) (sym routes_are) c.requires.short),
+          at (λ xs. AreSound xs) (rows_sound 0 rows (subst AreOrdered (sym routes_are) c.requires.ordered.1)),
+          at (λ xs. AreShort a.levels (rows_routes 0 xs)) (subst (AreShort a.levels) (sym routes_are) c.requires.short),
         ),
       ),
     )
@@ -102,44 +100,76 @@ prune_nodes-loop-place-preserved t c =
       counted = omega (arith, c.loop-place.invariant.counted, c.prune_node-gone.ensures.gone);
     }
 
-pub prune_row-prune_nodes-requires : goal.prune_row-prune_nodes-requires
-prune_row-prune_nodes-requires t c =
+pub prune_behind-prune_nodes-requires : goal.prune_behind-prune_nodes-requires
+prune_behind-prune_nodes-requires t c =
     let a = c.args in
-    let row = a.row.now.items in
+    let is : c.in-Mixed.nodes.value.items ≡ a.row.now = sym (ap branches c.in-Mixed.is) ∙ c.row.view_is in
+    let same : a.row.now ≡ c.deref_mut.result.now.items = sym (ap (λ (v : VecDeque Node Global). v.items) c.deref_mut.ensures.value ∙ is) in
+    let deep = ap (most size-Node) same in
+    let smaller = nodes_fall a.row.now in
+    let at : (P : List Branch → Type 0) → P a.row.now → P c.deref_mut.result.now.items = λ P p. subst P same p in (
+      omega (arith, c.decreases),
+      (
+        at (λ xs. length (row_routes 0 xs) < 2 ^ 64) c.requires.few,
+        (
+          at (λ xs. AllByRecursion IsOrderedNode xs) c.requires.ordered,
+          at (λ xs. AllByRecursion (λ node. AreShort a.levels node.routes) xs) c.requires.short,
+        ),
+      ),
+    )
+
+pub prune_behind-returns-clause-left : goal.prune_behind-returns-clause-left
+prune_behind-returns-clause-left t c =
+    let row = c.args.row.now in
+    let numbers = c.args.numbers.now in
+    let seen : Inside → List Branch = λ x. branches x.nodes in
+    elim c.match-row.branch [
+      | prune_behind-in-Empty w ↦ ap seen w.row-inside-is ∙ c.row.view_is ∙ leaves_kept numbers [] row (sym c.row.view_is ∙ ap branches w.in-Empty.is)
+      | prune_behind-in-One w ↦ ap seen w.row-inside-is ∙ c.row.view_is ∙ leaves_kept numbers (w.in-One.field-0 ∷ []) row (sym c.row.view_is ∙ ap branches w.in-One.is)
+      | prune_behind-in-Leaves w ↦ ap seen w.row-inside-is ∙ c.row.view_is ∙ leaves_kept numbers w.in-Leaves.field-0.value.items row (sym c.row.view_is ∙ ap branches w.in-Leaves.is)
+      | prune_behind-in-Mixed w ↦
+          let is : w.deref_mut.result.now.items ≡ row = ap (λ (v : VecDeque Node Global). v.items) w.deref_mut.ensures.value ∙ sym (ap branches w.in-Mixed.is) ∙ c.row.view_is in
+          ap seen w.row-inside-is ∙ w.prune_nodes.ensures.left ∙ ap (map (pruned numbers)) is
+    ]
+
+pub prune_row-prune_behind-requires : goal.prune_row-prune_behind-requires
+prune_row-prune_behind-requires t c =
+    let a = c.args in
+    let row = a.row.now in
     let is = c.remove_numbers-gone.ensures.left in
     let keep = all_filtered IsOrderedNode _ row c.requires.sound.ordered in
     let short = all_filtered (λ (x : Branch). AreShort (a.levels - 1) x.routes) _ row (short_below a.levels 0 row c.requires.short) in
-    let size_is = ap (most size-Node) is in
-    let smaller = most_filter size-Node (λ node. not (contains_number a.numbers.now node.number)) row in (
-      omega (arith, c.decreases),
+    let before = row_weighs row in
+    let after = row_weighs c.remove_numbers-gone.new.row in (
+      omega (arith, c.decreases, c.remove_numbers-gone.ensures.gone),
       (omega (arith, c.requires.few, c.remove_numbers-gone.ensures.gone), (subst (λ (xs : List Branch). AllByRecursion IsOrderedNode xs) (sym is) keep, subst (λ (xs : List Branch). AllByRecursion (λ node. AreShort (a.levels - 1) node.routes) xs) (sym is) short)),
     )
 
-pub prune_row-returns-then-is_empty : goal.prune_row-returns-then-is_empty
-prune_row-returns-then-is_empty t c =
-    let row = c.args.row.now.items in
-    let none : row ≡ [] = nil_from_length row (empty_length c.args.row.now.len (length row) c.args.row.now.ok.0 (sym c.is_empty.ensures ∙ c.if-is_empty.true)) in
+pub prune_row-returns-then-len-eq0 : goal.prune_row-returns-then-len-eq0
+prune_row-returns-then-len-eq0 t c =
+    let row = c.args.row.now in
+    let none : row ≡ [] = nil_from_length row (sym c.len.ensures ∙ c.if-len-eq0.true) in
     record {
       left = λ p. ap (row_routes p) none ∙ sym (ap (λ (xs : List Branch). filter (lacks c.args.numbers.now) (row_routes p xs)) none);
       gone = omega arith;
     }
 
 pub prune_row-overflow_add-result : goal.prune_row-overflow_add-result
-prune_row-overflow_add-result t c = omega (arith, c.requires.few, c.remove_numbers-gone.ensures.gone, c.prune_nodes.ensures.gone)
+prune_row-overflow_add-result t c = omega (arith, c.requires.few, c.remove_numbers-gone.ensures.gone, c.prune_behind.ensures.gone)
 
 pub prune_row-returns : goal.prune_row-returns
 prune_row-returns t c =
     let a = c.args in
-    let row = a.row.now.items in
+    let row = a.row.now in
     record {
-      left = λ p. ap (row_routes p) (c.prune_nodes.ensures.left ∙ ap (map (pruned a.numbers.now)) c.remove_numbers-gone.ensures.left) ∙ pruned_row a.numbers.now p row;
-      gone = omega (arith, c.remove_numbers-gone.ensures.gone, c.prune_nodes.ensures.gone);
+      left = λ p. ap (row_routes p) (c.prune_behind.ensures.left ∙ ap (map (pruned a.numbers.now)) c.remove_numbers-gone.ensures.left) ∙ pruned_row a.numbers.now p row;
+      gone = omega (arith, c.remove_numbers-gone.ensures.gone, c.prune_behind.ensures.gone);
     }
 
 pub prune_row-returns-then-levels-le1 : goal.prune_row-returns-then-levels-le1
 prune_row-returns-then-levels-le1 t c =
     let a = c.args in
-    let row = a.row.now.items in
+    let row = a.row.now in
     let left = without_numbers a.numbers.now row in
     let keep = all_filtered IsOrderedNode _ row c.requires.sound.ordered in
     let short = all_filtered (λ (x : Branch). AreShort (a.levels - 1) x.routes) _ row (short_below a.levels 0 row c.requires.short) in
@@ -155,22 +185,17 @@ prune_rows-prune_row-gone-requires t c =
     let d = c.row-item.result in
     let items = c.loop-row.rows in
     let first = a.rows.now in
-    let within : i < length first = omega (arith, c.loop-row-test.true, c.loop-row.auto.rows) in
-    let same = left_item items first i d c.loop-row.invariant.left in
-    let is : (get_or items i d).items ≡ get_or (rows_of first) i d.items = ap (λ (v : VecDeque Node Global). v.items) same ∙ get_or-map first i d (λ (v : VecDeque Node Global). v.items) in
-    let counted : length (rows_of first) ≡ length first = length-map first (λ (v : VecDeque Node Global). v.items) in
-    let in_rows : i < length (rows_of first) = omega arith in
-    let sizes : VecDeque Node Global → List Branch = λ v. v.items in
-    let here = at_most (most size-Node) (rows_of first) i d.items in_rows in
-    let row_size = ap (most size-Node) is in
-    let all = most_map (most size-Node) sizes first in
-    let short = all_rows (λ (r : Route). length r ≤ a.levels) 0 (rows_of first) i d.items in_rows c.requires.short in
-    let count = counts_row (rows_of first) i (get_or (rows_of first) i d.items) in_rows (get_or_default (rows_of first) i d.items (get_or (rows_of first) i d.items) in_rows) in
+    let in_rows : i < length first = omega (arith, c.loop-row-test.true, c.loop-row.auto.rows) in
+    let is : get_or items i d ≡ get_or first i d = left_item items first i d c.loop-row.invariant.left in
+    let here = at_most size-Row first i d in_rows in
+    let weight = ap size-Row is in
+    let short = all_rows (λ (r : Route). length r ≤ a.levels) 0 first i d in_rows c.requires.short in
+    let count = counts_row first i (get_or first i d) in_rows (get_or_default first i d (get_or first i d) in_rows) in
     let length_is = ap (λ (xs : List Branch). length (row_routes 0 xs)) is in (
       omega (arith, c.decreases),
       (
         omega (arith, c.requires.few),
-        (subst (λ (xs : List Branch). IsSoundRow xs) (sym is) (all_at IsSoundRow (rows_of first) i d.items in_rows c.requires.sound), subst (λ (xs : List Branch). AreShort a.levels (row_routes 0 xs)) (sym is) (short_row a.levels (0 + i) 0 (get_or (rows_of first) i d.items) short)),
+        (subst (λ (xs : List Branch). IsSoundRow xs) (sym is) (all_at IsSoundRow first i d in_rows c.requires.sound), subst (λ (xs : List Branch). AreShort a.levels (row_routes 0 xs)) (sym is) (short_row a.levels (0 + i) 0 (get_or first i d) short)),
       ),
     )
 
@@ -182,9 +207,9 @@ prune_rows-overflow_add-gone t c =
     let items = c.loop-row.rows in
     let first = a.rows.now in
     let same = left_item items first i d c.loop-row.invariant.left in
-    let is : (get_or items i d).items ≡ get_or (rows_of first) i d.items = ap (λ (v : VecDeque Node Global). v.items) same ∙ get_or-map first i d (λ (v : VecDeque Node Global). v.items) in
-    let in_rows : i < length (rows_of first) = omega (arith, length-map first (λ (v : VecDeque Node Global). v.items), c.loop-row-test.true, c.loop-row.auto.rows) in
-    let count = counts_row (rows_of first) i (get_or (rows_of first) i d.items) in_rows (get_or_default (rows_of first) i d.items (get_or (rows_of first) i d.items) in_rows) in
+    let is : get_or items i d ≡ get_or first i d = same in
+    let in_rows : i < length first = omega (arith, c.loop-row-test.true, c.loop-row.auto.rows) in
+    let count = counts_row first i (get_or first i d) in_rows (get_or_default first i d (get_or first i d) in_rows) in
     let length_is = ap (λ (xs : List Branch). length (row_routes 0 xs)) is in
     omega (arith, c.requires.few, c.loop-row.invariant.counted, c.prune_row-gone.ensures.gone)
 
@@ -198,22 +223,21 @@ prune_rows-loop-row-preserved t c =
     let now = c.prune_row-gone.new.row in
     let within : i < length first = omega (arith, c.loop-row-test.true, c.loop-row.auto.rows) in
     let same = left_item items first i d c.loop-row.invariant.left in
-    let row = (get_or items i d).items in
-    let is : row ≡ get_or (rows_of first) i d.items = ap (λ (v : VecDeque Node Global). v.items) same ∙ get_or-map first i d (λ (v : VecDeque Node Global). v.items) in
-    let in_rows : i < length (rows_of first) = omega (arith, length-map first (λ (v : VecDeque Node Global). v.items)) in
-    let in_items : i < length (rows_of items) = omega (arith, length-map items (λ (v : VecDeque Node Global). v.items), c.loop-row-test.true, c.loop-row.auto.rows) in
-    let B = rows_of first in
-    let R = rows_of items in
-    let put : rows_of (set items i now) ≡ set R i now.items = map-set (λ (v : VecDeque Node Global). v.items) items i now in
+    let row = get_or items i d in
+    let is : row ≡ get_or first i d = same in
+    let in_rows : i < length first = omega arith in
+    let in_items : i < length items = omega (arith, c.loop-row-test.true, c.loop-row.auto.rows) in
+    let B = first in
+    let R = items in
     let keep = filter (lacks a.numbers.now) in
-    let before : length (rows_routes 0 (take (i + 1) B)) ≡ length (rows_routes 0 (take i B)) + length (row_routes 0 row) = (counts_rows_on B R i row now.items d.items in_rows in_items is).0 ∙ ap (λ (n : ℕ). length (rows_routes 0 (take i B)) + n) (row_count i 0 row) in
-    let after : length (rows_routes 0 (take (i + 1) (rows_of (set items i now)))) ≡ length (rows_routes 0 (take i R)) + length (row_routes 0 now.items) =
-    ap (λ (xs : List (List Branch)). length (rows_routes 0 (take (i + 1) xs))) put ∙ (counts_rows_on B R i row now.items d.items in_rows in_items is).1 ∙ ap (λ (n : ℕ). length (rows_routes 0 (take i R)) + n) (row_count i 0 now.items)
+    let before : length (rows_routes 0 (take (i + 1) B)) ≡ length (rows_routes 0 (take i B)) + length (row_routes 0 row) = (counts_rows_on B R i row now d in_rows in_items is).0 ∙ ap (λ (n : ℕ). length (rows_routes 0 (take i B)) + n) (row_count i 0 row) in
+    let after : length (rows_routes 0 (take (i + 1) (set items i now))) ≡ length (rows_routes 0 (take i R)) + length (row_routes 0 now) =
+    (counts_rows_on B R i row now d in_rows in_items is).1 ∙ ap (λ (n : ℕ). length (rows_routes 0 (take i R)) + n) (row_count i 0 now)
     in
     record {
-      done = ap (λ (xs : List (List Branch)). rows_routes 0 (take (i + 1) xs)) put ∙ now_routes B R i row now.items d.items in_rows in_items is
+      done = now_routes B R i row now d in_rows in_items is
           ∙ (λ j. c.loop-row.invariant.done j ++ c.prune_row-gone.ensures.left i j)
-          ∙ sym (filter-append (lacks a.numbers.now) (rows_routes 0 (take i B)) (row_routes i row)) ∙ ap keep (sym (before_routes B R i row now.items d.items in_rows in_items is));
+          ∙ sym (filter-append (lacks a.numbers.now) (rows_routes 0 (take i B)) (row_routes i row)) ∙ ap keep (sym (before_routes B R i row now d in_rows in_items is));
       left = drop-set-lt (i + 1) items i now (omega arith) ∙ left_more items first i c.loop-row.invariant.left;
       counted = omega (arith, c.loop-row.invariant.counted, c.prune_row-gone.ensures.gone);
     }

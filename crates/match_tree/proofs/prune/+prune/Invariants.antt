@@ -1,27 +1,29 @@
 use Rattle.std.proofs.Common.{◌≡◌, ◌+◌, ◌*◌, length, map, take, drop}
 use Rattle.std.specs.List.{filter}
 use Rattle.match_tree.specs.Routes.{row_routes, rows_routes, lacks}
-use Rattle.match_tree.specs.Rows.{rows_of}
 use Rattle.match_tree.specs.Pruned.{pruned}
 use Rattle.match_tree.proofs.prune.+prune.Given as goal
 
 abbrev pub decreases-prune_rows : goal.decreases-prune_rows
-decreases-prune_rows l = 4 * goal.size-prune_rows l + 3
+decreases-prune_rows l = 5 * goal.size-prune_rows l + 4
 
 abbrev pub decreases-prune_row : goal.decreases-prune_row
-decreases-prune_row l = 4 * goal.size-prune_row l + 2
+decreases-prune_row l = 5 * goal.size-prune_row l + 3
+
+abbrev pub decreases-prune_behind : goal.decreases-prune_behind
+decreases-prune_behind l = 5 * goal.size-prune_behind l + 2
 
 abbrev pub decreases-prune_nodes : goal.decreases-prune_nodes
-decreases-prune_nodes l = 4 * goal.size-prune_nodes l + 1
+decreases-prune_nodes l = 5 * goal.size-prune_nodes l + 1
 
 abbrev pub decreases-prune_node : goal.decreases-prune_node
-decreases-prune_node l = 4 * goal.size-prune_node l
+decreases-prune_node l = 5 * goal.size-prune_node l
 
 abbrev pub invariant-prune_rows-loop-row : goal.invariant-prune_rows-loop-row
 invariant-prune_rows-loop-row l = record {
-  done : rows_routes 0 (take l.row-index (rows_of l.rows)) ≡ filter (lacks l.numbers) (rows_routes 0 (take l.row-index (rows_of l.initial.rows)));
+  done : rows_routes 0 (take l.row-index l.rows) ≡ filter (lacks l.numbers) (rows_routes 0 (take l.row-index l.initial.rows));
   left : drop l.row-index l.rows ≡ drop l.row-index l.initial.rows;
-  counted : l.gone + length (rows_routes 0 (take l.row-index (rows_of l.rows))) ≡ length (rows_routes 0 (take l.row-index (rows_of l.initial.rows)));
+  counted : l.gone + length (rows_routes 0 (take l.row-index l.rows)) ≡ length (rows_routes 0 (take l.row-index l.initial.rows));
 }
 
 abbrev pub invariant-prune_nodes-loop-place : goal.invariant-prune_nodes-loop-place

@@ -1,38 +1,35 @@
-use Rattle.std.proofs.Common.{◌≡◌, ◌∙◌, ◌+◌, ◌<◌, length, get_or, sym, subst, arith}
+use Rattle.std.proofs.Common.{◌≡◌, ◌∙◌, ◌<◌, List, ℕ, length, map, deque_len, sym, ap, subst, arith}
+use Rattle.std.specs.declared.collections.VecDeque.{VecDeque}
+use Rattle.std.specs.declared.alloc.Global.{Global}
 use Rattle.std.specs.Prelude.{OnSome}
 use Rattle.std.specs.List.{remove}
-use Rattle.match_tree.specs.Routes.{row_routes}
-use Rattle.match_tree.proofs.CountLemmas.{same_some, node_short, count_removed}
-use Rattle.match_tree.proofs.prune.remove_at.Goals.{In-Some}
+use Rattle.std.proofs.lemmas.List.{length-map, get_or_default}
+use Rattle.match_tree.specs.Rows.{leaf, node_at}
+use Rattle.match_tree.specs.Routes.{Route, Branch, row_routes}
+use Rattle.match_tree.specs.Shapes.{branches}
+use Rattle.match_tree.proofs.LeafLemmas.{leaves_remove, leaf_routes}
+use Rattle.match_tree.proofs.CountLemmas.{count_without}
 use Rattle.match_tree.proofs.prune.remove_at.Goals as goal
 
--- the node that was taken out stood at the place
-stood : (c : In-Some) → c.in-Some.node ≡ get_or c.args.row.now.items c.args.place c.in-Some.node
-stood c =
-    let inside : c.args.place < c.args.row.now.len = omega (arith, c.requires.within, c.args.row.now.ok.0) in
-    same_some (sym c.in-Some.is ∙ c.remove.ensures.succeeds c.in-Some.node inside)
+pub returns-in-Leaves-clause-left : goal.returns-in-Leaves-clause-left
+returns-in-Leaves-clause-left c =
+    let place : ℕ = c.args.place in
+    let leaves = c.in-Leaves.leaves.value in
+    let is : map leaf leaves.items ≡ c.args.row.now = sym (ap branches c.in-Leaves.is) ∙ c.row.view_is in
+    let same : c.deref_mut.result.now.items ≡ leaves.items = ap (λ (v : VecDeque ℕ Global). v.items) c.deref_mut.ensures.value in
+    let long = ap (λ (xs : List Branch). length xs) is in
+    let within : place < deque_len c.deref_mut.result.now = omega (arith, c.requires.within, length-map leaves.items leaf, ap deque_len c.deref_mut.ensures.value, leaves.ok.0) in
+    let left = subst (λ r. OnSome r (c.remove.new.self.items ≡ remove c.deref_mut.result.now.items place)) (c.remove.ensures.succeeds 0 within) c.remove.ensures.items in
+    ap (map leaf) (left ∙ ap (λ (ns : List ℕ). remove ns place) same) ∙ leaves_remove leaves.items place ∙ ap (λ (xs : List Branch). remove xs place) is
 
--- its routes went with it
-parted : (c : In-Some) → length (row_routes 0 c.args.row.now.items) ≡ length c.in-Some.node.routes + 1 + length (row_routes 0 c.remove.new.self.items)
-parted c =
-    let left = subst (λ r. OnSome r (c.remove.new.self.items ≡ remove c.args.row.now.items c.args.place)) c.in-Some.is c.remove.ensures.items in
-    count_removed c.args.row.now.items c.remove.new.self.items c.args.place c.in-Some.node c.requires.within (stood c) left
-
-pub count_node-requires-clause-few : goal.count_node-requires-clause-few
-count_node-requires-clause-few c =
-    let count = parted (goal.at.count_node-requires-clause-few c).In-Some in
-    omega (arith, c.requires.few)
-
-pub count_node-requires-clause-short : goal.count_node-requires-clause-short
-count_node-requires-clause-short c =
-    node_short c.args.levels c.args.row.now.items c.args.place c.in-Some.node c.requires.within (stood (goal.at.count_node-requires-clause-short c).In-Some) c.requires.short
-
-pub overflow_add-result : goal.overflow_add-result
-overflow_add-result c =
-    let count = parted (goal.at.overflow_add-result c).In-Some in
-    omega (arith, c.requires.few, c.count_node.ensures)
-
-pub returns-clause-gone : goal.returns-clause-gone
-returns-clause-gone c =
-    let count = parted (goal.at.returns-clause-gone c).In-Some in
-    omega (arith, c.count_node.ensures)
+pub returns-in-Leaves-clause-gone : goal.returns-in-Leaves-clause-gone
+returns-in-Leaves-clause-gone c =
+    let row = c.args.row.now in
+    let place : ℕ = c.args.place in
+    let leaves = c.in-Leaves.leaves.value in
+    let is : map leaf leaves.items ≡ row = sym (ap branches c.in-Leaves.is) ∙ c.row.view_is in
+    let node : Branch = node_at row place in
+    let none = leaf_routes leaves.items place row is in
+    let count = count_without row place node c.requires.within (get_or_default row place (leaf 0) node c.requires.within) in
+    let left = ap (λ (xs : List Branch). length (row_routes 0 xs)) (returns-in-Leaves-clause-left c) in
+    omega (arith, ap (λ (rs : List Route). length rs) none)

@@ -8,7 +8,7 @@ use Rattle.match_tree.proofs.CountLemmas.{sound_filter, short_filter}
 use Rattle.match_tree.proofs.prune.remove_numbers.Goals as goal
 
 pub loop-number-init : goal.loop-number-init
-loop-number-init c = record { is = without_none c.args.row.now.items; sound = c.requires.sound; short = c.requires.short; counted = omega arith }
+loop-number-init c = record { is = without_none c.args.row.now; sound = c.requires.sound; short = c.requires.short; counted = omega arith }
 
 pub remove_number-gone-requires : goal.remove_number-gone-requires
 remove_number-gone-requires c = let inv = c.loop-number.invariant in record { sound = inv.sound; few = omega (arith, c.requires.few, inv.counted); short = inv.short }
@@ -23,9 +23,9 @@ loop-number-preserved c =
     let inv = c.loop-number.invariant in
     let left = c.remove_number-gone.ensures.left in
     record {
-      is = left ∙ ap (without_number (get_or ns i 0)) inv.is ∙ without_more (take i ns) (get_or ns i 0) c.args.row.now.items
-          ∙ ap (λ (ms : List ℕ). without_numbers ms c.args.row.now.items) (sym (take_more ns i 0 c.loop-number-test.true));
-      sound = subst IsSoundRow (sym left) (sound_filter _ c.loop-number.row.items inv.sound);
-      short = subst (λ (xs : List Branch). AreShort c.args.levels (row_routes 0 xs)) (sym left) (short_filter c.args.levels _ c.loop-number.row.items inv.short);
+      is = left ∙ ap (without_number (get_or ns i 0)) inv.is ∙ without_more (take i ns) (get_or ns i 0) c.args.row.now
+          ∙ ap (λ (ms : List ℕ). without_numbers ms c.args.row.now) (sym (take_more ns i 0 c.loop-number-test.true));
+      sound = subst IsSoundRow (sym left) (sound_filter _ c.loop-number.row inv.sound);
+      short = subst (λ (xs : List Branch). AreShort c.args.levels (row_routes 0 xs)) (sym left) (short_filter c.args.levels _ c.loop-number.row inv.short);
       counted = omega (arith, inv.counted, c.remove_number-gone.ensures.gone);
     }

@@ -6,8 +6,8 @@ use Rattle.match_tree.proofs.prune.remove_numbers.Given as goal
 
 abbrev pub invariant-loop-number : goal.invariant-loop-number
 invariant-loop-number l = record {
-  is : l.row.items ≡ without_numbers (take l.number-index l.number-items) l.initial.row.items;
-  sound : IsSoundRow l.row.items;
-  short : AreShort l.levels (row_routes 0 l.row.items);
-  counted : l.gone + length (row_routes 0 l.row.items) ≡ length (row_routes 0 l.initial.row.items);
+  is : l.row ≡ without_numbers (take l.number-index l.number-items) l.initial.row;
+  sound : IsSoundRow l.row;
+  short : AreShort l.levels (row_routes 0 l.row);
+  counted : l.gone + length (row_routes 0 l.row) ≡ length (row_routes 0 l.initial.row);
 }

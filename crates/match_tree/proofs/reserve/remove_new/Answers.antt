@@ -1,11 +1,7 @@
-use Rattle.std.specs.declared.collections.VecDeque.{VecDeque}
 use Rattle.std.proofs.Common.{◌≡◌, ◌∙◌, ◌++◌, ◌∷◌, [], ℕ, List, length, drop, ap, sym, subst, arith}
 use Rattle.std.specs.List.{filter}
-use Rattle.std.specs.declared.alloc.Global.{Global}
 use Rattle.std.proofs.lemmas.List.{take_at}
-use Rattle.match_tree.specs.declared.node.Node.{Node}
-use Rattle.match_tree.specs.Routes.{Route, rows_routes, lacks}
-use Rattle.match_tree.specs.Rows.{rows_of}
+use Rattle.match_tree.specs.Routes.{Route, Branch, rows_routes, lacks}
 use Rattle.match_tree.specs.Order.{AreOrdered, AreSound}
 use Rattle.match_tree.proofs.OrderLemmas.{rows_ordered, rows_sound, ordered_filter}
 use Rattle.match_tree.proofs.KeptLemmas.{all_kept}
@@ -17,12 +13,12 @@ returns-clause-sound c =
     let after = c.prune_rows.new.rows in
     let is = take_at after (drop (length after) a.rows.now.items) a.rows.now.len (omega (arith, c.prune_rows.auto.rows, c.deref_mut.ensures.len)) in
     let numbers : c.push.new.self ≡ a.number ∷ [] = c.push.ensures.appended ∙ ap (λ (ns : List ℕ). ns ++ a.number ∷ []) c.new-numbers.ensures.empty in
-    let old : List Route = rows_routes 0 (rows_of a.rows.now.items) in
-    let routes : rows_routes 0 (rows_of after) ≡ filter (lacks (a.number ∷ [])) old = c.prune_rows.ensures.left ∙ (λ j. filter (lacks (numbers j)) (rows_routes 0 (rows_of (c.deref_mut.ensures.value j)))) in
-    subst (λ (xs : List (VecDeque Node Global)). AreSound (rows_of xs)) (sym is)
-    (rows_sound 0 (rows_of after) (subst AreOrdered (sym routes) (ordered_filter (lacks (a.number ∷ [])) old (rows_ordered 0 (rows_of a.rows.now.items) c.requires.sound))))
+    let old : List Route = rows_routes 0 a.rows.now.items in
+    let routes : rows_routes 0 after ≡ filter (lacks (a.number ∷ [])) old = c.prune_rows.ensures.left ∙ (λ j. filter (lacks (numbers j)) (rows_routes 0 (c.deref_mut.ensures.value j))) in
+    subst (λ (xs : List (List Branch)). AreSound xs) (sym is)
+    (rows_sound 0 after (subst AreOrdered (sym routes) (ordered_filter (lacks (a.number ∷ [])) old (rows_ordered 0 a.rows.now.items c.requires.sound))))
 
 pub returns-then-added-eq0-clause-left : goal.returns-then-added-eq0-clause-left
 returns-then-added-eq0-clause-left c =
-    let routes : List Route = rows_routes 0 (rows_of c.args.rows.now.items) in
+    let routes : List Route = rows_routes 0 c.args.rows.now.items in
     sym (all_kept (lacks (c.args.number ∷ [])) routes (sym c.requires.added ∙ c.if-added-eq0.true))

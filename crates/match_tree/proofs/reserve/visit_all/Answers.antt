@@ -1,18 +1,14 @@
 use Rattle.std.proofs.Common.{◌≡◌, ◌∙◌, ◌+◌, ◌-◌, ◌≤◌, ◌∷◌, [], ℕ, List, None, replicate, length, ap, sym, subst, arith}
-use Rattle.std.specs.declared.alloc.Global.{Global}
-use Rattle.std.specs.declared.collections.VecDeque.{VecDeque}
 use Rattle.std.proofs.lemmas.List.{nil_from_length}
 use Rattle.std.specs.List.{filter}
 use Rattle.guard_eval.specs.Meaning.{Assignment}
-use Rattle.match_tree.specs.Routes.{Route, rows_routes, lacks}
-use Rattle.match_tree.specs.Rows.{rows_of}
+use Rattle.match_tree.specs.Routes.{Branch, Route, rows_routes, lacks}
 use Rattle.match_tree.specs.Offers.{growing}
 use Rattle.match_tree.specs.Growth.{Grows}
 use Rattle.match_tree.specs.Below.{AreOpen}
 use Rattle.match_tree.specs.Offering.{offered}
 use Rattle.match_tree.specs.Pruned.{AreShort}
 use Rattle.match_tree.specs.Tries.{tried, tries_behind}
-use Rattle.match_tree.specs.declared.node.Node.{Node}
 use Rattle.match_tree.proofs.GrowLemmas.{grows_none}
 use Rattle.match_tree.proofs.LeadLemmas.{lead_lasts}
 use Rattle.match_tree.proofs.RootLemmas.{alone_grows, open_short, root_free, root_takers, tried_empty}
@@ -21,12 +17,12 @@ use Rattle.match_tree.proofs.reserve.visit_all.Goals.{After-visit_rows}
 use Rattle.match_tree.proofs.reserve.visit_all.Goals as goal
 
 -- the steps of the visit, whatever its answer
-steps_few : (g : _) (c : After-visit_rows g) → c.visit_rows.new.steps ≤ c.args.steps.now + (length (tried (offered c.args.offer.now) (replicate (length c.args.offer.now.definition.now.patterns) None)) + tries_behind (offered c.args.offer.now) (replicate (length c.args.offer.now.definition.now.patterns) None) (rows_routes 0 (rows_of c.args.rows.now.items)))
+steps_few : (g : _) (c : After-visit_rows g) → c.visit_rows.new.steps ≤ c.args.steps.now + (length (tried (offered c.args.offer.now) (replicate (length c.args.offer.now.definition.now.patterns) None)) + tries_behind (offered c.args.offer.now) (replicate (length c.args.offer.now.definition.now.patterns) None) (rows_routes 0 c.args.rows.now.items))
 steps_few g c =
     let o = offered c.args.offer.now in
     let slots : c.new-slots.result ≡ replicate (length o.definition.patterns) None = c.new-slots.ensures ∙ ap (λ (n : ℕ). replicate n None) c.len-patterns.ensures.count in
     let wanted = ap (λ (ps : List ℕ). length ps) (c.of_kind-wanted.ensures ∙ tried_empty o) in
-    let tried_there = ap (λ (s : Assignment). tries_behind o s (rows_routes 0 (rows_of c.args.rows.now.items))) slots in
+    let tried_there = ap (λ (s : Assignment). tries_behind o s (rows_routes 0 c.args.rows.now.items)) slots in
     omega (arith, c.visit_rows.ensures.stepped)
 
 pub visit_path-requires-clause-free : goal.visit_path-requires-clause-free
@@ -46,7 +42,7 @@ returns-then-len-eq0-clause-grows g c =
     let a = c.args in
     let o = offered a.offer.now in
     let slots : Assignment = replicate (length o.definition.patterns) None in
-    let none : rows_routes 0 (rows_of a.rows.now.items) ≡ [] = ap (λ (xs : List (VecDeque Node Global)). rows_routes 0 (rows_of xs)) (nil_from_length a.rows.now.items (omega (arith, c.len.ensures, c.if-len-eq0.true, a.rows.now.ok))) in
+    let none : rows_routes 0 a.rows.now.items ≡ [] = ap (λ (xs : List (List Branch)). rows_routes 0 xs) (nil_from_length a.rows.now.items (omega (arith, c.len.ensures, c.if-len-eq0.true, a.rows.now.ok))) in
     let alone = alone_grows o (sym c.len-patterns.ensures.count ∙ c.if-patterns-eq1.true) in
     λ _. subst (λ (rs : List Route). Grows o slots (growing o slots) rs rs) (sym none) (subst (λ (ps : List ℕ). Grows o slots ps [] []) (sym alone) (grows_none o slots))
 
@@ -73,9 +69,9 @@ remove_new-requires-clause-short g c =
     let o = offered a.offer.now in
     let kinds = a.offer.now.definition.now.patterns in
     let slots : c.new-slots.result ≡ replicate (length kinds) None = c.new-slots.ensures ∙ ap (λ (n : ℕ). replicate n None) c.len-patterns.ensures.count in
-    let open_routes = subst (λ (s : Assignment). AreOpen s (rows_routes 0 (rows_of c.visit_rows.new.rows.items))) slots c.visit_rows.ensures.free_left in
-    let short = open_short (length kinds) (rows_routes 0 (rows_of c.visit_rows.new.rows.items)) open_routes in
-    subst (λ (n : ℕ). AreShort (n - 1) (rows_routes 0 (rows_of c.visit_rows.new.rows.items))) (sym c.len-patterns.ensures.count) short
+    let open_routes = subst (λ (s : Assignment). AreOpen s (rows_routes 0 c.visit_rows.new.rows.items)) slots c.visit_rows.ensures.free_left in
+    let short = open_short (length kinds) (rows_routes 0 c.visit_rows.new.rows.items) open_routes in
+    subst (λ (n : ℕ). AreShort (n - 1) (rows_routes 0 c.visit_rows.new.rows.items)) (sym c.len-patterns.ensures.count) short
 
 pub returns-in-Ok-None-clause-stepped : goal.returns-in-Ok-None-clause-stepped
 returns-in-Ok-None-clause-stepped g c = steps_few g (goal.at.returns-in-Ok-None-clause-stepped g c).After-visit_rows
@@ -86,8 +82,8 @@ returns-in_default-clause-lasting g c =
     let o = offered a.offer.now in
     let kinds = a.offer.now.definition.now.patterns in
     let slots : c.new-slots.result ≡ replicate (length kinds) None = c.new-slots.ensures ∙ ap (λ (n : ℕ). replicate n None) c.len-patterns.ensures.count in
-    let old : List Route = rows_routes 0 (rows_of a.rows.now.items) in
-    let back : rows_routes 0 (rows_of c.remove_new.new.rows.items) ≡ old = c.remove_new.ensures.left ∙ c.visit_rows.ensures.lasting in
+    let old : List Route = rows_routes 0 a.rows.now.items in
+    let back : rows_routes 0 c.remove_new.new.rows.items ≡ old = c.remove_new.ensures.left ∙ c.visit_rows.ensures.lasting in
     ap (filter (lacks (o.number ∷ []))) back ∙ lead_lasts o (replicate (length kinds) None) old c.requires.lead
 
 pub returns-in_default-clause-stepped : goal.returns-in_default-clause-stepped
@@ -96,7 +92,7 @@ returns-in_default-clause-stepped g c = steps_few g (goal.at.returns-in_default-
 pub more_than-added-requires : goal.more_than-added-requires
 more_than-added-requires g c =
     let e = c.visit_rows.ensures in
-    let more = reserve_counts c.args.offer.now.number (rows_routes 0 (rows_of c.args.rows.now.items)) (rows_routes 0 (rows_of c.visit_rows.new.rows.items)) e.lasting in
+    let more = reserve_counts c.args.offer.now.number (rows_routes 0 c.args.rows.now.items) (rows_routes 0 c.visit_rows.new.rows.items) e.lasting in
     omega (arith, e.counted)
 
 pub remove_new-requires-clause-counted : goal.remove_new-requires-clause-counted
@@ -105,5 +101,5 @@ remove_new-requires-clause-counted g c = omega (arith, c.visit_rows.ensures.coun
 pub remove_new-requires-clause-added : goal.remove_new-requires-clause-added
 remove_new-requires-clause-added g c =
     let e = c.visit_rows.ensures in
-    let more = reserve_counts c.args.offer.now.number (rows_routes 0 (rows_of c.args.rows.now.items)) (rows_routes 0 (rows_of c.visit_rows.new.rows.items)) e.lasting in
+    let more = reserve_counts c.args.offer.now.number (rows_routes 0 c.args.rows.now.items) (rows_routes 0 c.visit_rows.new.rows.items) e.lasting in
     omega (arith, e.counted, c.more_than-added.ensures.more)

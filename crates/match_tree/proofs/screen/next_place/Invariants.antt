@@ -1,6 +1,15 @@
-use Rattle.std.proofs.Common.{Some}
-use Rattle.match_tree.specs.Screen.{AreLacking}
+use Rattle.std.specs.Prelude.{◌-◌, ◌≤◌}
+use Rattle.match_tree.specs.Offering.{offered}
+use Rattle.match_tree.specs.Screen.{AreWorthless}
 use Rattle.match_tree.proofs.screen.next_place.Given as goal
 
+-- the numbers so far are not worth a visit
 abbrev pub invariant-loop-place : goal.invariant-loop-place
-invariant-loop-place l = AreLacking l.letters (Some l.wanted) l.nodes.items l.from l.place
+invariant-loop-place l = record {
+  from : l.from ≤ l.place;
+  within : l.place ≤ l.end;
+  worthless : AreWorthless (offered l.offer) l.slots l.pattern l.row l.from l.place;
+}
+
+abbrev pub decreases-loop-place : goal.decreases-loop-place
+decreases-loop-place l = l.end - l.place

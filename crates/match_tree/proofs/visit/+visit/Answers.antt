@@ -1,6 +1,6 @@
 use Rattle.std.specs.declared.collections.VecDeque.{VecDeque}
 use Rattle.std.proofs.Common.{Vec, length-append, ◌≡◌, ◌∙◌, ◌<◌, ◌≤◌, ◌+◌, ap, sym, subst, arith, ℕ, List, None, refl, zero-add, take, drop, get_or, set, length}
-use Rattle.std.specs.Prelude.{nat_le, ◌⊎◌, IfSome, ◌==◌, not, [], ◌∷◌, ◌++◌, false}
+use Rattle.std.specs.Prelude.{IfOk, IfSome, ◌==◌, not, [], ◌∷◌, ◌++◌}
 use Rattle.std.specs.List.{filter, AllByRecursion}
 use Rattle.std.specs.declared.alloc.Global.{Global}
 use Rattle.guard_eval.specs.Meaning.{Assignment}
@@ -10,11 +10,10 @@ use Rattle.match_tree.specs.Begins.{AreLess}
 use Rattle.match_tree.specs.Tries.{tries_behind}
 use Rattle.pattern_core.specs.Choice.{least}
 use Rattle.match_tree.specs.Order.{AreOrdered, IsSoundRow, AreSound}
-use Rattle.match_tree.specs.Rows.{rows_of}
-use Rattle.std.proofs.lemmas.List.{nil_from_length, take_all, take_at, append-nil, map-set, length-map, drop-set-lt}
+use Rattle.std.proofs.lemmas.List.{nil_from_length, take_all, take_at, append-nil, drop-set-lt, get_or_default, length-set}
 use Rattle.match_tree.proofs.GrowLemmas.{grows_none}
 use Rattle.match_tree.proofs.BeginLemmas.{grows_begun, no_value, no_ok}
-use Rattle.match_tree.proofs.RowsLemmas.{before_all, now_routes, now_all, numbers_below, sound_on, less_on, sound_all, lasts_on, lasts_all, lesser_none, best_on, grows_on, counts_rows_on, tries_rows_on, tries_rows_most, get_or-map, drop-map, most_map}
+use Rattle.match_tree.proofs.RowsLemmas.{before_all, now_routes, now_all, numbers_below, sound_on, less_on, sound_all, lasts_on, lasts_all, lesser_none, best_on, grows_on, counts_rows_on, tries_rows_on, tries_rows_most}
 use Rattle.match_tree.specs.Routes.{Route, Branch, row_routes, rows_routes, with_number}
 use Rattle.match_tree.specs.Below.{IsOpen, AreOpen}
 use Rattle.match_tree.proofs.LeadLemmas.{all_both}
@@ -25,80 +24,72 @@ use Rattle.match_tree.proofs.LeadLemmas.{lead_lasts, lead_row}
 use Rattle.match_tree.proofs.VisitLemmas.{passed_seen, stays_node, matches_node, quiet_row, quiet_least, quiet_grows, tries_further, all_take, nothing_here, nothing_grows}
 use Rattle.match_tree.proofs.WalkLemmas.{some_of, none_of, steps_behind, all_at, left_item, left_more, found_first}
 use Rattle.match_tree.specs.Screen.{Screens}
-use Rattle.match_tree.proofs.ScreenLemmas.{passed_worthless}
-use Rattle.match_tree.proofs.SkipLemmas.{Walked, go_on, reach, stop_at, walk_first, walk_lacking}
+use Rattle.match_tree.proofs.SkipLemmas.{Stopped, Walked, go_on, reach, stop_at, walk_first, walk_to, walked_offers}
 use Rattle.match_tree.proofs.OrderLemmas.{rows_ordered_behind, rows_sound}
 use Rattle.match_tree.proofs.SlotsLemmas.{free_is_none}
 use Rattle.match_tree.proofs.TakeLemmas.{takers_further}
 use Rattle.match_tree.proofs.visit.+visit.Goals as goal
-use Rattle.match_tree.proofs.visit.+visit.Goals.{visit_nodes-then-is_worth+in_ok-found+else-is_some, visit_nodes-else-is_worth, visit_rows-After-visit_each, visit_rows-In_ok-best}
+use Rattle.match_tree.proofs.visit.+visit.Goals.{visit_at-After-visit_leaf_at-in-Leaves, visit_rows-After-visit_each, visit_rows-In_ok-best}
 use denote.Param.Weighed.{at_most}
 use Rattle.match_tree.specs.declared.node.Shape.{Shape}
-use Rattle.match_tree.specs.Shapes.{rows_behind}
-use Rattle.match_tree.specs.declared.node.Node.TheDeep.{size-Node}
+use Rattle.match_tree.specs.Shapes.{rows_behind, branches}
+use Rattle.match_tree.specs.declared.node.Node.TheDeep.{size-Node, size-Row}
 use denote.Param.Weighed.{most}
 use Rattle.match_tree.specs.declared.node.Node.{Node}
-use Rattle.match_tree.specs.declared.node.Node.TheShapes.{weighed-Shape-Inner-1-at-1}
-use Rattle.match_tree.specs.declared.node.Node.TheView.{size}
-use Rattle.match_tree.proofs.FallLemmas.{rows_fall}
+use Rattle.match_tree.specs.Rows.{leaf, node_at}
+use Rattle.match_tree.proofs.LeafLemmas.{leaf_routes}
+use Rattle.match_tree.proofs.FallLemmas.{node_weighs, nodes_fall, rows_fall}
 
-pub visit_nodes-returns-then-len-eq0-clause-lasting : goal.visit_nodes-returns-then-len-eq0-clause-lasting
-visit_nodes-returns-then-len-eq0-clause-lasting g t c = lead_lasts (offered c.args.offer.now) c.args.slots.now (row_routes c.args.pattern c.args.nodes.now.items) c.requires.lead
+pub visit_row-returns-then-len-eq0-clause-lasting : goal.visit_row-returns-then-len-eq0-clause-lasting
+visit_row-returns-then-len-eq0-clause-lasting g t c = lead_lasts (offered c.args.offer.now) c.args.slots.now (row_routes c.args.pattern c.args.row.now) c.requires.lead
 
-pub visit_nodes-returns-then-len-eq0-clause-best : goal.visit_nodes-returns-then-len-eq0-clause-best
-visit_nodes-returns-then-len-eq0-clause-best g t c =
+pub visit_row-returns-then-len-eq0-clause-best : goal.visit_row-returns-then-len-eq0-clause-best
+visit_row-returns-then-len-eq0-clause-best g t c =
     let a = c.args in
     let o = offered a.offer.now in
     let none = nil_from_length a.wanted.now (sym c.len.ensures.count ∙ c.if-len-eq0.true) in
-    sym (quiet_least o a.slots.now (row_routes a.pattern a.nodes.now.items) (quiet_row o a.slots.now a.pattern a.nodes.now.items (sym c.requires.wanted ∙ none) c.requires.lead))
+    sym (quiet_least o a.slots.now (row_routes a.pattern a.row.now) (quiet_row o a.slots.now a.pattern a.row.now (sym c.requires.wanted ∙ none) c.requires.lead))
 
-pub visit_nodes-returns-then-len-eq0-clause-grows : goal.visit_nodes-returns-then-len-eq0-clause-grows
-visit_nodes-returns-then-len-eq0-clause-grows g t c =
+pub visit_row-returns-then-len-eq0-clause-grows : goal.visit_row-returns-then-len-eq0-clause-grows
+visit_row-returns-then-len-eq0-clause-grows g t c =
     let a = c.args in
     let o = offered a.offer.now in
     let none = nil_from_length a.wanted.now (sym c.len.ensures.count ∙ c.if-len-eq0.true) in
-    λ e. quiet_grows o a.slots.now (row_routes a.pattern a.nodes.now.items) (quiet_row o a.slots.now a.pattern a.nodes.now.items (sym c.requires.wanted ∙ none) c.requires.lead)
+    λ e. quiet_grows o a.slots.now (row_routes a.pattern a.row.now) (quiet_row o a.slots.now a.pattern a.row.now (sym c.requires.wanted ∙ none) c.requires.lead)
 
-pub visit_nodes-loop-place-init : goal.visit_nodes-loop-place-init
-visit_nodes-loop-place-init g t c =
+pub visit_row-next_place-place-requires : goal.visit_row-next_place-place-requires
+visit_row-next_place-place-requires g t c =
     let a = c.args in
     let o = offered a.offer.now in
-    let nodes : List Branch = a.nodes.now.items in
     let Is : List ℕ → Type 0 = λ ps. IfSome c.screen_of-screen.result (Screens o a.slots.now a.pattern ps) in
-    let screens = subst Is c.requires.wanted c.screen_of-screen.ensures in
+    record { offered = walked_offers a.row.now a.row.now 0 c.requires.lead refl refl; screen = subst Is c.requires.wanted c.screen_of-screen.ensures; within = omega arith }
+
+pub visit_row-loop-place-init : goal.visit_row-loop-place-init
+visit_row-loop-place-init g t c =
+    let a = c.args in
+    let o = offered a.offer.now in
+    let row : List Branch = a.row.now in
     let e = c.next_place-place.ensures in
-    walk_lacking o a.slots.now a.pattern nodes nodes a.count.now a.count.now a.steps.now a.steps.now c.screen_of-screen.result c.key_of-key.result 0 c.next_place-place.result c.requires.sound c.requires.lead c.requires.free_left screens c.key_of-key.ensures
-    e.from e.within e.lacking (walk_first o a.slots.now a.pattern nodes a.count.now a.steps.now)
-
-pub visit_nodes-index_mut-node-requires : goal.visit_nodes-index_mut-node-requires
-visit_nodes-index_mut-node-requires g t c = omega (arith, c.loop-place-test.true, c.len-in-loop-place.ensures, c.loop-place.nodes.ok.0)
-
-pub visit_nodes-is_worth-requires : goal.visit_nodes-is_worth-requires
-visit_nodes-is_worth-requires g t c =
-    let a = c.args in
-    let o = offered a.offer.now in
-    let at = reach c.requires.sound c.requires.lead c.requires.free_left c.loop-place.invariant (omega (arith, c.loop-place-test.true, c.len-in-loop-place.ensures, c.loop-place.nodes.ok.0)) c.index_mut-node.ensures.value in
-    let Can : ℕ → Type 0 = λ n. CanOffer o (with_number a.slots.now a.pattern n) in
-    let Is : List ℕ → Type 0 = λ ps. IfSome c.screen_of-screen.result (Screens o a.slots.now a.pattern ps) in
     record {
-      can = subst Can (sym c.number.ensures) at.leads.can;
-      free = free_is_none a.slots.now a.pattern at.leads.free;
-      screen = subst Is c.requires.wanted c.screen_of-screen.ensures;
+      walked = walk_to o a.slots.now a.pattern row row a.count.now a.count.now a.steps.now a.steps.now c.requires.sound c.requires.lead c.requires.free_left 0 c.next_place-place.result e.from e.within e.skipped (walk_first o a.slots.now a.pattern row a.count.now a.steps.now);
+      seen = e.seen;
     }
 
-pub visit_nodes-with-longer-requires : goal.visit_nodes-with-longer-requires
-visit_nodes-with-longer-requires g t c =
+pub visit_row-with-longer-requires : goal.visit_row-with-longer-requires
+visit_row-with-longer-requires g t c =
     let a = c.args in
-    let at = reach c.requires.sound c.requires.lead c.requires.free_left c.loop-place.invariant (omega (arith, c.loop-place-test.true, c.len-in-loop-place.ensures, c.loop-place.nodes.ok.0)) c.index_mut-node.ensures.value in
+    let within : c.loop-place.place < length c.loop-place.row = omega (arith, c.loop-place-test.true, c.len-end.ensures, c.loop-place.invariant.walked.long) in
+    let at = reach c.requires.sound c.requires.lead c.requires.free_left c.loop-place.invariant.walked within (get_or_default c.loop-place.row c.loop-place.place (leaf 0) (node_at c.loop-place.row c.loop-place.place) within) in
     free_is_none a.slots.now a.pattern at.leads.free
 
-pub visit_nodes-visit_node-requires : goal.visit_nodes-visit_node-requires
-visit_nodes-visit_node-requires g t c =
+pub visit_row-visit_at-requires : goal.visit_row-visit_at-requires
+visit_row-visit_at-requires g t c =
     let a = c.args in
     let o = offered a.offer.now in
-    let node : Branch = c.index_mut-node.result.now in
-    let at = reach c.requires.sound c.requires.lead c.requires.free_left c.loop-place.invariant (omega (arith, c.loop-place-test.true, c.len-in-loop-place.ensures, c.loop-place.nodes.ok.0)) c.index_mut-node.ensures.value in
-    let longer : with_number a.slots.now a.pattern node.number ≡ c.with-longer.result = ap (with_number a.slots.now a.pattern) (sym c.number-then-is_worth.ensures) ∙ sym c.with-longer.ensures in
+    let node : Branch = node_at c.loop-place.row c.loop-place.place in
+    let within : c.loop-place.place < length c.loop-place.row = omega (arith, c.loop-place-test.true, c.len-end.ensures, c.loop-place.invariant.walked.long) in
+    let at = reach c.requires.sound c.requires.lead c.requires.free_left c.loop-place.invariant.walked within (get_or_default c.loop-place.row c.loop-place.place (leaf 0) (node_at c.loop-place.row c.loop-place.place) within) in
+    let longer : with_number a.slots.now a.pattern node.number ≡ c.with-longer.result = ap (with_number a.slots.now a.pattern) (sym c.number_at.ensures) ∙ sym c.with-longer.ensures in
     let takers_are = takers_further o a.slots.now a.pattern node.number at.leads.free in
     let Can : Assignment → Type 0 = λ s. CanOffer o s in
     let Free : Assignment → Type 0 = λ s. AllByRecursion (MayTry s) a.wanted.now in
@@ -109,7 +100,7 @@ visit_nodes-visit_node-requires g t c =
     (tries_further o a.slots.now a.pattern node.number (takers o a.slots.now) (all_take o a.slots.now (places 0 o.definition.patterns)))
     in
     λ κs h. (
-      omega (arith, c.decreases, at_most size-Node a.nodes.now.items c.loop-place.place node at.before, ap size-Node at.is),
+      omega (arith, c.decreases, nodes_fall a.row.now, at_most size-Node a.row.now c.loop-place.place node at.before, ap size-Node at.is),
       (
         h,
         (
@@ -118,7 +109,66 @@ visit_nodes-visit_node-requires g t c =
             subst Free longer free,
             (
               subst Wanted longer (ap (filter (may_take o (with_number a.slots.now a.pattern node.number))) c.requires.wanted ∙ takers_are),
-              (at.ordered, (subst Lead longer at.leads.lead, subst (λ (s : Assignment). AreOpen s node.routes) longer (open_below a.slots.now a.pattern node at.opened))),
+              (within, (at.ordered, (subst Lead longer at.leads.lead, subst (λ (s : Assignment). AreOpen s node.routes) longer (open_below a.slots.now a.pattern node at.opened)))),
+            ),
+          ),
+        ),
+      ),
+    )
+
+pub visit_at-visit_leaf_at-requires-in-Leaves-clause-leaf : goal.visit_at-visit_leaf_at-requires-in-Leaves-clause-leaf
+visit_at-visit_leaf_at-requires-in-Leaves-clause-leaf g t c = leaf_routes c.in-Leaves.field-0.value.items c.args.place (branches c.row.inside.nodes) (sym (ap branches c.in-Leaves.is))
+
+-- from a leaf no routes lead on before the visit
+no_routes : (g : _) (t : _) (c : visit_at-After-visit_leaf_at-in-Leaves g t) → (node_at c.args.row.now c.args.place).routes ≡ []
+no_routes g t c = leaf_routes c.in-Leaves.field-0.value.items c.args.place c.args.row.now (sym (ap branches c.in-Leaves.is) ∙ c.row.view_is)
+
+pub visit_at-returns-in-Leaves-clause-lasting : goal.visit_at-returns-in-Leaves-clause-lasting
+visit_at-returns-in-Leaves-clause-lasting g t c =
+    let none = no_routes g t (goal.at.visit_at-returns-in-Leaves-clause-lasting g t c).After-visit_leaf_at-in-Leaves in
+    c.visit_leaf_at-in-Leaves.ensures.behind.lasting ∙ sym none
+
+pub visit_at-returns-in-Leaves-clause-best : goal.visit_at-returns-in-Leaves-clause-best
+visit_at-returns-in-Leaves-clause-best g t c =
+    let none = no_routes g t (goal.at.visit_at-returns-in-Leaves-clause-best g t c).After-visit_leaf_at-in-Leaves in
+    let o = offered c.args.offer.now in
+    let At : List Route → Type 0 = λ rs. IfOk c.visit_leaf_at-in-Leaves.result (λ b. b ≡ least (new_matches o c.args.slots.now ([] ∷ seen o rs))) in
+    subst At (sym none) c.visit_leaf_at-in-Leaves.ensures.best
+
+pub visit_at-returns-in-Leaves-clause-grows : goal.visit_at-returns-in-Leaves-clause-grows
+visit_at-returns-in-Leaves-clause-grows g t c =
+    let none = no_routes g t (goal.at.visit_at-returns-in-Leaves-clause-grows g t c).After-visit_leaf_at-in-Leaves in
+    let o = offered c.args.offer.now in
+    let now : List Route = (node_at c.visit_leaf_at-in-Leaves.new.row c.args.place).routes in
+    let At : List Route → Type 0 = λ rs. IfOk c.visit_leaf_at-in-Leaves.result (λ b. b ≡ None → Grows o c.args.slots.now (growing o c.args.slots.now) rs now) in
+    subst At (sym none) c.visit_leaf_at-in-Leaves.ensures.grows
+
+pub visit_at-returns-in-Leaves-clause-counted : goal.visit_at-returns-in-Leaves-clause-counted
+visit_at-returns-in-Leaves-clause-counted g t c =
+    let none = no_routes g t (goal.at.visit_at-returns-in-Leaves-clause-counted g t c).After-visit_leaf_at-in-Leaves in
+    omega (arith, c.visit_leaf_at-in-Leaves.ensures.counted, ap (λ (rs : List Route). length rs) none)
+
+pub visit_at-visit_node-requires : goal.visit_at-visit_node-requires
+visit_at-visit_node-requires g t c =
+    let a = c.args in
+    let o = offered a.offer.now in
+    let items = c.deref_mut.result.now.items in
+    let node : Branch = c.index_mut-node.result.now in
+    let same : items ≡ a.row.now = ap (λ (v : VecDeque Node Global). v.items) c.deref_mut.ensures.value ∙ sym (ap branches c.in-Mixed.is) ∙ c.row.view_is in
+    let within : a.place < length items = omega (arith, c.requires.within, ap (λ (xs : List Branch). length xs) same) in
+    let is : node ≡ node_at a.row.now a.place = c.index_mut-node.ensures.value ∙ get_or_default items a.place node (leaf 0) within ∙ ap (λ (xs : List Branch). node_at xs a.place) same in
+    let at : (P : Branch → Type 0) → P (node_at a.row.now a.place) → P node = λ P p. subst P (sym is) p in
+    λ κs h. (
+      omega (arith, c.decreases, ap size-Node is),
+      (
+        h,
+        (
+          c.requires.can,
+          (
+            c.requires.free,
+            (
+              c.requires.wanted,
+              (at (λ x. AreOrdered ([] ∷ x.routes)) c.requires.ordered, (at (λ x. LeadOn o a.slots.now x.routes) c.requires.lead, at (λ x. AreOpen a.slots.now x.routes) c.requires.free_left)),
             ),
           ),
         ),
@@ -130,15 +180,15 @@ visit_node-visit_rows-requires g t c =
     let a = c.args in
     let o = offered a.offer.now in
     let rows = c.in-Inner.rows.value.items in
-    let same : rows ≡ c.deref_mut.result.now.items = ap (λ (v : Vec (VecDeque Node Global) Global). v.items) (sym c.deref_mut.ensures.value) in
-    let routes_are : rows_routes 0 (rows_of rows) ≡ a.node.now.routes = sym (ap (λ (shape : Shape). rows_routes 0 (rows_behind shape)) c.in-Inner.is) ∙ ap (λ (x : Branch). x.routes) c.node.view_is in
+    let same : rows ≡ c.deref_mut.result.now.items = ap (λ (v : Vec (List Branch) Global). v.items) (sym c.deref_mut.ensures.value) in
+    let routes_are : rows_routes 0 rows ≡ a.node.now.routes = sym (ap (λ (shape : Shape). rows_routes 0 (rows_behind shape)) c.in-Inner.is) ∙ ap (λ (x : Branch). x.routes) c.node.view_is in
     let few : length (rows_behind c.node.inside.shape) ≤ 8 = c.node.invariant in
     let count = ap (λ (shape : Shape). length (rows_behind shape)) c.in-Inner.is in
     let Lead : List Route → Type 0 = λ rs. LeadOn o a.slots.now rs in
     let smaller = rows_fall rows in
-    let sized : size a.node.now ≡ length a.node.now.routes = refl in
-    let deep = ap (most (weighed-Shape-Inner-1-at-1.weight Node size-Node)) same in
-    let at : (P : List (VecDeque Node Global) → Type 0) → P rows → P c.deref_mut.result.now.items = λ P p. subst P same p in
+    let weight = node_weighs a.node.now in
+    let deep = ap (most size-Row) same in
+    let at : (P : List (List Branch) → Type 0) → P rows → P c.deref_mut.result.now.items = λ P p. subst P same p in
     λ κs h. (
       omega (arith, c.decreases, ap (λ (rs : List Route). length rs) routes_are),
       (
@@ -150,10 +200,10 @@ visit_node-visit_rows-requires g t c =
             (
               c.requires.wanted,
               (
-                at (λ xs. length xs ≤ 8) (omega (arith, length-map rows (λ (row : VecDeque Node Global). row.items))),
+                at (λ xs. length xs ≤ 8) (omega arith),
                 (
-                  at (λ xs. AreSound (rows_of xs)) (rows_sound 0 (rows_of rows) (subst AreOrdered (sym routes_are) c.requires.ordered.1)),
-                  (at (λ xs. Lead (rows_routes 0 (rows_of xs))) (subst Lead (sym routes_are) c.requires.lead), at (λ xs. AreOpen a.slots.now (rows_routes 0 (rows_of xs))) (subst (AreOpen a.slots.now) (sym routes_are) c.requires.free_left)),
+                  at (λ xs. AreSound xs) (rows_sound 0 rows (subst AreOrdered (sym routes_are) c.requires.ordered.1)),
+                  (at (λ xs. Lead (rows_routes 0 xs)) (subst Lead (sym routes_are) c.requires.lead), at (λ xs. AreOpen a.slots.now (rows_routes 0 xs)) (subst (AreOpen a.slots.now) (sym routes_are) c.requires.free_left)),
                 ),
               ),
             ),
@@ -163,90 +213,99 @@ visit_node-visit_rows-requires g t c =
     )
 
 pub visit_node-returns-in-Inner-clause-ordered : goal.visit_node-returns-in-Inner-clause-ordered
-visit_node-returns-in-Inner-clause-ordered g t c = rows_ordered_behind 0 (rows_of c.visit_rows.new.rows.items) c.visit_rows.ensures.sound
+visit_node-returns-in-Inner-clause-ordered g t c = rows_ordered_behind 0 c.visit_rows.new.rows.items c.visit_rows.ensures.sound
 
-pub visit_nodes-returns-in_err-found : goal.visit_nodes-returns-in_err-found
-visit_nodes-returns-in_err-found g t c =
+pub visit_row-returns-in_err-found : goal.visit_row-returns-in_err-found
+visit_row-returns-in_err-found g t c =
     let a = c.args in
     let o = offered a.offer.now in
-    let node : Branch = c.index_mut-node.result.now in
-    let now = c.visit_node.new.node in
-    let at = reach c.requires.sound c.requires.lead c.requires.free_left c.loop-place.invariant (omega (arith, c.loop-place-test.true, c.len-in-loop-place.ensures, c.loop-place.nodes.ok.0)) c.index_mut-node.ensures.value in
-    let e = c.visit_node.ensures in
-    let longer : with_number a.slots.now a.pattern node.number ≡ c.with-longer.result = ap (with_number a.slots.now a.pattern) (sym c.number-then-is_worth.ensures) ∙ sym c.with-longer.ensures in
+    let node : Branch = node_at c.loop-place.row c.loop-place.place in
+    let now : Branch = node_at c.visit_at.new.row c.loop-place.place in
+    let within : c.loop-place.place < length c.loop-place.row = omega (arith, c.loop-place-test.true, c.len-end.ensures, c.loop-place.invariant.walked.long) in
+    let at = reach c.requires.sound c.requires.lead c.requires.free_left c.loop-place.invariant.walked within (get_or_default c.loop-place.row c.loop-place.place (leaf 0) (node_at c.loop-place.row c.loop-place.place) within) in
+    let e = c.visit_at.ensures in
+    let longer : with_number a.slots.now a.pattern node.number ≡ c.with-longer.result = ap (with_number a.slots.now a.pattern) (sym c.number_at.ensures) ∙ sym c.with-longer.ensures in
     let opens = open_now a.slots.now a.pattern node now e.number at.opened (subst (λ (s : Assignment). AreOpen s now.routes) (sym longer) e.free_left) in
-    let stepped = steps_behind o a.slots.now c.with-longer.result a.pattern node a.wanted.now c.loop-place.steps c.visit_node.new.steps at.leads.free at.leads.below c.requires.wanted longer e.stepped in
-    let left = stop_at now c.visit_node.new.count c.visit_node.new.steps c.requires.sound c.requires.lead c.requires.free_left c.loop-place.invariant at (stays_node o.number a.pattern node now at.leads.less e.number e.ordered e.lasting) opens e.counted stepped in
+    let stepped = steps_behind o a.slots.now c.with-longer.result a.pattern node a.wanted.now c.loop-place.steps c.visit_at.new.steps at.leads.free at.leads.below c.requires.wanted longer e.stepped in
+    let left = stop_at now c.visit_at.new.count c.visit_at.new.steps c.requires.sound c.requires.lead c.requires.free_left c.loop-place.invariant.walked at (stays_node o.number a.pattern node now at.leads.less e.number e.ordered e.lasting) opens e.counted stepped in
+    let left_row = subst (λ (xs : List Branch). Stopped o a.slots.now a.pattern a.row.now xs a.count.now c.visit_at.new.count a.steps.now c.visit_at.new.steps) (sym e.placed) left in
     record {
-      sound = left.sound;
-      free_left = left.free_left;
-      numbers = left.numbers;
-      lasting = left.lasting;
-      best = no_value (λ b. b ≡ least (new_matches o a.slots.now (seen o (row_routes a.pattern a.nodes.now.items)))) _ c.from_residual.result c.from_residual.ensures.1;
-      grows = no_value (λ b. b ≡ None → Grows o a.slots.now [] (row_routes a.pattern a.nodes.now.items) (row_routes a.pattern (set c.loop-place.nodes.items c.loop-place.place now))) _ c.from_residual.result c.from_residual.ensures.1;
-      counted = left.counted;
-      stepped = left.stepped;
+      sound = left_row.sound;
+      free_left = left_row.free_left;
+      numbers = left_row.numbers;
+      lasting = left_row.lasting;
+      best = no_value (λ b. b ≡ least (new_matches o a.slots.now (seen o (row_routes a.pattern a.row.now)))) _ c.from_residual.result c.from_residual.ensures.1;
+      grows = no_value (λ b. b ≡ None → Grows o a.slots.now [] (row_routes a.pattern a.row.now) (row_routes a.pattern c.visit_at.new.row)) _ c.from_residual.result c.from_residual.ensures.1;
+      counted = left_row.counted;
+      stepped = left_row.stepped;
     }
 
-pub visit_nodes-returns-then-is_some : goal.visit_nodes-returns-then-is_some
-visit_nodes-returns-then-is_some g t c =
+pub visit_row-returns-then-is_some : goal.visit_row-returns-then-is_some
+visit_row-returns-then-is_some g t c =
     let a = c.args in
     let o = offered a.offer.now in
-    let node : Branch = c.index_mut-node.result.now in
-    let now = c.visit_node.new.node in
-    let at = reach c.requires.sound c.requires.lead c.requires.free_left c.loop-place.invariant (omega (arith, c.loop-place-test.true, c.len-in-loop-place.ensures, c.loop-place.nodes.ok.0)) c.index_mut-node.ensures.value in
-    let e = c.visit_node.ensures in
-    let longer : with_number a.slots.now a.pattern node.number ≡ c.with-longer.result = ap (with_number a.slots.now a.pattern) (sym c.number-then-is_worth.ensures) ∙ sym c.with-longer.ensures in
+    let node : Branch = node_at c.loop-place.row c.loop-place.place in
+    let now : Branch = node_at c.visit_at.new.row c.loop-place.place in
+    let within : c.loop-place.place < length c.loop-place.row = omega (arith, c.loop-place-test.true, c.len-end.ensures, c.loop-place.invariant.walked.long) in
+    let at = reach c.requires.sound c.requires.lead c.requires.free_left c.loop-place.invariant.walked within (get_or_default c.loop-place.row c.loop-place.place (leaf 0) (node_at c.loop-place.row c.loop-place.place) within) in
+    let e = c.visit_at.ensures in
+    let longer : with_number a.slots.now a.pattern node.number ≡ c.with-longer.result = ap (with_number a.slots.now a.pattern) (sym c.number_at.ensures) ∙ sym c.with-longer.ensures in
     let opens = open_now a.slots.now a.pattern node now e.number at.opened (subst (λ (s : Assignment). AreOpen s now.routes) (sym longer) e.free_left) in
-    let stepped = steps_behind o a.slots.now c.with-longer.result a.pattern node a.wanted.now c.loop-place.steps c.visit_node.new.steps at.leads.free at.leads.below c.requires.wanted longer e.stepped in
-    let left = stop_at now c.visit_node.new.count c.visit_node.new.steps c.requires.sound c.requires.lead c.requires.free_left c.loop-place.invariant at (stays_node o.number a.pattern node now at.leads.less e.number e.ordered e.lasting) opens e.counted stepped in
+    let stepped = steps_behind o a.slots.now c.with-longer.result a.pattern node a.wanted.now c.loop-place.steps c.visit_at.new.steps at.leads.free at.leads.below c.requires.wanted longer e.stepped in
+    let left = stop_at now c.visit_at.new.count c.visit_at.new.steps c.requires.sound c.requires.lead c.requires.free_left c.loop-place.invariant.walked at (stays_node o.number a.pattern node now at.leads.less e.number e.ordered e.lasting) opens e.counted stepped in
     let some = some_of c.in_ok-found.found (sym c.is_some.ensures ∙ c.if-is_some.true) in
-    let seen_too = ap (nat_le a.offer.now.oldest) (sym c.number.ensures) ∙ c.is_worth.ensures.seen c.if-is_worth.true in
+    let seen_too = c.loop-place.invariant.seen within in
     let best = c.in_ok-found.ensures.best ∙ ap (λ (s : Assignment). least (new_matches o s ([] ∷ seen o node.routes))) (sym longer) ∙ ap least (sym (matches_node o a.slots.now a.pattern node seen_too)) in
+    let left_row = subst (λ (xs : List Branch). Stopped o a.slots.now a.pattern a.row.now xs a.count.now c.visit_at.new.count a.steps.now c.visit_at.new.steps) (sym e.placed) left in
     record {
-      sound = left.sound;
-      free_left = left.free_left;
-      numbers = left.numbers;
-      lasting = left.lasting;
-      best = found_first o a.slots.now a.pattern a.nodes.now.items c.loop-place.nodes.items c.loop-place.place node node c.in_ok-found.found some.0 at.before at.is c.requires.sound c.requires.lead c.loop-place.invariant.passed some.1 best;
+      sound = left_row.sound;
+      free_left = left_row.free_left;
+      numbers = left_row.numbers;
+      lasting = left_row.lasting;
+      best = found_first o a.slots.now a.pattern a.row.now c.loop-place.row c.loop-place.place node node c.in_ok-found.found some.0 at.before at.is c.requires.sound c.requires.lead c.loop-place.invariant.walked.passed some.1 best;
       grows = λ none. absurd (let e = sym some.1 ∙ none in cc);
-      counted = left.counted;
-      stepped = left.stepped;
+      counted = left_row.counted;
+      stepped = left_row.stepped;
     }
 
-pub visit_nodes-loop-place-preserved : goal.visit_nodes-loop-place-preserved
-visit_nodes-loop-place-preserved g t c =
+pub visit_row-next_place-place-requires-in-loop-place-clause-offered : goal.visit_row-next_place-place-requires-in-loop-place-clause-offered
+visit_row-next_place-place-requires-in-loop-place-clause-offered g t c =
+    let a = c.args in
+    let i : ℕ = c.loop-place.place in
+    let before = c.loop-place.row in
+    let now = c.visit_at.new.row in
+    let walked = c.loop-place.invariant.walked in
+    let placed = c.visit_at.ensures.placed in
+    let long : length now ≡ length a.row.now = ap (λ (xs : List Branch). length xs) placed ∙ length-set before i (node_at now i) ∙ walked.long in
+    let left : drop (i + 1) now ≡ drop (i + 1) a.row.now = ap (drop (i + 1)) placed ∙ drop-set-lt (i + 1) before i (node_at now i) (omega arith) ∙ left_more before a.row.now i walked.left in
+    walked_offers a.row.now now (i + 1) c.requires.lead long left
+
+pub visit_row-loop-place-preserved : goal.visit_row-loop-place-preserved
+visit_row-loop-place-preserved g t c =
     let a = c.args in
     let o = offered a.offer.now in
     let i : ℕ = c.loop-place.place in
-    let node : Branch = c.index_mut-node.result.now in
-    let at = reach c.requires.sound c.requires.lead c.requires.free_left c.loop-place.invariant (omega (arith, c.loop-place-test.true, c.len-in-loop-place.ensures, c.loop-place.nodes.ok.0)) c.index_mut-node.ensures.value in
-    let nodes : List Branch = c.if-is_worth.nodes.items in
-    let Is : List ℕ → Type 0 = λ ps. IfSome c.screen_of-screen.result (Screens o a.slots.now a.pattern ps) in
-    let screens = subst Is c.requires.wanted c.screen_of-screen.ensures in
-    let f = c.next_place-place-in-loop-place.ensures in
-    let Walks : List Branch → Type 0 = λ xs. Walked o a.slots.now a.pattern a.nodes.now.items xs a.count.now c.if-is_worth.count a.steps.now c.if-is_worth.steps (i + 1) in
-    let walked : Walks nodes = elim c.if-is_worth.branch [
-      | visit_nodes-then-is_worth+in_ok-found+else-is_some w ↦
-          let now = w.visit_node.new.node in
-          let e = w.in_ok-found.ensures in
-          let longer : with_number a.slots.now a.pattern node.number ≡ w.with-longer.result = ap (with_number a.slots.now a.pattern) (sym w.number-then-is_worth.ensures) ∙ sym w.with-longer.ensures in
-          let none = none_of w.in_ok-found.found (sym w.is_some.ensures ∙ w.if-is_some.false) in
-          let seen_too = ap (nat_le a.offer.now.oldest) (sym c.number.ensures) ∙ c.is_worth.ensures.seen w.if-is_worth.true in
-          let grown = subst (λ (s : Assignment). Grows o s (growing o s) node.routes now.routes) (sym longer) (e.grows none) in
-          let no_match = ap (λ (s : Assignment). least (new_matches o s ([] ∷ seen o node.routes))) longer ∙ sym e.best ∙ none in
-          let here = passed_seen o a.slots.now a.pattern node now seen_too at.leads.less e.number e.ordered e.lasting grown no_match in
-          let opens = open_now a.slots.now a.pattern node now e.number at.opened (subst (λ (s : Assignment). AreOpen s now.routes) (sym longer) e.free_left) in
-          let stepped = steps_behind o a.slots.now w.with-longer.result a.pattern node a.wanted.now c.loop-place.steps w.visit_node.new.steps at.leads.free at.leads.below c.requires.wanted longer e.stepped in
-          subst Walks (sym (ap (λ (v : VecDeque Branch Global). v.items) w.nodes-is)) (go_on now c.if-is_worth.count c.if-is_worth.steps c.loop-place.invariant at here opens (omega (arith, e.counted, w.count-is)) (omega (arith, stepped, w.steps-is)))
-      | visit_nodes-else-is_worth w ↦
-          let Worthless : ℕ → Type 0 = λ n. (nat_le o.oldest n ≡ false) ⊎ (takers o (with_number a.slots.now a.pattern n) ≡ []) in
-          let worthless = subst Worthless c.number.ensures (c.is_worth.ensures.left_out w.if-is_worth.false) in
-          let here = passed_worthless o a.slots.now a.pattern node worthless at.ordered at.lead in
-          subst Walks (sym (ap (λ (v : VecDeque Branch Global). v.items) w.nodes-is)) (go_on node c.if-is_worth.count c.if-is_worth.steps c.loop-place.invariant at here at.opened (omega (arith, w.count-is)) (omega (arith, w.steps-is)))
-    ] in
-    walk_lacking o a.slots.now a.pattern a.nodes.now.items nodes a.count.now c.if-is_worth.count a.steps.now c.if-is_worth.steps c.screen_of-screen.result c.key_of-key.result (i + 1) c.next_place-place-in-loop-place.result c.requires.sound c.requires.lead c.requires.free_left screens c.key_of-key.ensures
-    f.from f.within f.lacking walked
+    let node : Branch = node_at c.loop-place.row i in
+    let now : Branch = node_at c.visit_at.new.row i in
+    let walked = c.loop-place.invariant.walked in
+    let within : i < length c.loop-place.row = omega (arith, c.loop-place-test.true, c.len-end.ensures, walked.long) in
+    let at = reach c.requires.sound c.requires.lead c.requires.free_left walked within (get_or_default c.loop-place.row i (leaf 0) node within) in
+    let e = c.visit_at.ensures in
+    let f = c.in_ok-found.ensures in
+    let longer : with_number a.slots.now a.pattern node.number ≡ c.with-longer.result = ap (with_number a.slots.now a.pattern) (sym c.number_at.ensures) ∙ sym c.with-longer.ensures in
+    let none = none_of c.in_ok-found.found (sym c.is_some.ensures ∙ c.if-is_some.false) in
+    let grown = subst (λ (s : Assignment). Grows o s (growing o s) node.routes now.routes) (sym longer) (f.grows none) in
+    let no_match = ap (λ (s : Assignment). least (new_matches o s ([] ∷ seen o node.routes))) longer ∙ sym f.best ∙ none in
+    let here = passed_seen o a.slots.now a.pattern node now (c.loop-place.invariant.seen within) at.leads.less e.number e.ordered e.lasting grown no_match in
+    let opens = open_now a.slots.now a.pattern node now e.number at.opened (subst (λ (s : Assignment). AreOpen s now.routes) (sym longer) e.free_left) in
+    let stepped = steps_behind o a.slots.now c.with-longer.result a.pattern node a.wanted.now c.loop-place.steps c.visit_at.new.steps at.leads.free at.leads.below c.requires.wanted longer e.stepped in
+    let Walks : List Branch → Type 0 = λ xs. Walked o a.slots.now a.pattern a.row.now xs a.count.now c.visit_at.new.count a.steps.now c.visit_at.new.steps (i + 1) in
+    let on = subst Walks (sym e.placed) (go_on now c.visit_at.new.count c.visit_at.new.steps walked at here opens e.counted stepped) in
+    let p = c.next_place-place-in-loop-place.ensures in
+    record {
+      walked = walk_to o a.slots.now a.pattern a.row.now c.visit_at.new.row a.count.now c.visit_at.new.count a.steps.now c.visit_at.new.steps c.requires.sound c.requires.lead c.requires.free_left (i + 1) c.next_place-place-in-loop-place.result p.from (omega (arith, p.within, on.long)) p.skipped on;
+      seen = p.seen;
+    }
 
 pub visit_each-best_match-best-requires-clause-may : goal.visit_each-best_match-best-requires-clause-may
 visit_each-best_match-best-requires-clause-may g t c =
@@ -254,26 +313,23 @@ visit_each-best_match-best-requires-clause-may g t c =
     let o = offered a.offer.now in
     subst (λ (ps : List ℕ). AllByRecursion (MayTake o a.slots.now) ps) (sym c.requires.able) (all_take o a.slots.now (places 0 o.definition.patterns))
 
-pub visit_each-visit_nodes-requires : goal.visit_each-visit_nodes-requires
-visit_each-visit_nodes-requires g t c =
+pub visit_each-visit_row-requires : goal.visit_each-visit_row-requires
+visit_each-visit_row-requires g t c =
     let a = c.args in
     let o = offered a.offer.now in
     let i : ℕ = c.loop-place.place in
     let d = c.index-rows-place.result in
     let first = a.rows.now in
     let items = c.loop-place.rows in
-    let row = (get_or items i d).items in
-    let same = left_item items first i d c.loop-place.invariant.left in
-    let is : row ≡ get_or (rows_of first) i d.items = ap (λ (v : VecDeque Node Global). v.items) same ∙ get_or-map first i d (λ (v : VecDeque Node Global). v.items) in
-    let in_rows : i < length (rows_of first) = omega (arith, length-map first (λ (v : VecDeque Node Global). v.items), c.loop-place-test.true, c.loop-place.auto.rows) in
-    let sizes : VecDeque Node Global → List Branch = λ v. v.items in
-    let here = at_most (most size-Node) (rows_of first) i d.items in_rows in
-    let row_size = ap (most size-Node) is in
-    let all = most_map (most size-Node) sizes first in
-    let lead = lead_row o a.slots.now 0 (rows_of first) i d.items in_rows c.requires.lead in
-    let opens = all_rows (IsOpen a.slots.now) 0 (rows_of first) i d.items in_rows c.requires.free_left in
-    let Lead : ℕ → Type 0 = λ k. LeadOn o a.slots.now (row_routes k (get_or (rows_of first) i d.items)) in
-    let Open : ℕ → Type 0 = λ k. AreOpen a.slots.now (row_routes k (get_or (rows_of first) i d.items)) in
+    let row = get_or items i d in
+    let is : row ≡ get_or first i d = left_item items first i d c.loop-place.invariant.left in
+    let in_rows : i < length first = omega (arith, c.loop-place-test.true, c.loop-place.auto.rows) in
+    let here = at_most size-Row first i d in_rows in
+    let weight = ap size-Row is in
+    let lead = lead_row o a.slots.now 0 first i d in_rows c.requires.lead in
+    let opens = all_rows (IsOpen a.slots.now) 0 first i d in_rows c.requires.free_left in
+    let Lead : ℕ → Type 0 = λ k. LeadOn o a.slots.now (row_routes k (get_or first i d)) in
+    let Open : ℕ → Type 0 = λ k. AreOpen a.slots.now (row_routes k (get_or first i d)) in
     λ κs h. (
       omega (arith, c.decreases),
       (
@@ -283,7 +339,7 @@ visit_each-visit_nodes-requires g t c =
           (
             c.without-others.ensures ∙ ap (filter (λ p. not (p == i))) c.requires.able,
             (
-              subst (λ (xs : List Branch). IsSoundRow xs) (sym is) (all_at IsSoundRow (rows_of first) i d.items in_rows c.requires.sound),
+              subst (λ (xs : List Branch). IsSoundRow xs) (sym is) (all_at IsSoundRow first i d in_rows c.requires.sound),
               (subst (λ (xs : List Branch). LeadOn o a.slots.now (row_routes i xs)) (sym is) (subst Lead (zero-add i) lead), subst (λ (xs : List Branch). AreOpen a.slots.now (row_routes i xs)) (sym is) (subst Open (zero-add i) opens)),
             ),
           ),
@@ -315,34 +371,28 @@ visit_each-loop-place-preserved g t c =
     let d = c.index-rows-place.result in
     let first = a.rows.now in
     let items = c.loop-place.rows in
-    let row = (get_or items i d).items in
-    let same = left_item items first i d c.loop-place.invariant.left in
-    let is : row ≡ get_or (rows_of first) i d.items = ap (λ (v : VecDeque Node Global). v.items) same ∙ get_or-map first i d (λ (v : VecDeque Node Global). v.items) in
-    let in_rows : i < length (rows_of first) = omega (arith, length-map first (λ (v : VecDeque Node Global). v.items), c.loop-place-test.true, c.loop-place.auto.rows) in
-    let in_items : i < length (rows_of items) = omega (arith, length-map items (λ (v : VecDeque Node Global). v.items), c.loop-place-test.true, c.loop-place.auto.rows) in
-    let B = rows_of first in
-    let R = rows_of items in
-    let now = c.visit_nodes.new.nodes in
-    let put : rows_of (set items i now) ≡ set R i now.items = map-set (λ (v : VecDeque Node Global). v.items) items i now in
+    let row = get_or items i d in
+    let is : row ≡ get_or first i d = left_item items first i d c.loop-place.invariant.left in
+    let in_rows : i < length first = omega (arith, c.loop-place-test.true, c.loop-place.auto.rows) in
+    let in_items : i < length items = omega (arith, c.loop-place-test.true, c.loop-place.auto.rows) in
+    let now = c.visit_row.new.row in
     let e = c.in_ok-found.ensures in
-    let at : (P : List (List Branch) → Type 0) → P (set R i now.items) → P (rows_of (set items i now)) = λ P p. subst P (sym put) p in
-    let counts = counts_rows_on B R i row now.items d.items in_rows in_items is in
-    let tried_on = tries_rows_on B R i row now.items d.items in_rows in_items is o a.slots.now in
-    let count_of = ap (λ (xs : List (List Branch)). length (rows_routes 0 (take (i + 1) xs))) put in
-    let lead = lead_row o a.slots.now 0 (rows_of first) i d.items in_rows c.requires.lead in
-    let Lead : ℕ → Type 0 = λ k. LeadOn o a.slots.now (row_routes k (get_or (rows_of first) i d.items)) in
+    let counts = counts_rows_on first items i row now d in_rows in_items is in
+    let tried_on = tries_rows_on first items i row now d in_rows in_items is o a.slots.now in
+    let lead = lead_row o a.slots.now 0 first i d in_rows c.requires.lead in
+    let Lead : ℕ → Type 0 = λ k. LeadOn o a.slots.now (row_routes k (get_or first i d)) in
     let lead_here = subst (λ (xs : List Branch). LeadOn o a.slots.now (row_routes i xs)) (sym is) (subst Lead (zero-add i) lead) in
     record {
-      sound = at (λ xs. AreSound (take (i + 1) xs)) (sound_on B R i row now.items d.items in_rows in_items is c.loop-place.invariant.sound e.sound);
-      less = at (λ xs. AreLess o.number (take (i + 1) xs)) (less_on B R i row now.items d.items in_rows in_items is o.number c.loop-place.invariant.less (subst (λ (ns : List ℕ). AllByRecursion (λ m. m < o.number) ns) (sym e.numbers) (numbers_below o a.slots.now i row lead_here)));
-      lasts = at (λ xs. Lasts o.number (rows_routes 0 (take (i + 1) B)) (rows_routes 0 (take (i + 1) xs))) (lasts_on B R i row now.items d.items in_rows in_items is o.number c.loop-place.invariant.lasts e.lasting);
-      opens = at (λ xs. AreOpen a.slots.now (rows_routes 0 (take (i + 1) xs))) (subst (AreOpen a.slots.now) (sym (now_routes B R i row now.items d.items in_rows in_items is)) (all_both (IsOpen a.slots.now) (rows_routes 0 (take i R)) (row_routes i now.items) c.loop-place.invariant.opens e.free_left));
+      sound = (sound_on first items i row now d in_rows in_items is c.loop-place.invariant.sound e.sound);
+      less = (less_on first items i row now d in_rows in_items is o.number c.loop-place.invariant.less (subst (λ (ns : List ℕ). AllByRecursion (λ m. m < o.number) ns) (sym e.numbers) (numbers_below o a.slots.now i row lead_here)));
+      lasts = (lasts_on first items i row now d in_rows in_items is o.number c.loop-place.invariant.lasts e.lasting);
+      opens = (subst (AreOpen a.slots.now) (sym (now_routes first items i row now d in_rows in_items is)) (all_both (IsOpen a.slots.now) (rows_routes 0 (take i items)) (row_routes i now) c.loop-place.invariant.opens e.free_left));
       left = drop-set-lt (i + 1) items i now (omega arith) ∙ left_more items first i c.loop-place.invariant.left;
-      best = c.better-best.ensures ∙ best_on B R i row now.items d.items in_rows in_items is o a.slots.now c.loop-place.best c.in_ok-found.found c.loop-place.invariant.best e.best;
+      best = c.better-best.ensures ∙ best_on first items i row now d in_rows in_items is o a.slots.now c.loop-place.best c.in_ok-found.found c.loop-place.invariant.best e.best;
       grows = λ none.
           let both = lesser_none c.loop-place.best c.in_ok-found.found (sym c.better-best.ensures ∙ none) in
-          at (λ xs. Grows o a.slots.now [] (rows_routes 0 (take (i + 1) B)) (rows_routes 0 (take (i + 1) xs))) (grows_on B R i row now.items d.items in_rows in_items is o a.slots.now (c.loop-place.invariant.grows both.0) (e.grows both.1));
-      counted = omega (arith, c.loop-place.invariant.counted, e.counted, counts.0, counts.1, count_of);
+          (grows_on first items i row now d in_rows in_items is o a.slots.now (c.loop-place.invariant.grows both.0) (e.grows both.1));
+      counted = omega (arith, c.loop-place.invariant.counted, e.counted, counts.0, counts.1);
       stepped = omega (arith, c.loop-place.invariant.stepped, e.stepped, tried_on);
     }
 
@@ -352,10 +402,10 @@ visit_each-returns g t c =
     let o = offered a.offer.now in
     let items = c.loop-place.rows in
     let i : ℕ = c.loop-place.place in
-    let B = rows_of a.rows.now in
-    let R = rows_of items in
-    let all : take i B ≡ B = take_all i B (omega (arith, length-map a.rows.now (λ (v : VecDeque Node Global). v.items), c.loop-place-test.false, c.loop-place.auto.rows)) in
-    let all' : take i R ≡ R = take_all i R (omega (arith, length-map items (λ (v : VecDeque Node Global). v.items), c.loop-place-test.false, c.loop-place.auto.rows)) in
+    let B = a.rows.now in
+    let R = items in
+    let all : take i B ≡ B = take_all i B (omega (arith, c.loop-place-test.false, c.loop-place.auto.rows)) in
+    let all' : take i R ≡ R = take_all i R (omega (arith, c.loop-place-test.false, c.loop-place.auto.rows)) in
     let old_routes : rows_routes 0 (take i B) ≡ rows_routes 0 B = ap (rows_routes 0) all in
     let now_routes' : rows_routes 0 (take i R) ≡ rows_routes 0 R = ap (rows_routes 0) all' in
     let inv = c.loop-place.invariant in
@@ -377,33 +427,28 @@ visit_each-returns-in_err-found g t c =
     let d = c.index-rows-place.result in
     let first = a.rows.now in
     let items = c.loop-place.rows in
-    let row = (get_or items i d).items in
-    let same = left_item items first i d c.loop-place.invariant.left in
-    let is : row ≡ get_or (rows_of first) i d.items = ap (λ (v : VecDeque Node Global). v.items) same ∙ get_or-map first i d (λ (v : VecDeque Node Global). v.items) in
-    let in_rows : i < length (rows_of first) = omega (arith, length-map first (λ (v : VecDeque Node Global). v.items), c.loop-place-test.true, c.loop-place.auto.rows) in
-    let in_items : i < length (rows_of items) = omega (arith, length-map items (λ (v : VecDeque Node Global). v.items), c.loop-place-test.true, c.loop-place.auto.rows) in
-    let B = rows_of first in
-    let R = rows_of items in
-    let now = c.visit_nodes.new.nodes in
-    let put : rows_of (set items i now) ≡ set R i now.items = map-set (λ (v : VecDeque Node Global). v.items) items i now in
-    let left = sym (drop-map i items) ∙ ap rows_of c.loop-place.invariant.left ∙ drop-map i first in
+    let row = get_or items i d in
+    let is : row ≡ get_or first i d = left_item items first i d c.loop-place.invariant.left in
+    let in_rows : i < length first = omega (arith, c.loop-place-test.true, c.loop-place.auto.rows) in
+    let in_items : i < length items = omega (arith, c.loop-place-test.true, c.loop-place.auto.rows) in
+    let now = c.visit_row.new.row in
+    let left = c.loop-place.invariant.left in
     let o = offered a.offer.now in
-    let before_is = ap (λ (rs : List Route). length rs) (before_all B R i row now.items d.items in_rows in_items is) ∙ length-append (rows_routes 0 (take i B)) (row_routes i row ++ rows_routes (i + 1) (drop (i + 1) B)) in
-    let now_is = ap (λ (xs : List (List Branch)). length (rows_routes 0 xs)) put ∙ ap (λ (rs : List Route). length rs) (now_all B R i row now.items d.items in_rows in_items is left) ∙ length-append (rows_routes 0 (take i R)) (row_routes i now.items ++ rows_routes (i + 1) (drop (i + 1) B)) in
-    let before_rest = length-append (row_routes i row) (rows_routes (i + 1) (drop (i + 1) B)) in
-    let now_rest = length-append (row_routes i now.items) (rows_routes (i + 1) (drop (i + 1) B)) in
+    let before_is = ap (λ (rs : List Route). length rs) (before_all first items i row now d in_rows in_items is) ∙ length-append (rows_routes 0 (take i first)) (row_routes i row ++ rows_routes (i + 1) (drop (i + 1) first)) in
+    let now_is = ap (λ (rs : List Route). length rs) (now_all first items i row now d in_rows in_items is left) ∙ length-append (rows_routes 0 (take i items)) (row_routes i now ++ rows_routes (i + 1) (drop (i + 1) first)) in
+    let before_rest = length-append (row_routes i row) (rows_routes (i + 1) (drop (i + 1) first)) in
+    let now_rest = length-append (row_routes i now) (rows_routes (i + 1) (drop (i + 1) first)) in
     record {
-      sound = subst AreSound (sym put) (sound_all B R i row now.items d.items in_rows in_items is left c.requires.sound c.loop-place.invariant.sound c.visit_nodes.ensures.sound);
-      less = no_ok (AreLess o.number (rows_of (set items i now))) _ c.from_residual.result c.from_residual.ensures.1;
-      free_left = subst (λ (xs : List (List Branch)). AreOpen a.slots.now (rows_routes 0 xs)) (sym put)
-          (subst (AreOpen a.slots.now) (sym (now_all B R i row now.items d.items in_rows in_items is left))
-          (all_both (IsOpen a.slots.now) (rows_routes 0 (take i R)) (row_routes i now.items ++ rows_routes (i + 1) (drop (i + 1) B)) c.loop-place.invariant.opens
-          (all_both (IsOpen a.slots.now) (row_routes i now.items) (rows_routes (i + 1) (drop (i + 1) B)) c.visit_nodes.ensures.free_left (all_rows_drop (IsOpen a.slots.now) B (i + 1) c.requires.free_left))));
-      lasting = subst (λ (xs : List (List Branch)). Lasts o.number (rows_routes 0 B) (rows_routes 0 xs)) (sym put) (lasts_all B R i row now.items d.items in_rows in_items is o a.slots.now left c.requires.lead c.loop-place.invariant.lasts c.visit_nodes.ensures.lasting);
-      best = no_value (λ b. b ≡ least (new_matches o a.slots.now ([] ∷ seen o (rows_routes 0 B)))) _ c.from_residual.result c.from_residual.ensures.1;
-      grows = no_value (λ b. b ≡ None → Grows o a.slots.now [] (rows_routes 0 B) (rows_routes 0 (rows_of (set items i now)))) _ c.from_residual.result c.from_residual.ensures.1;
-      counted = omega (arith, c.loop-place.invariant.counted, c.visit_nodes.ensures.counted);
-      stepped = omega (arith, c.loop-place.invariant.stepped, c.visit_nodes.ensures.stepped, tries_rows_most B R i row now.items d.items in_rows in_items is o a.slots.now);
+      sound = sound_all first items i row now d in_rows in_items is left c.requires.sound c.loop-place.invariant.sound c.visit_row.ensures.sound;
+      less = no_ok (AreLess o.number (set items i now)) _ c.from_residual.result c.from_residual.ensures.1;
+      free_left = subst (AreOpen a.slots.now) (sym (now_all first items i row now d in_rows in_items is left))
+          (all_both (IsOpen a.slots.now) (rows_routes 0 (take i items)) (row_routes i now ++ rows_routes (i + 1) (drop (i + 1) first)) c.loop-place.invariant.opens
+          (all_both (IsOpen a.slots.now) (row_routes i now) (rows_routes (i + 1) (drop (i + 1) first)) c.visit_row.ensures.free_left (all_rows_drop (IsOpen a.slots.now) first (i + 1) c.requires.free_left)));
+      lasting = lasts_all first items i row now d in_rows in_items is o a.slots.now left c.requires.lead c.loop-place.invariant.lasts c.visit_row.ensures.lasting;
+      best = no_value (λ b. b ≡ least (new_matches o a.slots.now ([] ∷ seen o (rows_routes 0 first)))) _ c.from_residual.result c.from_residual.ensures.1;
+      grows = no_value (λ b. b ≡ None → Grows o a.slots.now [] (rows_routes 0 first) (rows_routes 0 (set items i now))) _ c.from_residual.result c.from_residual.ensures.1;
+      counted = omega (arith, c.loop-place.invariant.counted, c.visit_row.ensures.counted);
+      stepped = omega (arith, c.loop-place.invariant.stepped, c.visit_row.ensures.stepped, tries_rows_most first items i row now d in_rows in_items is o a.slots.now);
     }
 
 pub visit_rows-returns-then-len-eq0-clause-best : goal.visit_rows-returns-then-len-eq0-clause-best
@@ -411,25 +456,25 @@ visit_rows-returns-then-len-eq0-clause-best g t c =
     let a = c.args in
     let o = offered a.offer.now in
     let none = sym (c.takers-able.ensures.answer ∙ c.requires.wanted) ∙ nil_from_length c.takers-able.result (sym c.len.ensures.count ∙ c.if-len-eq0.true) in
-    sym (nothing_here o a.slots.now (rows_routes 0 (rows_of a.rows.now.items)) none c.requires.lead)
+    sym (nothing_here o a.slots.now (rows_routes 0 a.rows.now.items) none c.requires.lead)
 
 pub visit_rows-returns-then-len-eq0-clause-grows : goal.visit_rows-returns-then-len-eq0-clause-grows
 visit_rows-returns-then-len-eq0-clause-grows g t c =
     let a = c.args in
     let o = offered a.offer.now in
     let none = sym (c.takers-able.ensures.answer ∙ c.requires.wanted) ∙ nil_from_length c.takers-able.result (sym c.len.ensures.count ∙ c.if-len-eq0.true) in
-    λ e. nothing_grows o a.slots.now (rows_routes 0 (rows_of a.rows.now.items)) none c.requires.lead
+    λ e. nothing_grows o a.slots.now (rows_routes 0 a.rows.now.items) none c.requires.lead
 
 pub visit_rows-returns-then-len-eq0-clause-lasting : goal.visit_rows-returns-then-len-eq0-clause-lasting
-visit_rows-returns-then-len-eq0-clause-lasting g t c = lead_lasts (offered c.args.offer.now) c.args.slots.now (rows_routes 0 (rows_of c.args.rows.now.items)) c.requires.lead
+visit_rows-returns-then-len-eq0-clause-lasting g t c = lead_lasts (offered c.args.offer.now) c.args.slots.now (rows_routes 0 c.args.rows.now.items) c.requires.lead
 
 pub visit_rows-visit_each-requires : goal.visit_rows-visit_each-requires
 visit_rows-visit_each-requires g t c =
     let a = c.args in
     let o = offered a.offer.now in
     let same = sym c.deref_mut.ensures.value in
-    let deep = ap (most (weighed-Shape-Inner-1-at-1.weight Node size-Node)) same in
-    let at : (P : List (VecDeque Node Global) → Type 0) → P a.rows.now.items → P c.deref_mut.result.now = λ P p. subst P same p in
+    let deep = ap (most size-Row) same in
+    let at : (P : List (List Branch) → Type 0) → P a.rows.now.items → P c.deref_mut.result.now = λ P p. subst P same p in
     λ κs h. (
       omega (arith, c.decreases),
       (
@@ -441,8 +486,8 @@ visit_rows-visit_each-requires g t c =
             (
               at (λ xs. length xs ≤ 8) c.requires.few,
               (
-                at (λ xs. AreSound (rows_of xs)) c.requires.sound,
-                (at (λ xs. LeadOn o a.slots.now (rows_routes 0 (rows_of xs))) c.requires.lead, at (λ xs. AreOpen a.slots.now (rows_routes 0 (rows_of xs))) c.requires.free_left),
+                at (λ xs. AreSound xs) c.requires.sound,
+                (at (λ xs. LeadOn o a.slots.now (rows_routes 0 xs)) c.requires.lead, at (λ xs. AreOpen a.slots.now (rows_routes 0 xs)) c.requires.free_left),
               ),
             ),
           ),
@@ -451,14 +496,14 @@ visit_rows-visit_each-requires g t c =
     )
 
 -- what the visit of each row leaves, as the vector of them has it
-record Visited (o : Offered) (slots : Assignment) (before after now : List (VecDeque Node Global)) (count_before count steps_before steps wanted : ℕ) : Type 0 where
+record Visited (o : Offered) (slots : Assignment) (before after now : List (List Branch)) (count_before count steps_before steps wanted : ℕ) : Type 0 where
   pub is : now ≡ after
   pub few : length now ≤ 8
-  pub sound : AreSound (rows_of now)
-  pub free_left : AreOpen slots (rows_routes 0 (rows_of now))
-  pub lasting : Lasts o.number (rows_routes 0 (rows_of before)) (rows_routes 0 (rows_of now))
-  pub counted : count + length (rows_routes 0 (rows_of before)) ≡ count_before + length (rows_routes 0 (rows_of now))
-  pub stepped : steps ≤ steps_before + (wanted + tries_behind o slots (rows_routes 0 (rows_of before)))
+  pub sound : AreSound now
+  pub free_left : AreOpen slots (rows_routes 0 now)
+  pub lasting : Lasts o.number (rows_routes 0 before) (rows_routes 0 now)
+  pub counted : count + length (rows_routes 0 before) ≡ count_before + length (rows_routes 0 now)
+  pub stepped : steps ≤ steps_before + (wanted + tries_behind o slots (rows_routes 0 before))
 
 visited : (g : _) (t : _) (c : visit_rows-After-visit_each g t) → Visited (offered c.args.offer.now) c.args.slots.now c.args.rows.now.items c.visit_each.new.rows (take c.args.rows.now.len (c.visit_each.new.rows ++ drop (length c.visit_each.new.rows) c.args.rows.now.items)) c.args.count.now c.visit_each.new.count c.args.steps.now c.visit_each.new.steps (length c.args.wanted.now)
 visited g t c =
@@ -467,15 +512,15 @@ visited g t c =
     let same = c.deref_mut.ensures.value in
     let after = c.visit_each.new.rows in
     let is = take_at after (drop (length after) a.rows.now.items) a.rows.now.len (omega (arith, c.visit_each.auto.rows, c.deref_mut.ensures.len)) in
-    let mid : (P : List (VecDeque Node Global) → Type 0) → P after → P (take a.rows.now.len (after ++ drop (length after) a.rows.now.items)) = λ P p. subst P (sym is) p in
-    let old : (P : List (VecDeque Node Global) → Type 0) → P c.deref_mut.result.now → P a.rows.now.items = λ P p. subst P same p in
+    let mid : (P : List (List Branch) → Type 0) → P after → P (take a.rows.now.len (after ++ drop (length after) a.rows.now.items)) = λ P p. subst P (sym is) p in
+    let old : (P : List (List Branch) → Type 0) → P c.deref_mut.result.now → P a.rows.now.items = λ P p. subst P same p in
     let e = c.visit_each.ensures in
-    let routes : List (VecDeque Node Global) → List Route = λ xs. rows_routes 0 (rows_of xs) in
-    let tries = ap (λ (xs : List (VecDeque Node Global)). tries_behind o a.slots.now (routes xs)) same in
+    let routes : List (List Branch) → List Route = λ xs. rows_routes 0 xs in
+    let tries = ap (λ (xs : List (List Branch)). tries_behind o a.slots.now (routes xs)) same in
     record {
       is = is;
-      few = mid (λ xs. length xs ≤ 8) (omega (arith, c.visit_each.auto.rows, c.deref_mut.ensures.len, c.requires.few, ap (λ (xs : List (VecDeque Node Global)). length xs) same));
-      sound = mid (λ xs. AreSound (rows_of xs)) e.sound;
+      few = mid (λ xs. length xs ≤ 8) (omega (arith, c.visit_each.auto.rows, c.deref_mut.ensures.len, c.requires.few, ap (λ (xs : List (List Branch)). length xs) same));
+      sound = mid (λ xs. AreSound xs) e.sound;
       free_left = mid (λ xs. AreOpen a.slots.now (routes xs)) e.free_left;
       lasting = mid (λ xs. Lasts o.number (routes a.rows.now.items) (routes xs)) (old (λ xs. Lasts o.number (routes xs) (routes after)) e.lasting);
       counted = mid (λ xs. c.visit_each.new.count + length (routes a.rows.now.items) ≡ a.count.now + length (routes xs)) (old (λ xs. c.visit_each.new.count + length (routes xs) ≡ a.count.now + length (routes after)) e.counted);
@@ -483,16 +528,16 @@ visited g t c =
     }
 
 -- the least match of those before the path's own nodes
-visited_best : (g : _) (t : _) (c : visit_rows-In_ok-best g t) → c.in_ok-best.best ≡ least (new_matches (offered c.args.offer.now) c.args.slots.now ([] ∷ seen (offered c.args.offer.now) (rows_routes 0 (rows_of c.args.rows.now.items))))
+visited_best : (g : _) (t : _) (c : visit_rows-In_ok-best g t) → c.in_ok-best.best ≡ least (new_matches (offered c.args.offer.now) c.args.slots.now ([] ∷ seen (offered c.args.offer.now) (rows_routes 0 c.args.rows.now.items)))
 visited_best g t c =
     let o = offered c.args.offer.now in
-    subst (λ (xs : List (VecDeque Node Global)). c.in_ok-best.best ≡ least (new_matches o c.args.slots.now ([] ∷ seen o (rows_routes 0 (rows_of xs))))) c.deref_mut.ensures.value c.in_ok-best.ensures.best
+    subst (λ (xs : List (List Branch)). c.in_ok-best.best ≡ least (new_matches o c.args.slots.now ([] ∷ seen o (rows_routes 0 xs)))) c.deref_mut.ensures.value c.in_ok-best.ensures.best
 
 pub visit_rows-returns-in_err-best : goal.visit_rows-returns-in_err-best
 visit_rows-returns-in_err-best g t c =
     let a = c.args in
     let o = offered a.offer.now in
-    let routes : List (VecDeque Node Global) → List Route = λ xs. rows_routes 0 (rows_of xs) in
+    let routes : List (List Branch) → List Route = λ xs. rows_routes 0 xs in
     let after = c.visit_each.new.rows in
     let v = visited g t (goal.at.visit_rows-returns-in_err-best g t c).After-visit_each in
     record {
@@ -529,7 +574,7 @@ visit_rows-begin-requires g t c =
       able = c.takers-able.ensures.answer ∙ c.requires.wanted;
       few = v.few;
       sound = v.sound;
-      less = subst (λ (xs : List (VecDeque Node Global)). AreLess c.args.offer.now.number (rows_of xs)) (sym v.is) c.in_ok-best.ensures.less;
+      less = subst (λ (xs : List (List Branch)). AreLess c.args.offer.now.number xs) (sym v.is) c.in_ok-best.ensures.less;
       free_left = v.free_left;
     }
 
@@ -552,13 +597,13 @@ pub visit_rows-returns : goal.visit_rows-returns
 visit_rows-returns g t c =
     let a = c.args in
     let o = offered a.offer.now in
-    let routes : List (VecDeque Node Global) → List Route = λ xs. rows_routes 0 (rows_of xs) in
+    let routes : List (List Branch) → List Route = λ xs. rows_routes 0 xs in
     let after = c.visit_each.new.rows in
     let v = visited g t (goal.at.visit_rows-returns g t c).After-visit_each in
     let b = c.begin.ensures in
     let none = none_of c.in_ok-best.best (sym c.is_some.ensures ∙ c.if-is_some.false) in
-    let Grown : List (VecDeque Node Global) → List (VecDeque Node Global) → Type 0 = λ xs ys. Grows o a.slots.now [] (routes xs) (routes ys) in
-    let grown = subst (Grown a.rows.now.items) (sym v.is) (subst (λ (xs : List (VecDeque Node Global)). Grown xs after) c.deref_mut.ensures.value (c.in_ok-best.ensures.grows none)) in
+    let Grown : List (List Branch) → List (List Branch) → Type 0 = λ xs ys. Grows o a.slots.now [] (routes xs) (routes ys) in
+    let grown = subst (Grown a.rows.now.items) (sym v.is) (subst (λ (xs : List (List Branch)). Grown xs after) c.deref_mut.ensures.value (c.in_ok-best.ensures.grows none)) in
     record {
       few = b.few;
       sound = b.sound;

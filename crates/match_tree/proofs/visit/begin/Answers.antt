@@ -1,12 +1,8 @@
-use Rattle.std.specs.declared.collections.VecDeque.{VecDeque}
 use Rattle.std.proofs.Common.{◌≡◌, ◌∙◌, ◌≤◌, ◌+◌, ◌++◌, ◌∷◌, [], ℕ, List, ap, sym, subst, arith, take, drop, length}
 use Rattle.std.specs.List.{filter, AllByRecursion}
-use Rattle.std.specs.declared.alloc.Global.{Global}
-use Rattle.std.proofs.lemmas.List.{nil_from_length, take_at, length-map}
-use Rattle.match_tree.specs.declared.node.Node.{Node}
-use Rattle.match_tree.specs.Routes.{Route, rows_routes, lacks}
+use Rattle.std.proofs.lemmas.List.{nil_from_length, take_at}
+use Rattle.match_tree.specs.Routes.{Route, Branch, rows_routes, lacks}
 use Rattle.join_base.specs.Taken.{contains_number}
-use Rattle.match_tree.specs.Rows.{rows_of}
 use Rattle.match_tree.specs.Offers.{places, leaves_one_free, growing}
 use Rattle.match_tree.specs.Below.{AreOpen}
 use Rattle.match_tree.specs.Offering.{offered, MayTake}
@@ -27,7 +23,7 @@ pub returns-then-len-eq0-clause-begins : goal.returns-then-len-eq0-clause-begins
 returns-then-len-eq0-clause-begins c =
     let o = offered c.args.offer.now in
     let slots = c.args.slots.now in
-    let routes : List Route = rows_routes 0 (rows_of c.args.rows.now.items) in
+    let routes : List Route = rows_routes 0 c.args.rows.now.items in
     let begun : c.growing-begun.result ≡ growing o slots = c.growing-begun.ensures ∙ ap (filter (leaves_one_free o slots)) c.requires.able in
     let none : growing o slots ≡ [] = sym begun ∙ nil_from_length c.growing-begun.result (sym c.len.ensures.count ∙ c.if-len-eq0.true) in
     λ _. subst (λ (ps : List ℕ). Begins o.number ps routes routes) (sym none) (begins_nowhere o.number routes)
@@ -37,8 +33,8 @@ returns-in-Err c =
     let a = c.args in
     let n = a.offer.now.number in
     let e = c.grow_rows.ensures in
-    let old = rows_of a.rows.now.items in
-    let grown = rows_of c.grow_rows.new.rows.items in
+    let old = a.rows.now.items in
+    let grown = c.grow_rows.new.rows.items in
     let more = rows_more old grown e.same.0 e.same.1 in
     record {
       few = e.few;
@@ -54,18 +50,18 @@ begin_rows-requires c =
     let a = c.args in
     let o = offered a.offer.now in
     let e = c.grow_rows.ensures in
-    let old = rows_of a.rows.now.items in
-    let grown = rows_of c.grow_rows.new.rows.items in
+    let old = a.rows.now.items in
+    let grown = c.grow_rows.new.rows.items in
     let more = rows_more old grown e.same.0 e.same.1 in
     let same = sym c.deref_mut.ensures.value in
-    let at : (P : List (VecDeque Node Global) → Type 0) → P c.grow_rows.new.rows.items → P c.deref_mut.result.now = λ P p. subst P same p in
+    let at : (P : List (List Branch) → Type 0) → P c.grow_rows.new.rows.items → P c.deref_mut.result.now = λ P p. subst P same p in
     record {
       can = c.requires.can;
       begun = c.growing-begun.ensures ∙ ap (filter (leaves_one_free o a.slots.now)) c.requires.able;
       few = at (λ xs. length xs ≤ 8) e.few;
-      sound = at (λ xs. AreSound (rows_of xs)) (sound_more old grown e.same.0 e.same.1 c.requires.sound);
-      less = at (λ xs. AreLess o.number (rows_of xs)) (less_more o.number old grown e.same.0 e.same.1 c.requires.less);
-      free_left = at (λ xs. AreOpen a.slots.now (rows_routes 0 (rows_of xs))) (subst (AreOpen a.slots.now) (sym more) c.requires.free_left);
+      sound = at (λ xs. AreSound xs) (sound_more old grown e.same.0 e.same.1 c.requires.sound);
+      less = at (λ xs. AreLess o.number xs) (less_more o.number old grown e.same.0 e.same.1 c.requires.less);
+      free_left = at (λ xs. AreOpen a.slots.now (rows_routes 0 xs)) (subst (AreOpen a.slots.now) (sym more) c.requires.free_left);
     }
 
 pub returns-in-Ok : goal.returns-in-Ok
@@ -75,29 +71,28 @@ returns-in-Ok c =
     let slots = a.slots.now in
     let n = a.offer.now.number in
     let e = c.grow_rows.ensures in
-    let old = rows_of a.rows.now.items in
+    let old = a.rows.now.items in
     let items = c.grow_rows.new.rows.items in
-    let more = rows_more old (rows_of items) e.same.0 e.same.1 in
+    let more = rows_more old items e.same.0 e.same.1 in
     let same = c.deref_mut.ensures.value in
     let after = c.begin_rows.new.rows in
     let is = take_at after (drop (length after) items) c.grow_rows.new.rows.len (omega (arith, c.begin_rows.auto.rows, c.deref_mut.ensures.len)) in
-    let put : (P : List (VecDeque Node Global) → Type 0) → P after → P (take c.grow_rows.new.rows.len (after ++ drop (length after) items)) = λ P p. subst P (sym is) p in
-    let routes : List (VecDeque Node Global) → List Route = λ xs. rows_routes 0 (rows_of xs) in
+    let put : (P : List (List Branch) → Type 0) → P after → P (take c.grow_rows.new.rows.len (after ++ drop (length after) items)) = λ P p. subst P (sym is) p in
+    let routes : List (List Branch) → List Route = λ xs. rows_routes 0 xs in
     -- a fact of the rows as they were grown and are now is one of the rows as they were
     let both : (P : List Route → List Route → Type 0) → P (routes c.deref_mut.result.now) (routes after) → P (rows_routes 0 old) (routes (take c.grow_rows.new.rows.len (after ++ drop (length after) items))) =
-    λ P p. put (λ xs. P (rows_routes 0 old) (routes xs)) (subst (λ (rs : List Route). P rs (routes after)) more (subst (λ (xs : List (VecDeque Node Global)). P (routes xs) (routes after)) same p))
+    λ P p. put (λ xs. P (rows_routes 0 old) (routes xs)) (subst (λ (rs : List Route). P rs (routes after)) more (subst (λ (xs : List (List Branch)). P (routes xs) (routes after)) same p))
     in
     let b = c.begin_rows.ensures in
     let begun : c.growing-begun.result ≡ growing o slots = c.growing-begun.ensures ∙ ap (filter (leaves_one_free o slots)) c.requires.able in
-    let long = length-map c.deref_mut.result.now (λ (row : VecDeque Node Global). row.items) in
-    let enough : length o.definition.patterns ≤ length (rows_of c.deref_mut.result.now) = omega (arith, c.in-Ok.ensures.room, c.len-2.ensures.count, ap (λ (xs : List (VecDeque Node Global)). length xs) same) in
+    let enough : length o.definition.patterns ≤ length c.deref_mut.result.now = omega (arith, c.in-Ok.ensures.room, c.len-2.ensures.count, ap (λ (xs : List (List Branch)). length xs) same) in
     record {
-      few = put (λ xs. length xs ≤ 8) (omega (arith, e.few, c.begin_rows.auto.rows, ap (λ (xs : List (VecDeque Node Global)). length xs) same));
-      sound = put (λ xs. AreSound (rows_of xs)) b.sound;
+      few = put (λ xs. length xs ≤ 8) (omega (arith, e.few, c.begin_rows.auto.rows, ap (λ (xs : List (List Branch)). length xs) same));
+      sound = put (λ xs. AreSound xs) b.sound;
       free_left = put (λ xs. AreOpen slots (routes xs)) b.free_left;
       lasting = both (λ xs ys. filter (lacks (n ∷ [])) ys ≡ filter (lacks (n ∷ [])) xs) b.lasting;
       begins = λ fits.
-          let here = subst (λ (ps : List ℕ). Begins n (filter (contains_number ps) (places 0 (rows_of c.deref_mut.result.now))) (routes c.deref_mut.result.now) (routes after)) begun (b.begins fits) in
-          both (λ xs ys. Begins n (growing o slots) xs ys) (begins_in_rows o slots (rows_of c.deref_mut.result.now) (routes c.deref_mut.result.now) (routes after) enough here);
+          let here = subst (λ (ps : List ℕ). Begins n (filter (contains_number ps) (places 0 c.deref_mut.result.now)) (routes c.deref_mut.result.now) (routes after)) begun (b.begins fits) in
+          both (λ xs ys. Begins n (growing o slots) xs ys) (begins_in_rows o slots c.deref_mut.result.now (routes c.deref_mut.result.now) (routes after) enough here);
       counted = both (λ xs ys. c.begin_rows.new.count + length xs ≡ a.count.now + length ys) b.counted;
     }

@@ -1,25 +1,21 @@
-use Rattle.std.specs.declared.collections.VecDeque.{VecDeque}
-use Rattle.std.proofs.Common.{◌∙◌, ◌+◌, List, [], ◌∷◌, ◌++◌, replicate, length, arith, ap, append_assoc, Global}
-use Rattle.std.proofs.lemmas.List.{map-append, length_push, replicate_more}
-use Rattle.match_tree.specs.declared.node.Node.{Node}
+use Rattle.std.proofs.Common.{◌∙◌, ◌+◌, List, [], ◌∷◌, ◌++◌, replicate, length, arith, ap, append_assoc}
+use Rattle.std.proofs.lemmas.List.{length_push, replicate_more}
 use Rattle.match_tree.specs.Routes.{Branch}
-use Rattle.match_tree.specs.Rows.{rows_of}
 use Rattle.match_tree.proofs.visit.grow_rows.Goals as goal
 
-pub loop-alloc-preserved : goal.loop-alloc-preserved
-loop-alloc-preserved c =
-    let k = c.loop-alloc.invariant.same.0 in
-    let before : List (List Branch) = rows_of c.args.rows.now.items in
+pub loop-rows-preserved : goal.loop-rows-preserved
+loop-rows-preserved c =
+    let k = c.loop-rows.invariant.same.0 in
+    let before : List (List Branch) = c.reserve_exact.new.self.items in
     let items = c.in_ok-push.ensures.items in
-    let none : List (List Branch) = [] in
+    let none : List Branch = [] in
     record {
-      few = omega (arith, ap length items, length_push c.loop-alloc.rows.items c.new.result, c.loop-alloc.rows.ok);
+      few = omega (arith, ap (λ (xs : List (List Branch)). length xs) items, length_push c.loop-rows.rows.items c.new.result, c.loop-rows.rows.ok);
       same = (
         k + 1,
-        ap rows_of items
-            ∙ map-append (λ (row : VecDeque Node Global). row.items) c.loop-alloc.rows.items (c.new.result ∷ [])
-            ∙ (λ i. c.loop-alloc.invariant.same.1 i ++ c.new.ensures.items i ∷ [])
+        items
+            ∙ (λ i. c.loop-rows.invariant.same.1 i ++ c.new.ensures i ∷ [])
             ∙ append_assoc before (replicate k []) ([] ∷ [])
-            ∙ ap (λ (rows : List (List Branch)). before ++ rows) (replicate_more k []),
+            ∙ ap (λ (rows : List (List Branch)). before ++ rows) (replicate_more k none),
       );
     }

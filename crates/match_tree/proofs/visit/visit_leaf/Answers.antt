@@ -1,5 +1,6 @@
 use Rattle.std.proofs.Common.{[], sym, subst, List, ℕ, ◌∙◌}
 use Rattle.std.specs.List.{AllByRecursion}
+use Rattle.match_tree.specs.Behind.{routes_behind}
 use Rattle.match_tree.specs.Offers.{places, growing}
 use Rattle.match_tree.specs.Offering.{offered, MayTake}
 use Rattle.match_tree.proofs.VisitLemmas.{all_take}
@@ -17,4 +18,4 @@ pub returns-clause-grows : goal.returns-clause-grows
 returns-clause-grows g c =
     let a = c.args in
     let o = offered a.offer.now in
-    λ none. grows_begun o a.slots.now (growing o a.slots.now) [] [] c.begin_leaf.new.node.routes (grows_none o a.slots.now) (c.begin_leaf.ensures.begins c.if-not-begin_leaf.false)
+    λ none. grows_begun o a.slots.now (growing o a.slots.now) [] [] (routes_behind c.in_ok-rows.rows) (grows_none o a.slots.now) c.in_ok-rows.ensures.begins

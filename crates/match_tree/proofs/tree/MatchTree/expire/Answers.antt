@@ -1,14 +1,10 @@
-use Rattle.std.specs.declared.collections.VecDeque.{VecDeque}
 use Rattle.std.proofs.Common.{◌≡◌, ◌∙◌, ◌+◌, ◌-◌, ◌++◌, ℕ, List, Some, length, take, drop, map, ap, sym, subst, arith}
 use Rattle.std.specs.Prelude.{MatchOption}
 use Rattle.std.specs.List.{filter}
-use Rattle.std.specs.declared.alloc.Global.{Global}
-use Rattle.std.proofs.lemmas.List.{take_at, length-map}
+use Rattle.std.proofs.lemmas.List.{take_at}
 use Rattle.pattern_core.specs.Window.{oldest_seen}
-use Rattle.match_tree.specs.declared.node.Node.{Node}
 use Rattle.match_tree.specs.declared.pending.Pending.{Pending}
-use Rattle.match_tree.specs.Routes.{Route, rows_routes, is_seen}
-use Rattle.match_tree.specs.Rows.{rows_of}
+use Rattle.match_tree.specs.Routes.{Route, Branch, rows_routes, is_seen}
 use Rattle.match_tree.specs.Pruned.{seen_nodes}
 use Rattle.match_tree.specs.Tree.{Tree, empty_of}
 use Rattle.match_tree.specs.Kept.{IsKept}
@@ -19,7 +15,7 @@ use Rattle.match_tree.proofs.tree.MatchTree.expire.Goals as goal
 pub drop_unseen-gone-requires-clause-few : goal.drop_unseen-gone-requires-clause-few
 drop_unseen-gone-requires-clause-few c =
     let s = c.self.inside in
-    let before : length (rows_routes 0 (rows_of c.deref_mut.result.now)) ≡ length (rows_routes 0 (rows_of s.rows.items)) = ap (λ (xs : List (VecDeque Node Global)). length (rows_routes 0 (rows_of xs))) c.deref_mut.ensures.value in
+    let before : length (rows_routes 0 c.deref_mut.result.now) ≡ length (rows_routes 0 s.rows.items) = ap (λ (xs : List (List Branch)). length (rows_routes 0 xs)) c.deref_mut.ensures.value in
     omega (arith, c.self.invariant.counted, c.self.ranges)
 
 pub drop_unseen-gone-requires-clause-short : goal.drop_unseen-gone-requires-clause-short
@@ -27,7 +23,7 @@ drop_unseen-gone-requires-clause-short c = kept_short c.deref_mut.ensures.value 
 
 pub overflow_sub-self : goal.overflow_sub-self
 overflow_sub-self c =
-    let before = ap (λ (xs : List (VecDeque Node Global)). length (rows_routes 0 (rows_of xs))) c.deref_mut.ensures.value in
+    let before = ap (λ (xs : List (List Branch)). length (rows_routes 0 xs)) c.deref_mut.ensures.value in
     omega (arith, c.self.invariant.counted, c.drop_unseen-gone.ensures.gone)
 
 pub invariant_of-self : goal.invariant_of-self
@@ -35,7 +31,7 @@ invariant_of-self c =
     let s = c.self.inside in
     let n : ℕ = c.args.number in
     let d = s.definition in
-    let old : List Route = rows_routes 0 (rows_of s.rows.items) in
+    let old : List Route = rows_routes 0 s.rows.items in
     let found = pending_at d s.pending old n (subst (λ (t : Tree). MatchOption t.reserve ⊥ (λ r. r.number ≡ n)) (sym c.self.view_is) c.requires.reserved) in
     let x : Pending = found.0 in
     let is : s.pending ≡ Some x = found.1.0 in
@@ -45,23 +41,23 @@ invariant_of-self c =
     let after = c.drop_unseen-gone.new.rows in
     let long : length after ≡ s.rows.len = omega (arith, c.drop_unseen-gone.auto.rows, c.deref_mut.ensures.len) in
     let same_rows = take_at after (drop (length after) s.rows.items) s.rows.len long in
-    let left : rows_of after ≡ map (seen_nodes c.oldest_seen-oldest.result) (rows_of s.rows.items) = c.drop_unseen-gone.ensures.left ∙ ap (λ (xs : List (VecDeque Node Global)). map (seen_nodes c.oldest_seen-oldest.result) (rows_of xs)) c.deref_mut.ensures.value in
-    let routes : rows_routes 0 (rows_of after) ≡ filter (is_seen (oldest_seen d.window x.number)) old =
-    ap (rows_routes 0) left ∙ open_seen c.oldest_seen-oldest.result (empty_of d) (rows_of s.rows.items) c.self.invariant.free_left ∙ ap (λ (k : ℕ). filter (is_seen k) old) oldest_is
+    let left : after ≡ map (seen_nodes c.oldest_seen-oldest.result) s.rows.items = c.drop_unseen-gone.ensures.left ∙ ap (λ (xs : List (List Branch)). map (seen_nodes c.oldest_seen-oldest.result) xs) c.deref_mut.ensures.value in
+    let routes : rows_routes 0 after ≡ filter (is_seen (oldest_seen d.window x.number)) old =
+    ap (rows_routes 0) left ∙ open_seen c.oldest_seen-oldest.result (empty_of d) s.rows.items c.self.invariant.free_left ∙ ap (λ (k : ℕ). filter (is_seen k) old) oldest_is
     in
-    let before : length (rows_routes 0 (rows_of c.deref_mut.result.now)) ≡ length (rows_routes 0 (rows_of s.rows.items)) = ap (λ (xs : List (VecDeque Node Global)). length (rows_routes 0 (rows_of xs))) c.deref_mut.ensures.value in
-    let same_length : length after ≡ length s.rows.items = omega (arith, c.drop_unseen-gone.auto.rows, c.deref_mut.ensures.len, ap (λ (xs : List (VecDeque Node Global)). length xs) c.deref_mut.ensures.value) in
-    let same : length (rows_of after) ≡ length (rows_of s.rows.items) = length-map after (λ (v : VecDeque Node Global). v.items) ∙ same_length ∙ sym (length-map s.rows.items (λ (v : VecDeque Node Global). v.items)) in
-    let count : s.count - c.drop_unseen-gone.result ≡ 1 + length (rows_routes 0 (rows_of after)) = omega (arith, c.self.invariant.counted, c.drop_unseen-gone.ensures.gone) in
-    let kept = expired_kept d (rows_of s.rows.items) (rows_of after) s.count (s.count - c.drop_unseen-gone.result) s.pending x c.self.invariant is sees same routes count in
-    subst (λ (xs : List (VecDeque Node Global)). IsKept d (rows_of xs) (s.count - c.drop_unseen-gone.result) s.pending) (sym same_rows) kept
+    let before : length (rows_routes 0 c.deref_mut.result.now) ≡ length (rows_routes 0 s.rows.items) = ap (λ (xs : List (List Branch)). length (rows_routes 0 xs)) c.deref_mut.ensures.value in
+    let same_length : length after ≡ length s.rows.items = omega (arith, c.drop_unseen-gone.auto.rows, c.deref_mut.ensures.len, ap (λ (xs : List (List Branch)). length xs) c.deref_mut.ensures.value) in
+    let same : length after ≡ length s.rows.items = same_length in
+    let count : s.count - c.drop_unseen-gone.result ≡ 1 + length (rows_routes 0 after) = omega (arith, c.self.invariant.counted, c.drop_unseen-gone.ensures.gone) in
+    let kept = expired_kept d s.rows.items after s.count (s.count - c.drop_unseen-gone.result) s.pending x c.self.invariant is sees same routes count in
+    subst (λ (xs : List (List Branch)). IsKept d xs (s.count - c.drop_unseen-gone.result) s.pending) (sym same_rows) kept
 
 pub returns : goal.returns
 returns c =
     let s = c.self.inside in
     let n : ℕ = c.args.number in
     let d = s.definition in
-    let old : List Route = rows_routes 0 (rows_of s.rows.items) in
+    let old : List Route = rows_routes 0 s.rows.items in
     let found = pending_at d s.pending old n (subst (λ (t : Tree). MatchOption t.reserve ⊥ (λ r. r.number ≡ n)) (sym c.self.view_is) c.requires.reserved) in
     let x : Pending = found.0 in
     let is : s.pending ≡ Some x = found.1.0 in
@@ -71,9 +67,9 @@ returns c =
     let after = c.drop_unseen-gone.new.rows in
     let long : length after ≡ s.rows.len = omega (arith, c.drop_unseen-gone.auto.rows, c.deref_mut.ensures.len) in
     let same_rows = take_at after (drop (length after) s.rows.items) s.rows.len long in
-    let left : rows_of after ≡ map (seen_nodes c.oldest_seen-oldest.result) (rows_of s.rows.items) = c.drop_unseen-gone.ensures.left ∙ ap (λ (xs : List (VecDeque Node Global)). map (seen_nodes c.oldest_seen-oldest.result) (rows_of xs)) c.deref_mut.ensures.value in
-    let routes : rows_routes 0 (rows_of after) ≡ filter (is_seen (oldest_seen d.window x.number)) old =
-    ap (rows_routes 0) left ∙ open_seen c.oldest_seen-oldest.result (empty_of d) (rows_of s.rows.items) c.self.invariant.free_left ∙ ap (λ (k : ℕ). filter (is_seen k) old) oldest_is
+    let left : after ≡ map (seen_nodes c.oldest_seen-oldest.result) s.rows.items = c.drop_unseen-gone.ensures.left ∙ ap (λ (xs : List (List Branch)). map (seen_nodes c.oldest_seen-oldest.result) xs) c.deref_mut.ensures.value in
+    let routes : rows_routes 0 after ≡ filter (is_seen (oldest_seen d.window x.number)) old =
+    ap (rows_routes 0) left ∙ open_seen c.oldest_seen-oldest.result (empty_of d) s.rows.items c.self.invariant.free_left ∙ ap (λ (k : ℕ). filter (is_seen k) old) oldest_is
     in
-    let finally = ap (λ (xs : List (VecDeque Node Global)). rows_routes 0 (rows_of xs)) same_rows ∙ routes in
-    expired_at d s.rule s.pending x old (rows_routes 0 (rows_of (take s.rows.len (after ++ drop (length after) s.rows.items)))) c.args.self.now n c.self.view_is is numbered c.self.invariant.free_left c.self.invariant.seen sees finally
+    let finally = ap (λ (xs : List (List Branch)). rows_routes 0 xs) same_rows ∙ routes in
+    expired_at d s.rule s.pending x old (rows_routes 0 (take s.rows.len (after ++ drop (length after) s.rows.items))) c.args.self.now n c.self.view_is is numbered c.self.invariant.free_left c.self.invariant.seen sees finally

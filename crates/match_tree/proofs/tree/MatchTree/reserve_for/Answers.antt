@@ -1,10 +1,5 @@
-use Rattle.std.specs.declared.collections.VecDeque.{VecDeque}
 use Rattle.std.proofs.Common.{◌≡◌, ◌+◌, ◌-◌, ◌≤◌, List, None, refl, arith}
-use Rattle.std.specs.declared.alloc.Global.{Global}
-use Rattle.std.proofs.lemmas.List.{length-map}
-use Rattle.match_tree.specs.declared.node.Node.{Node}
 use Rattle.match_tree.specs.Routes.{Route, rows_routes}
-use Rattle.match_tree.specs.Rows.{rows_of}
 use Rattle.match_tree.specs.Offers.{Offered}
 use Rattle.match_tree.specs.Kept.{tree_of}
 use Rattle.match_tree.specs.Tree.{offer_to}
@@ -17,7 +12,7 @@ use Rattle.match_tree.proofs.tree.MatchTree.reserve_for.Goals as goal
 steps_few : (g : _) (c : After-visit_all g) → c.visit_all.new.steps ≤ c.args.steps.now + tries (offer_to c.args.self.now c.args.letters.now c.args.number) c.args.self.now.paths
 steps_few g c =
     let s = c.self.inside in
-    let before : List Route = rows_routes 0 (rows_of s.rows.items) in
+    let before : List Route = rows_routes 0 s.rows.items in
     let o : Offered = record { letters = c.args.letters.now; definition = s.definition; rule = s.rule; number = c.args.number; oldest = c.oldest_seen.result } in
     let same : o ≡ offer_to (tree_of s.definition s.rule None before) c.args.letters.now c.args.number = λ i. record { letters = c.args.letters.now; definition = s.definition; rule = s.rule; number = c.args.number; oldest = c.oldest_seen.ensures i } in
     let all = reserve_tries s.definition s.rule s.pending before c.args.self.now c.args.letters.now c.args.number o c.self.view_is c.requires.settled same in
@@ -26,7 +21,7 @@ steps_few g c =
 pub visit_all-requires-clause-lead : goal.visit_all-requires-clause-lead
 visit_all-requires-clause-lead g c =
     let s = c.self.inside in
-    let before : List Route = rows_routes 0 (rows_of s.rows.items) in
+    let before : List Route = rows_routes 0 s.rows.items in
     let o : Offered = record { letters = c.args.letters.now; definition = s.definition; rule = s.rule; number = c.args.number; oldest = c.oldest_seen.result } in
     let same : o ≡ offer_to (tree_of s.definition s.rule None before) c.args.letters.now c.args.number = λ i. record { letters = c.args.letters.now; definition = s.definition; rule = s.rule; number = c.args.number; oldest = c.oldest_seen.ensures i } in
     (reserve_lead s.definition s.rule s.pending before c.args.self.now c.args.letters.now c.args.number o c.self.view_is c.requires.settled same c.self.invariant.free_left c.requires.can).1
@@ -37,21 +32,21 @@ returns-in_err-best-clause-stepped g c = steps_few g (goal.at.returns-in_err-bes
 pub overflow_sub-aside : goal.overflow_sub-aside
 overflow_sub-aside g c =
     let s = c.self.inside in
-    let more = reserve_counts c.args.number (rows_routes 0 (rows_of s.rows.items)) (rows_routes 0 (rows_of c.visit_all.new.rows.items)) c.visit_all.ensures.lasting in
+    let more = reserve_counts c.args.number (rows_routes 0 s.rows.items) (rows_routes 0 c.visit_all.new.rows.items) c.visit_all.ensures.lasting in
     omega (arith, c.in_ok-best.ensures.counted)
 
 pub invariant_of-self-2 : goal.invariant_of-self-2
 invariant_of-self-2 g c =
     let s = c.self.inside in
     let o : Offered = record { letters = c.args.letters.now; definition = s.definition; rule = s.rule; number = c.args.number; oldest = c.oldest_seen.result } in
-    let seen = reserve_seen o (rows_routes 0 (rows_of s.rows.items)) (rows_routes 0 (rows_of c.visit_all.new.rows.items)) c.in_ok-best.best (c.visit_all.new.count - s.count) c.oldest_seen.ensures c.visit_all.ensures.lasting c.in_ok-best.ensures.found c.in_ok-best.ensures.grows in
-    reserve_kept s.definition (rows_of s.rows.items) (rows_of c.visit_all.new.rows.items) s.count c.visit_all.new.count c.args.number c.in_ok-best.best s.pending c.self.invariant (omega (arith, c.visit_all.ensures.few, length-map c.visit_all.new.rows.items (λ (v : VecDeque Node Global). v.items))) c.visit_all.ensures.sound c.visit_all.ensures.free_left c.visit_all.ensures.lasting seen c.in_ok-best.ensures.counted
+    let seen = reserve_seen o (rows_routes 0 s.rows.items) (rows_routes 0 c.visit_all.new.rows.items) c.in_ok-best.best (c.visit_all.new.count - s.count) c.oldest_seen.ensures c.visit_all.ensures.lasting c.in_ok-best.ensures.found c.in_ok-best.ensures.grows in
+    reserve_kept s.definition s.rows.items c.visit_all.new.rows.items s.count c.visit_all.new.count c.args.number c.in_ok-best.best s.pending c.self.invariant (omega (arith, c.visit_all.ensures.few)) c.visit_all.ensures.sound c.visit_all.ensures.free_left c.visit_all.ensures.lasting seen c.in_ok-best.ensures.counted
 
 pub returns-clause-reserved : goal.returns-clause-reserved
 returns-clause-reserved g c =
     let s = c.self.inside in
-    let before : List Route = rows_routes 0 (rows_of s.rows.items) in
-    let now : List Route = rows_routes 0 (rows_of c.visit_all.new.rows.items) in
+    let before : List Route = rows_routes 0 s.rows.items in
+    let now : List Route = rows_routes 0 c.visit_all.new.rows.items in
     let o : Offered = record { letters = c.args.letters.now; definition = s.definition; rule = s.rule; number = c.args.number; oldest = c.oldest_seen.result } in
     let same : o ≡ offer_to (tree_of s.definition s.rule None before) c.args.letters.now c.args.number = λ i. record { letters = c.args.letters.now; definition = s.definition; rule = s.rule; number = c.args.number; oldest = c.oldest_seen.ensures i } in
     reserve_found s.definition s.rule s.pending before now c.args.self.now c.args.letters.now c.args.number (c.visit_all.new.count - s.count) c.in_ok-best.best o c.self.view_is c.requires.settled same refl c.self.invariant.free_left c.visit_all.ensures.lasting c.in_ok-best.ensures.best c.in_ok-best.ensures.grows

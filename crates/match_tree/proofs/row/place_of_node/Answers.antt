@@ -1,7 +1,7 @@
 use Rattle.std.proofs.Common.{◌<◌, length, arith, rules}
 use Rattle.std.proofs.lemmas.List.Sorted.{answers_always}
 use Rattle.match_tree.proofs.PruneLemmas.{place_found, place_missing}
-use Rattle.match_tree.proofs.prune.place_of.Goals as goal
+use Rattle.match_tree.proofs.row.place_of_node.Goals as goal
 
 pub returns-in-Ok : goal.returns-in-Ok
 returns-in-Ok c =

@@ -1,0 +1,7 @@
+use Rattle.std.proofs.Common.{◌≡◌, map, take}
+use Rattle.match_tree.specs.Rows.{leaf}
+use Rattle.match_tree.proofs.row.nodes_of.Given as goal
+
+-- so many leaves are nodes
+abbrev pub invariant-loop-place : goal.invariant-loop-place
+invariant-loop-place l = l.nodes.items ≡ map leaf (take l.place l.leaves.items)

@@ -1,0 +1,15 @@
+use Rattle.std.proofs.Common.{◌≡◌, ◌∙◌, ℕ, List, map, ap, sym}
+use Rattle.std.specs.declared.alloc.Global.{Global}
+use Rattle.std.specs.declared.collections.VecDeque.{VecDeque}
+use Rattle.match_tree.specs.Routes.{Branch}
+use Rattle.match_tree.specs.Rows.{leaf}
+use Rattle.match_tree.specs.Shapes.{branches}
+use Rattle.match_tree.proofs.LeafLemmas.{leaf_numbers}
+use Rattle.match_tree.proofs.row_numbers.RowNumbers.of.Goals as goal
+
+pub returns-in-Leaves : goal.returns-in-Leaves
+returns-in-Leaves c =
+    let row : List Branch = map leaf c.in-Leaves.leaves.value.items in
+    let same : row ≡ c.args.row.now = sym (ap branches c.in-Leaves.is) ∙ c.row.view_is in
+    let numbers : map (λ (node : Branch). node.number) row ≡ map (λ (node : Branch). node.number) c.args.row.now = ap (λ (xs : List Branch). map (λ (node : Branch). node.number) xs) same in
+    c.as_slices.ensures.items ∙ ap (λ (leaves : VecDeque ℕ Global). leaves.items) c.deref.ensures ∙ sym (leaf_numbers c.in-Leaves.leaves.value.items) ∙ numbers

@@ -1,0 +1,64 @@
+use Rattle.std.proofs.Common.{◌≡◌, ◌∙◌, ◌+◌, ◌≤◌, ◌<◌, ℕ, List, Option, length, map, sym, ap, subst, arith}
+use Rattle.std.specs.Prelude.{slice_index}
+use Rattle.std.proofs.lemmas.List.{length-map}
+use Rattle.match_tree.specs.Routes.{Branch}
+use Rattle.match_tree.specs.RowNumbers.{numbers_in}
+use Rattle.match_tree.specs.Rows.{node_at}
+use Rattle.match_tree.specs.Offering.{offered}
+use Rattle.match_tree.specs.Screen.{AreLacking, IsOffered, IsWorthless, key_of}
+use Rattle.match_tree.specs.declared.screen.Key.{Key}
+use Rattle.match_tree.proofs.SlotsLemmas.{free_is_none}
+use Rattle.match_tree.proofs.ScreenLemmas.{worthless_on}
+use Rattle.match_tree.proofs.KeyLemmas.{lacking_on, number_there}
+use Rattle.match_tree.proofs.screen.next_place.Goals as goal
+use Rattle.match_tree.proofs.screen.next_place.Goals.{After-at, After-with_key-place}
+
+-- the row has as many nodes as there are numbers
+ends : (c : After-with_key-place) → c.len-end.result ≡ length c.args.row.now
+ends c = c.len-end.ensures ∙ ap (λ (ns : List ℕ). length ns) c.of-numbers.ensures ∙ length-map c.args.row.now (λ (node : Branch). node.number)
+
+pub loop-place-init : goal.loop-place-init
+loop-place-init c =
+    let a = c.args in
+    let o = offered a.offer.now in
+    let e = c.with_key-place.ensures in
+    let to : ℕ = c.with_key-place.result in
+    let lacking = subst (λ (k : Option Key). AreLacking o.letters k (numbers_in c.of-numbers.result) a.from to) c.key_of-key.ensures e.lacking in
+    record {
+      from = e.from;
+      within = e.within;
+      worthless = lacking_on o a.slots.now a.pattern a.row.now (numbers_in c.of-numbers.result) a.screen.now a.from a.from to c.of-numbers.ensures c.requires.offered c.requires.screen (omega arith) (omega (arith, e.within, ends c)) (λ i l m. absurd (omega arith)) lacking;
+    }
+
+-- the number there may be tried
+offered_there : (c : After-at) → IsOffered (offered c.args.offer.now) c.args.slots.now c.args.pattern c.at.result
+offered_there c =
+    let a = c.args in
+    let place : ℕ = c.loop-place.place in
+    let number : (node_at a.row.now place).number ≡ c.at.result = sym (number_there a.row.now (numbers_in c.of-numbers.result) place c.of-numbers.ensures) ∙ sym c.at.ensures in
+    let within : place < length a.row.now = omega (arith, c.loop-place-test.true, c.len-end.ensures, ap (λ (ns : List ℕ). length ns) c.of-numbers.ensures, length-map a.row.now (λ (node : Branch). node.number)) in
+    subst (IsOffered (offered a.offer.now) a.slots.now a.pattern) number (c.requires.offered place c.loop-place.invariant.from within)
+
+pub is_worth-requires-clause-can : goal.is_worth-requires-clause-can
+is_worth-requires-clause-can c = (offered_there c).can
+
+pub is_worth-requires-clause-free : goal.is_worth-requires-clause-free
+is_worth-requires-clause-free c = free_is_none c.args.slots.now c.args.pattern (offered_there c).free
+
+pub loop-place-preserved : goal.loop-place-preserved
+loop-place-preserved c =
+    let a = c.args in
+    let o = offered a.offer.now in
+    let e = c.with_key-place-in-loop-place.ensures in
+    let place : ℕ = c.loop-place.place in
+    let to : ℕ = c.with_key-place-in-loop-place.result in
+    let number : c.at.result ≡ (node_at a.row.now place).number = c.at.ensures ∙ number_there a.row.now (numbers_in c.of-numbers.result) place c.of-numbers.ensures in
+    let here = subst (IsWorthless o a.slots.now a.pattern) number (c.is_worth.ensures.left_out c.if-is_worth.false) in
+    let before = worthless_on o a.slots.now a.pattern a.row.now a.from place c.loop-place.invariant.worthless here in
+    let lacking = subst (λ (k : Option Key). AreLacking o.letters k (numbers_in c.of-numbers.result) (place + 1) to) c.key_of-key.ensures e.lacking in
+    let within : to ≤ length a.row.now = omega (arith, e.within, c.len-end.ensures, ap (λ (ns : List ℕ). length ns) c.of-numbers.ensures, length-map a.row.now (λ (node : Branch). node.number)) in
+    record {
+      from = omega (arith, c.loop-place.invariant.from, e.from);
+      within = e.within;
+      worthless = lacking_on o a.slots.now a.pattern a.row.now (numbers_in c.of-numbers.result) a.screen.now a.from (place + 1) to c.of-numbers.ensures c.requires.offered c.requires.screen (omega (arith, c.loop-place.invariant.from)) within before lacking;
+    }

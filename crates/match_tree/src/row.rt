@@ -1,0 +1,261 @@
+//! The nodes of one pattern behind a path, in as little memory as they need.
+ghost use Rattle.std.specs.Prelude.{◌≡◌, ◌≢◌, ◌<◌, ◌≤◌, ◌++◌, ◌∷◌, [], length, map, slice_set, slice_index_or, OnOk, OnErr, IfOk, MatchOption};
+ghost use Rattle.std.specs.List.{AllByRecursion};
+ghost use Rattle.match_tree.specs.Routes.{rows_routes};
+ghost use Rattle.match_tree.specs.Order.{Rise};
+ghost use Rattle.match_tree.specs.Rows.{leaf, node_at, leads_to};
+
+use crate::node::{Node, Shape};
+use join_base::NoMemory;
+use std::alloc::Global;
+use std::collections::VecDeque;
+use std::marker::Model;
+
+/// The nodes of one pattern behind a path, whose numbers rise. A contract sees the list of them.
+#[cycle(nodes)]
+#[derive(Drop)]
+pub struct Row {
+    pub nodes: Nodes,
+}
+
+/// A leaf is no more than its number: one stands in place, and several stand in a ring buffer of numbers. The other
+/// nodes have rows of their own, and where there is one among them, all are nodes.
+#[cycle(nodes)]
+#[derive(Drop)]
+pub enum Nodes {
+    Empty,
+    One(u32),
+    Leaves(Box<VecDeque<u32>>),
+    Mixed(Box<VecDeque<Node>>),
+}
+
+// Each node but a leaf has a row for each pattern, and most of them have no node or one.
+const _: () = prove!(size_of::<Row>() <= 16);
+
+impl Model for Row {
+    ghost use Rattle.std.specs.Prelude.{List};
+    ghost use Rattle.match_tree.specs.Routes.{Branch};
+
+    ghost Value = { List Branch };
+
+    ghost use Rattle.match_tree.specs.Shapes.{branches};
+
+    ghost view = { λ a. branches a.nodes };
+
+    ghost use Rattle.std.specs.Prelude.{◌*◌, length};
+    ghost use Rattle.match_tree.specs.Routes.{row_routes};
+
+    ghost size = { λ row. 2 * length (row_routes 0 row) };
+
+    ghost use Rattle.std.proofs.Common.{arith};
+    ghost use Rattle.match_tree.specs.Smaller.{most_of_nodes};
+
+    ghost size_decreases = { λ a h. Prim.omega (arith, most_of_nodes a.nodes) };
+}
+
+impl Row {
+    /// A row without a node.
+    #[inline]
+    pub fn new() -> Row
+        ensures { result ≡ [] }
+    {
+        Row {
+            nodes: Nodes::Empty,
+        }
+    }
+
+    /// How many nodes there are.
+    #[inline]
+    #[inline]
+    pub fn len(&self) -> usize
+        ensures { result ≡ length self.now }
+    {
+        match &self.nodes {
+            Nodes::Empty => 0,
+            Nodes::One(_) => 1,
+            Nodes::Leaves(leaves) => leaves.len(),
+            Nodes::Mixed(nodes) => nodes.len(),
+        }
+    }
+
+    /// The number of the node at the place.
+    #[inline]
+    #[inline]
+    pub fn number_at(&self, place: usize) -> u32
+        requires { place < length self.now }
+        ensures { result ≡ (node_at self.now place).number }
+    {
+        match &self.nodes {
+            Nodes::Empty => 0,
+            Nodes::One(number) => *number,
+            Nodes::Leaves(leaves) => leaves[place],
+            Nodes::Mixed(nodes) => nodes[place].number(),
+        }
+    }
+
+    /// The place of the node with the number.
+    pub fn place_of(&self, number: u32) -> Option<usize>
+        requires { Rise (map (λ node. node.number) self.now) }
+        ensures { MatchOption result (AllByRecursion (λ node. node.number ≢ number) self.now) (λ i. (i < length self.now) × ((d : _) → (slice_index_or self.now i d).number ≡ number)) }
+    {
+        match &self.nodes {
+            Nodes::Empty => None,
+            Nodes::One(only) => place_of_one(*only, number),
+            Nodes::Leaves(leaves) => place_of_leaf(leaves, number),
+            Nodes::Mixed(nodes) => place_of_node(nodes, number),
+        }
+    }
+
+    /// A leaf for the number, at the end.
+    pub fn push_leaf(&mut self, alloc: Global, number: u32) -> Result<(), NoMemory>
+        ensures ok { OnOk result (self.new ≡ self.old ++ leaf number ∷ []) }
+        ensures err { OnErr result (self.new ≡ self.old) }
+    {
+        match &mut self.nodes {
+            Nodes::Empty => {
+                self.nodes = Nodes::One(number);
+                Ok(())
+            }
+            Nodes::One(first) => {
+                let leaves = two_leaves(alloc, *first, number)?;
+                self.nodes = Nodes::Leaves(leaves);
+                Ok(())
+            }
+            Nodes::Leaves(leaves) => push_number(leaves, number),
+            Nodes::Mixed(nodes) => push_node(nodes, number),
+        }
+    }
+
+    /// Puts rows behind the leaf at the place. Where there is no memory for that, nothing changes.
+    pub fn put_behind(
+        &mut self,
+        alloc: Global,
+        place: usize,
+        rows: Box<Vec<Row>>,
+    ) -> Result<(), NoMemory>
+        requires within { place < length self.old }
+        requires leaf { (node_at self.old place).routes ≡ [] }
+        requires few { length rows.value.items ≤ 8 }
+        ensures ok { OnOk result (self.new ≡ slice_set self.old place (leads_to (node_at self.old place) (rows_routes 0 rows.value.items))) }
+        ensures err { OnErr result (self.new ≡ self.old) }
+    {
+        match &mut self.nodes {
+            Nodes::Empty => Ok(()),
+            Nodes::One(number) => {
+                let nodes = one_node(alloc, *number, rows)?;
+                self.nodes = Nodes::Mixed(nodes);
+                Ok(())
+            }
+            Nodes::Leaves(leaves) => {
+                let nodes = nodes_with(alloc, leaves, place, rows)?;
+                self.nodes = Nodes::Mixed(nodes);
+                Ok(())
+            }
+            Nodes::Mixed(nodes) => {
+                let node = &mut nodes[place];
+                node.put_behind(rows);
+                Ok(())
+            }
+        }
+    }
+}
+
+fn place_of_one(only: u32, number: u32) -> Option<usize>
+    ensures { MatchOption result (only ≢ number) (λ i. (i ≡ 0) × (only ≡ number)) }
+{
+    if only == number {
+        return Some(0);
+    }
+    None
+}
+
+// The place of the number among numbers that rise.
+fn place_of_leaf(leaves: &VecDeque<u32>, number: u32) -> Option<usize>
+    requires { Rise leaves.now.items }
+    ensures { MatchOption result (AllByRecursion (λ n. n ≢ number) leaves.now.items) (λ i. (i < length leaves.now.items) × ((d : _) → slice_index_or leaves.now.items i d ≡ number)) }
+{
+    match leaves.binary_search(&number) {
+        Ok(place) => Some(place),
+        Err(_) => None,
+    }
+}
+
+// The place of the node with the number among nodes whose numbers rise.
+fn place_of_node(nodes: &VecDeque<Node>, number: u32) -> Option<usize>
+    requires { Rise (map (λ node. node.number) nodes.now.items) }
+    ensures { MatchOption result (AllByRecursion (λ node. node.number ≢ number) nodes.now.items) (λ i. (i < length nodes.now.items) × ((d : _) → (slice_index_or nodes.now.items i d).number ≡ number)) }
+{
+    match nodes.binary_search_by_key(&number, |node| node.number()) {
+        Ok(place) => Some(place),
+        Err(_) => None,
+    }
+}
+
+fn two_leaves(alloc: Global, first: u32, second: u32) -> Result<Box<VecDeque<u32>>, NoMemory>
+    ensures { IfOk result (λ leaves. leaves.value.items ≡ first ∷ second ∷ []) }
+{
+    let mut leaves = VecDeque::with_capacity(alloc, 4)?;
+    leaves.push_back(first)?;
+    leaves.push_back(second)?;
+    Ok(Box::new(alloc, leaves)?)
+}
+
+fn push_number(leaves: &mut VecDeque<u32>, number: u32) -> Result<(), NoMemory>
+    ensures ok { OnOk result (leaves.new.items ≡ leaves.old.items ++ number ∷ []) }
+    ensures err { OnErr result (leaves.new.items ≡ leaves.old.items) }
+{
+    leaves.push_back(number)?;
+    Ok(())
+}
+
+fn push_node(nodes: &mut VecDeque<Node>, number: u32) -> Result<(), NoMemory>
+    ensures ok { OnOk result (nodes.new.items ≡ nodes.old.items ++ leaf number ∷ []) }
+    ensures err { OnErr result (nodes.new.items ≡ nodes.old.items) }
+{
+    nodes.push_back(Node::leaf(number))?;
+    Ok(())
+}
+
+// The one node with the number and these rows.
+fn one_node(
+    alloc: Global,
+    number: u32,
+    rows: Box<Vec<Row>>,
+) -> Result<Box<VecDeque<Node>>, NoMemory>
+    requires few { length rows.value.items ≤ 8 }
+    ensures { IfOk result (λ nodes. nodes.value.items ≡ leads_to (leaf number) (rows_routes 0 rows.value.items) ∷ []) }
+{
+    let mut nodes = VecDeque::with_capacity(alloc, 1)?;
+    nodes.push_back(Node {
+        shape: Shape::Inner(number, rows),
+    })?;
+    Ok(Box::new(alloc, nodes)?)
+}
+
+// The leaves as nodes.
+fn nodes_of(alloc: Global, leaves: &VecDeque<u32>) -> Result<VecDeque<Node>, NoMemory>
+    ensures { IfOk result (λ nodes. nodes.items ≡ map leaf leaves.now.items) }
+{
+    let mut nodes = VecDeque::with_capacity(alloc, leaves.len())?;
+    for place in 0..leaves.len() {
+        nodes.push_back(Node::leaf(leaves[place]))?;
+    }
+    Ok(nodes)
+}
+
+// The leaves as nodes, of which that at the place has these rows.
+fn nodes_with(
+    alloc: Global,
+    leaves: &VecDeque<u32>,
+    place: usize,
+    rows: Box<Vec<Row>>,
+) -> Result<Box<VecDeque<Node>>, NoMemory>
+    requires within { place < length leaves.now.items }
+    requires few { length rows.value.items ≤ 8 }
+    ensures { IfOk result (λ nodes. nodes.value.items ≡ slice_set (map leaf leaves.now.items) place (leads_to (node_at (map leaf leaves.now.items) place) (rows_routes 0 rows.value.items))) }
+{
+    let mut nodes = nodes_of(alloc, leaves)?;
+    let node = &mut nodes[place];
+    node.put_behind(rows);
+    Ok(Box::new(alloc, nodes)?)
+}
