@@ -1,7 +1,7 @@
 //! Tests of the numbers of a row that are cheaper than a try. Which conjuncts are decided by the row's pattern and the wanted one
 //! is found once for the row, and only these are looked at. Where such a conjunct compares one field of the row with what is known,
 //! it is enough to read that field, and an equality is looked at first.
-ghost use Rattle.std.specs.Prelude.{◌≡◌, ◌⊎◌, ◌<◌, ◌≤◌, ◌++◌, ◌∷◌, [], length, slice_get, Some, None, true, false, not, ◌==◌, nat_le, IfSome};
+ghost use Rattle.std.specs.Prelude.{◌≡◌, ◌⊎◌, ◌<◌, ◌≤◌, ◌++◌, ◌∷◌, [], length, map, slice_get, Some, None, true, false, not, ◌==◌, nat_le, IfSome};
 ghost use Rattle.std.specs.List.{filter, AllByRecursion};
 ghost use Rattle.pattern_core.specs.Matches.{is_agreeable};
 ghost use Rattle.pattern_core.specs.Suits.{DefinitionSuits, SlotsSuit};
@@ -10,14 +10,16 @@ ghost use Rattle.match_tree.specs.Offers.{takers};
 ghost use Rattle.match_tree.specs.Offering.{offered, CanOffer};
 ghost use Rattle.match_tree.specs.RowNumbers.{numbers_in};
 ghost use Rattle.match_tree.specs.Rows.{node_at};
-ghost use Rattle.match_tree.specs.Screen.{AreLacking, AreOffered, AreTests, AreWorthless, IsDecidedAt, IsWith, Screens, as_bound, key_of};
+ghost use Rattle.match_tree.specs.Screen.{AreLacking, AreOffered, AreTests, AreWorthless, IsDecidedAt, IsWith, Screens, as_bound, key_of, passes};
 
+use crate::node::Node;
 use crate::offer::Offer;
 use crate::row::Row;
 use crate::row_numbers::RowNumbers;
 use guard_bound::{Bound, Bounds, Same, bound_of, int_at, is_same, meets_all, same_of};
 use guard_eval::{decided, holds};
 use join_base::{Message, Numbers, Relation, Slots};
+use std::collections::VecDeque;
 
 /// The value that a number of the row has to have at a field.
 #[derive(Clone, Copy, PartialEq, Eq, Debug)]
@@ -260,46 +262,83 @@ fn is_worth(
     }
 }
 
-// The first place from this one on whose number has the key's value, or the end.
-fn find_key(
-    letters: &[Message],
-    key: Key,
-    numbers: &RowNumbers<'_>,
-    from: usize,
-    end: usize,
-) -> usize
-    requires from { from ≤ end }
-    requires end { end ≡ length (numbers_in numbers.now) }
-    ensures from { from ≤ result }
-    ensures within { result ≤ end }
-    ensures lacking { AreLacking letters.now (Some key) (numbers_in numbers.now) from result }
+// Whether the number has the key's value. It stands in the loops over waiting messages.
+#[inline(always)]
+fn has_value(letters: &[Message], key: Key, number: u32) -> bool
+    ensures { result ≡ passes letters.now (Some key) number }
 {
-    for place in from..end {
-        if int_at(letters, numbers.at(place), key.field) == key.value {
+    int_at(letters, number, key.field) == key.value
+}
+
+// The first place from this one on whose number has the key's value, or the end.
+fn find_in(letters: &[Message], key: Key, leaves: &[u32], from: usize) -> usize
+    requires { from ≤ length leaves.now }
+    ensures from { from ≤ result }
+    ensures within { result ≤ length leaves.now }
+    ensures lacking { AreLacking letters.now (Some key) leaves.now from result }
+{
+    for place in from..leaves.len() {
+        if has_value(letters, key, leaves[place]) {
             return place;
         }
     }
-    end
+    leaves.len()
 }
 
-// The same where there is a key. Without one each place will do, and a call would cost more than the test at it.
-#[inline(always)]
-fn with_key(
-    letters: &[Message],
-    key: Option<Key>,
-    numbers: &RowNumbers<'_>,
-    from: usize,
-    end: usize,
-) -> usize
-    requires from { from ≤ end }
-    requires end { end ≡ length (numbers_in numbers.now) }
+// The same in two slices, one behind the other: this is the loop over waiting messages, and one slice is read faster.
+fn find_leaf(letters: &[Message], key: Key, front: &[u32], back: &[u32], from: usize) -> usize
+    requires { from ≤ length (front.now ++ back.now) }
     ensures from { from ≤ result }
-    ensures within { result ≤ end }
+    ensures within { result ≤ length (front.now ++ back.now) }
+    ensures lacking { AreLacking letters.now (Some key) (front.now ++ back.now) from result }
+{
+    if from < front.len() {
+        let place = find_in(letters, key, front, from);
+        if place < front.len() {
+            return place;
+        }
+    }
+    front.len() + find_in(letters, key, back, from.saturating_sub(front.len()))
+}
+
+fn find_node(letters: &[Message], key: Key, nodes: &VecDeque<Node>, from: usize) -> usize
+    requires { from ≤ length nodes.now.items }
+    ensures from { from ≤ result }
+    ensures within { result ≤ length nodes.now.items }
+    ensures lacking { AreLacking letters.now (Some key) (map (λ node. node.number) nodes.now.items) from result }
+{
+    for place in from..nodes.len() {
+        if has_value(letters, key, nodes[place].number()) {
+            return place;
+        }
+    }
+    nodes.len()
+}
+
+// The same among the numbers of a row, where there is a key. Without one each place will do, and a call would cost more
+// than the test at it.
+#[inline(always)]
+fn with_key(letters: &[Message], key: Option<Key>, numbers: &RowNumbers<'_>, from: usize) -> usize
+    requires { from ≤ length (numbers_in numbers.now) }
+    ensures from { from ≤ result }
+    ensures within { result ≤ length (numbers_in numbers.now) }
     ensures lacking { AreLacking letters.now key (numbers_in numbers.now) from result }
 {
     match key {
         None => from,
-        Some(key) => find_key(letters, key, numbers, from, end),
+        Some(key) => find_key(letters, key, numbers, from),
+    }
+}
+
+fn find_key(letters: &[Message], key: Key, numbers: &RowNumbers<'_>, from: usize) -> usize
+    requires { from ≤ length (numbers_in numbers.now) }
+    ensures from { from ≤ result }
+    ensures within { result ≤ length (numbers_in numbers.now) }
+    ensures lacking { AreLacking letters.now (Some key) (numbers_in numbers.now) from result }
+{
+    match numbers {
+        RowNumbers::Leaves(front, back) => find_leaf(letters, key, front, back, from),
+        RowNumbers::Nodes(nodes) => find_node(letters, key, nodes, from),
     }
 }
 
@@ -323,12 +362,12 @@ pub fn next_place(
     let numbers = RowNumbers::of(row);
     let end = numbers.len();
     let key = key_of(screen);
-    let mut place = with_key(offer.letters, key, &numbers, from, end);
+    let mut place = with_key(offer.letters, key, &numbers, from);
     while place < end {
         if is_worth(offer, slots, pattern, screen, numbers.at(place)) {
             return place;
         }
-        place = with_key(offer.letters, key, &numbers, place + 1, end);
+        place = with_key(offer.letters, key, &numbers, place + 1);
     }
     end
 }

@@ -26,8 +26,8 @@ loop-place-init c =
     let lacking = subst (λ (k : Option Key). AreLacking o.letters k (numbers_in c.of-numbers.result) a.from to) c.key_of-key.ensures e.lacking in
     record {
       from = e.from;
-      within = e.within;
-      worthless = lacking_on o a.slots.now a.pattern a.row.now (numbers_in c.of-numbers.result) a.screen.now a.from a.from to c.of-numbers.ensures c.requires.offered c.requires.screen (omega arith) (omega (arith, e.within, ends c)) (λ i l m. absurd (omega arith)) lacking;
+      within = omega (arith, e.within, c.len-end.ensures);
+      worthless = lacking_on o a.slots.now a.pattern a.row.now (numbers_in c.of-numbers.result) a.screen.now a.from a.from to c.of-numbers.ensures c.requires.offered c.requires.screen (omega arith) (omega (arith, e.within, c.len-end.ensures, ends c)) (λ i l m. absurd (omega arith)) lacking;
     }
 
 -- the number there may be tried
@@ -59,6 +59,6 @@ loop-place-preserved c =
     let within : to ≤ length a.row.now = omega (arith, e.within, c.len-end.ensures, ap (λ (ns : List ℕ). length ns) c.of-numbers.ensures, length-map a.row.now (λ (node : Branch). node.number)) in
     record {
       from = omega (arith, c.loop-place.invariant.from, e.from);
-      within = e.within;
+      within = omega (arith, e.within, c.len-end.ensures);
       worthless = lacking_on o a.slots.now a.pattern a.row.now (numbers_in c.of-numbers.result) a.screen.now a.from (place + 1) to c.of-numbers.ensures c.requires.offered c.requires.screen (omega (arith, c.loop-place.invariant.from)) within before lacking;
     }
