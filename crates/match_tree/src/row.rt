@@ -66,7 +66,6 @@ impl Row {
 
     /// How many nodes there are.
     #[inline]
-    #[inline]
     pub fn len(&self) -> usize
         ensures { result ≡ length self.now }
     {
@@ -79,7 +78,6 @@ impl Row {
     }
 
     /// The number of the node at the place.
-    #[inline]
     #[inline]
     pub fn number_at(&self, place: usize) -> u32
         requires { place < length self.now }

@@ -301,6 +301,7 @@ fn find_leaf(letters: &[Message], key: Key, front: &[u32], back: &[u32], from: u
     front.len() + find_in(letters, key, back, from.saturating_sub(front.len()))
 }
 
+// The same among nodes.
 fn find_node(letters: &[Message], key: Key, nodes: &VecDeque<Node>, from: usize) -> usize
     requires { from ≤ length nodes.now.items }
     ensures from { from ≤ result }
