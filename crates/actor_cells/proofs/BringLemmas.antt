@@ -14,7 +14,7 @@ use Rattle.cell_links.specs.declared.ends.Inward.{Inward}
 use Rattle.actor_cells.specs.declared.cell.Cell.{Cell}
 use Rattle.actor_cells.specs.declared.cell.LinkTally.{LinkTally}
 use Rattle.actor_cells.specs.Lawful.{IsLawful, held_in, link_tally, state_in}
-use Rattle.actor_cells.specs.Served.{IsKept, IsRefusing}
+use Rattle.actor_cells.specs.Served.{StaysLawful, IsRefusing}
 use Rattle.actor_cells.specs.Steps.{Brings, FindsNone, Refuses, changed_at, one_look, one_received}
 use Rattle.actor_cells.proofs.CellLemmas.{brought, known-here, looked}
 use Rattle.actor_cells.proofs.LinkLemmas.{has_count}
@@ -54,7 +54,7 @@ module _ (c after : Cell) (k : ℕ) (w : Inward) (l : LinkOut) (lawful : IsLawfu
   abbrev pub Found : Option Outcome → Type 0
   Found found = MatchOption found (FindsNone before (held_in after) w.link l) (λ outcome. Brings w.source before (held_in after) w.link l)
 
-  pub kept : (result : Result (Option Outcome) NoMemory) → IfOk result Found → OnErr result (Refuses before (held_in after) w.link l) → IsKept c after
+  pub kept : (result : Result (Option Outcome) NoMemory) → IfOk result Found → OnErr result (Refuses before (held_in after) w.link l) → StaysLawful c after
   kept (Ok (Some outcome)) found refused = brought c after k w l lawful within here inward outward found.identity (subst (λ (h : Held). Brings w.source h (held_in after) w.link l) was found)
   kept (Ok None) found refused = looked c after k w l lawful within here inward outward found.identity (found.same ∙ was) found.took
   kept (Err e) found refused = looked c after k w l lawful within here inward outward refused.identity (refused.same ∙ was) refused.took

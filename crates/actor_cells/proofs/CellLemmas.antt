@@ -25,7 +25,7 @@ use Rattle.cell_links.proofs.TagLemmas.{inward-set, outward-set}
 use Rattle.actor_cells.specs.declared.cell.Cell.{Cell}
 use Rattle.actor_cells.specs.declared.cell.CellTag.{CellTag}
 use Rattle.actor_cells.specs.Lawful.{AreDifferent, AreDistinct, IsAmong, IsLawful, IsTag, actors_in, cell_tag, entries_in, feeds_in, held_in, history_of, noted, received_from, state_in}
-use Rattle.actor_cells.specs.Served.{IsKept}
+use Rattle.actor_cells.specs.Served.{StaysLawful}
 use Rattle.actor_cells.specs.Steps.{AreSmall, Brings, Moves}
 use Rattle.actor_cells.proofs.StateLemmas.{HaveStamps, NoOthers, Stands, grows, stamped, stands_more}
 use Rattle.actor_cells.proofs.LinkLemmas.{among, each-at, is-itself, none-from, received-more, received-same, same-number, sent-at, sent-other, sent-set, source_of, sources-are, target_of, targets-are}
@@ -37,10 +37,10 @@ prefix-refl a = ([], append-nil a)
 pub prefix-trans : {X : Type 0} (a b c : List X) → IsPrefix a b → IsPrefix b c → IsPrefix a c
 prefix-trans a b c p q = (p.0 ++ q.0, sym (append_assoc a p.0 q.0) ∙ ap (λ l. l ++ q.0) p.1 ∙ q.1)
 
-pub kept-refl : (c : Cell) → IsLawful c → IsKept c c
+pub kept-refl : (c : Cell) → IsLawful c → StaysLawful c c
 kept-refl c lawful = record { lawful = lawful; tag = refl; history = prefix-refl (history_of c) }
 
-pub kept-trans : (a b c : Cell) → IsKept a b → IsKept b c → IsKept a c
+pub kept-trans : (a b c : Cell) → StaysLawful a b → StaysLawful b c → StaysLawful a c
 kept-trans a b c p q = record { lawful = q.lawful; tag = q.tag ∙ p.tag; history = prefix-trans (history_of a) (history_of b) (history_of c) p.history q.history }
 
 -- ---- what lawfulness says of the state
@@ -107,7 +107,7 @@ module _ (c after : Cell) (k : ℕ) (w : Inward) (l : LinkOut) (lawful : IsLawfu
   links = λ i. record { inward = tags i; outward = map outward_tag (outward i) }
 
   -- it showed nothing, or its message was refused
-  pub looked : held_in after ≡ held_in c → received l ≡ received w.link → IsKept c after
+  pub looked : held_in after ≡ held_in c → received l ≡ received w.link → StaysLawful c after
   looked same took =
       let tag : cell_tag after ≡ cell_tag c = λ i. record {
         sorts = (same i).setting.sorts;
@@ -129,7 +129,7 @@ module _ (c after : Cell) (k : ℕ) (w : Inward) (l : LinkOut) (lawful : IsLawfu
       }
 
   -- its message was taken
-  pub brought : Brings w.source (held_in c) (held_in after) w.link l → IsKept c after
+  pub brought : Brings w.source (held_in c) (held_in after) w.link l → StaysLawful c after
   brought b =
       let state : State = (fair_step (held_in c).setting (held_in c).state w.source b.message.message b.message.stamp).0 in
       let size : Sized (feeds_in c) (actors_in c) state.late = sized (feeds_in c) (actors_in c) (held_in c).setting ((w.source, b.message) ∷ []) (held_in c).state (refl, refl) in
@@ -183,7 +183,7 @@ module _ (c after : Cell) (k : ℕ) (w : Outward) (l : LinkIn) (lawful : IsLawfu
           let apart : ¬ (target ≡ w.target) = λ same. let clash : true ≡ false = sym (is-itself w.target) ∙ ap (λ (t : ℕ). t == w.target) (sym same) ∙ e in cc in
           (λ i. sent-other c.outward.items k w l target here within apart i ++ moves.others target apart i) ∙ lawful.posted target lt
 
-  pub sent-kept : IsKept c after
+  pub sent-kept : StaysLawful c after
   sent-kept =
       let tags : map outward_tag after.outward.items ≡ map outward_tag c.outward.items = ap (map outward_tag) outward ∙ outward-set c.outward.items k w l within here moves.identity in
       let tag : cell_tag after ≡ cell_tag c = λ i. record {

@@ -5,7 +5,7 @@ use Rattle.std.proofs.lemmas.List.{length-map}
 use Rattle.actor_cells.specs.declared.cell.Cell.{Cell}
 use Rattle.actor_cells.specs.declared.cell.LinkTally.{LinkTally}
 use Rattle.actor_cells.specs.Lawful.{IsLawful, link_tally, tally_of}
-use Rattle.actor_cells.specs.Served.{IsKept, LooksRose, all_received}
+use Rattle.actor_cells.specs.Served.{StaysLawful, LooksRose, all_received}
 use Rattle.actor_cells.specs.Steps.{LooksStay, TakesMany, changed_at, looked_first, one_look, one_received}
 use Rattle.actor_cells.proofs.CellLemmas.{kept-refl, kept-trans, prefix-refl}
 use Rattle.actor_cells.proofs.TallyLemmas.{length-changed, looked-all, looked-more, received-look, received-one, stay-look, stay-received, stay-refl, stay-trans}
@@ -60,14 +60,14 @@ tally-within c place l = let a = length-map c.inward.items link_tally in omega (
 
 -- ---- posts to itself, so many of which were taken from the link at a place
 pub record Own (c now : Cell) (place taken : ℕ) : Type 0 where
-  pub kept : IsKept c now
+  pub kept : StaysLawful c now
   pub takes : TakesMany (tally_of c) (tally_of now) taken
   pub within : place < length now.inward.items
 
 pub own-first : (c : Cell) (place : ℕ) → IsLawful c → place < length c.inward.items → Own c c place 0
 own-first c place lawful within = record { kept = kept-refl c lawful; takes = takes-none (tally_of c); within = within }
 
-pub own-more : (c now next : Cell) (place taken : ℕ) → Own c now place taken → IsKept now next → tally_of next ≡ changed_at one_received (tally_of now) place → Own c next place (taken + 1)
+pub own-more : (c now next : Cell) (place taken : ℕ) → Own c now place taken → StaysLawful now next → tally_of next ≡ changed_at one_received (tally_of now) place → Own c next place (taken + 1)
 own-more c now next place taken o kept is =
     let one = takes-one (tally_of now) (tally_of next) place (tally-within now place o.within) is in
     let a = length-map now.inward.items link_tally in
@@ -88,7 +88,7 @@ own-end c now next place taken o is =
 
 -- the first links of a round were looked at, and so many messages were taken
 pub record Round (c now : Cell) (most place taken : ℕ) : Type 0 where
-  pub kept : IsKept c now
+  pub kept : StaysLawful c now
   pub few : taken ≤ most
   pub takes : TakesMany (tally_of c) (tally_of now) taken
   pub none : taken ≡ 0 → tally_of now ≡ looked_first place (tally_of c)
@@ -96,7 +96,7 @@ pub record Round (c now : Cell) (most place taken : ℕ) : Type 0 where
 pub round-first : (c : Cell) (most : ℕ) → IsLawful c → Round c c most 0 0
 round-first c most lawful = record { kept = kept-refl c lawful; few = omega arith; takes = takes-none (tally_of c); none = λ e. refl }
 
-pub round-more : (c now next : Cell) (most place taken more : ℕ) → Round c now most place taken → place < length (tally_of now) → taken + more ≤ most → IsKept now next
+pub round-more : (c now next : Cell) (most place taken more : ℕ) → Round c now most place taken → place < length (tally_of now) → taken + more ≤ most → StaysLawful now next
     → TakesMany (tally_of now) (tally_of next) more → (more ≡ 0 → tally_of next ≡ changed_at one_look (tally_of now) place) → Round c next most (place + 1) (taken + more)
 round-more c now next most place taken more r within few kept takes none =
     let count = r.takes.count in
@@ -124,7 +124,7 @@ place-within c now most place taken r l =
 
 -- ---- the same cell with other notes
 
-pub noted-kept : (c : Cell) (moved held : List Bool) → IsLawful c → IsKept c (record c { moved = moved; held = held })
+pub noted-kept : (c : Cell) (moved held : List Bool) → IsLawful c → StaysLawful c (record c { moved = moved; held = held })
 noted-kept c moved held l = record {
   lawful = record { tag = l.tag; outboxes = l.outboxes; in_order = l.in_order; late = l.late; fair = l.fair; posted = l.posted };
   tag = refl;

@@ -13,7 +13,7 @@ use Rattle.actor_cells.specs.declared.cell.CellTag.{CellTag}
 use Rattle.actor_cells.specs.declared.cells.Cells.{Cells}
 use Rattle.actor_cells.specs.declared.serving.Turned.{Turned}
 use Rattle.actor_cells.specs.Lawful.{held_in, tally_of}
-use Rattle.actor_cells.specs.Served.{IsKept, IsRefusing, Turns}
+use Rattle.actor_cells.specs.Served.{StaysLawful, IsRefusing, Turns}
 
 -- the cells of a list, in order
 abbrev pub cells_of : Cells → List Cell
@@ -47,6 +47,6 @@ pub record IsServedAt (place : ℕ) (old now : List Cell) (result : Result Turne
   pub after : Cell
   pub here : slice_get old place ≡ Some before
   pub only : now ≡ slice_set old place after
-  pub kept : IsKept before after
+  pub kept : StaysLawful before after
   pub turned : IfOk result (Turns (tally_of before) (tally_of after))
   pub refused : OnErr result (IsRefusing after)

@@ -12,7 +12,7 @@ use Rattle.actor_cells.specs.declared.serving.Turned.TheVariants as turned
 use Rattle.actor_cells.specs.Lawful.{IsLawful, cell_tag, held_in, history_of, state_in}
 
 -- the cell is lawful as before, with its tag, and its history goes on from what it was
-pub record IsKept (before after : Cell) : Type 0 where
+pub record StaysLawful (before after : Cell) : Type 0 where
   pub lawful : IsLawful after
   pub tag : cell_tag after ≡ cell_tag before
   pub history : IsPrefix (history_of before) (history_of after)

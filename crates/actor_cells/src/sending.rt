@@ -2,7 +2,7 @@
 ghost use Rattle.std.specs.Prelude.{◌≡◌, ◌<◌, true, if◌then◌else◌, length, set};
 ghost use Rattle.actor_turn.specs.Held.{posts_for};
 ghost use Rattle.actor_cells.specs.Lawful.{IsLawful, state_in};
-ghost use Rattle.actor_cells.specs.Served.{IsKept};
+ghost use Rattle.actor_cells.specs.Served.{StaysLawful};
 ghost use Rattle.actor_cells.specs.Steps.{AreSmall, Moves};
 
 use crate::actor_set::ActorSet;
@@ -63,7 +63,7 @@ impl Cell {
     fn send_at(&mut self, place: usize) -> Sent
         requires within { place < length self.old.outward.items }
         requires lawful { IsLawful self.old }
-        ensures kept { IsKept self.old self.new }
+        ensures kept { StaysLawful self.old self.new }
         ensures inward { self.new.inward ≡ self.old.inward }
         ensures state { state_in self.new ≡ state_in self.old }
         ensures count { length self.new.outward.items ≡ length self.old.outward.items }
@@ -75,7 +75,7 @@ impl Cell {
     /// Notes what was moved and what is left.
     pub(crate) fn note(&mut self, moved: ActorSet, held: ActorSet)
         requires lawful { IsLawful self.old }
-        ensures kept { IsKept self.old self.new }
+        ensures kept { StaysLawful self.old self.new }
         ensures inward { self.new.inward ≡ self.old.inward }
         ensures state { state_in self.new ≡ state_in self.old }
     {
@@ -86,7 +86,7 @@ impl Cell {
     // Moves posts from the outboxes to their links as far as room is known, and notes it beside what was moved before.
     fn send(&mut self)
         requires lawful { IsLawful self.old }
-        ensures kept { IsKept self.old self.new }
+        ensures kept { StaysLawful self.old self.new }
         ensures inward { self.new.inward ≡ self.old.inward }
         ensures state { state_in self.new ≡ state_in self.old }
     {
@@ -105,7 +105,7 @@ impl Cell {
     #[inline(always)]
     pub(crate) fn send_rest(&mut self, fired: bool)
         requires lawful { IsLawful self.old }
-        ensures kept { IsKept self.old self.new }
+        ensures kept { StaysLawful self.old self.new }
         ensures inward { self.new.inward ≡ self.old.inward }
         ensures state { state_in self.new ≡ state_in self.old }
     {

@@ -2,7 +2,7 @@
 ghost use Rattle.std.specs.Prelude.{◌≡◌, ◌<◌, ◌≤◌, length, IfOk, OnErr, OnOk, MatchBool, MatchOption};
 ghost use Rattle.join_base.specs.Late.{HasCount};
 ghost use Rattle.actor_cells.specs.Lawful.{IsLawful, tally_of};
-ghost use Rattle.actor_cells.specs.Served.{IsKept, IsRefusing, LooksRose, Turns};
+ghost use Rattle.actor_cells.specs.Served.{StaysLawful, IsRefusing, LooksRose, Turns};
 ghost use Rattle.actor_cells.specs.Steps.{Brings, FindsNone, Refuses, TakesMany, changed_at, one_look, one_received};
 
 use crate::actor_set::ActorSet;
@@ -67,7 +67,7 @@ impl Cell {
     ) -> Result<Option<Outcome>, NoMemory>
         requires within { place < length self.old.inward.items }
         requires lawful { IsLawful self.old }
-        ensures kept { IsKept self.old self.new }
+        ensures kept { StaysLawful self.old self.new }
         ensures tally { IfOk result (λ found. MatchOption found (tally_of self.new ≡ changed_at one_look (tally_of self.old) place) (λ outcome. tally_of self.new ≡ changed_at one_received (tally_of self.old) place)) }
         ensures refused { OnErr result (IsRefusing self.new) }
     {
@@ -87,7 +87,7 @@ impl Cell {
     ) -> Result<bool, NoMemory>
         requires within { place < length self.old.inward.items }
         requires lawful { IsLawful self.old }
-        ensures kept { IsKept self.old self.new }
+        ensures kept { StaysLawful self.old self.new }
         ensures tally { IfOk result (λ found. MatchBool found (tally_of self.new ≡ changed_at one_received (tally_of self.old) place) (tally_of self.new ≡ changed_at one_look (tally_of self.old) place)) }
         ensures refused { OnErr result (IsRefusing self.new) }
     {
@@ -106,7 +106,7 @@ impl Cell {
         steps: &mut Steps<L>,
     ) -> Result<u32, NoMemory>
         requires lawful { IsLawful self.old }
-        ensures kept { IsKept self.old self.new }
+        ensures kept { StaysLawful self.old self.new }
         ensures few { IfOk result (λ taken. taken ≤ most) }
         ensures row { IfOk result (λ taken. taken ≤ 64) }
         ensures taken { IfOk result (λ taken. TakesMany (tally_of self.old) (tally_of self.new) taken) }
@@ -136,7 +136,7 @@ impl Cell {
         requires some { 1 ≤ most }
         requires within { place < length self.old.inward.items }
         requires lawful { IsLawful self.old }
-        ensures kept { IsKept self.old self.new }
+        ensures kept { StaysLawful self.old self.new }
         ensures few { IfOk result (λ taken. taken ≤ most) }
         ensures taken { IfOk result (λ taken. TakesMany (tally_of self.old) (tally_of self.new) taken) }
         ensures none { IfOk result (λ taken. taken ≡ 0 → tally_of self.new ≡ changed_at one_look (tally_of self.old) place) }
@@ -159,7 +159,7 @@ impl Cell {
     ) -> Result<u32, NoMemory>
         requires some { 1 ≤ most }
         requires lawful { IsLawful self.old }
-        ensures kept { IsKept self.old self.new }
+        ensures kept { StaysLawful self.old self.new }
         ensures few { IfOk result (λ taken. taken ≤ most) }
         ensures taken { IfOk result (λ taken. TakesMany (tally_of self.old) (tally_of self.new) taken) }
         ensures none { IfOk result (λ taken. taken ≡ 0 → LooksRose (tally_of self.old) (tally_of self.new)) }
@@ -182,7 +182,7 @@ impl Cell {
         steps: &mut Steps<L>,
     ) -> Result<Turned, NoMemory>
         requires lawful { IsLawful self.old }
-        ensures kept { IsKept self.old self.new }
+        ensures kept { StaysLawful self.old self.new }
         ensures turned { IfOk result (Turns (tally_of self.old) (tally_of self.new)) }
         ensures refused { OnErr result (IsRefusing self.new) }
     {
@@ -212,7 +212,7 @@ impl Cell {
         steps: &mut Steps<L>,
     ) -> Result<Turned, NoMemory>
         requires lawful { IsLawful self.old }
-        ensures kept { IsKept self.old self.new }
+        ensures kept { StaysLawful self.old self.new }
         ensures turned { IfOk result (Turns (tally_of self.old) (tally_of self.new)) }
         ensures refused { OnErr result (IsRefusing self.new) }
     {

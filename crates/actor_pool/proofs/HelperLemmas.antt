@@ -13,7 +13,7 @@ use Rattle.turn_lock.specs.Seats.{view_of, IsSameSeat}
 use Rattle.ready_queue.specs.Passes.{view_of as pass_view, IsSamePass}
 use Rattle.actor_cells.specs.declared.cell.Cell.{Cell}
 use Rattle.actor_cells.specs.Lawful.{IsLawful, cell_tag, history_of, tally_of}
-use Rattle.actor_cells.specs.Served.{IsKept}
+use Rattle.actor_cells.specs.Served.{StaysLawful}
 use Rattle.actor_pool.specs.declared.helper.Helper.{Helper}
 use Rattle.actor_pool.specs.declared.pool.Pool.{Pool}
 use Rattle.actor_pool.specs.Turning.{HadTurn}
@@ -64,7 +64,7 @@ turn-done i v w1 w c d word got kept back =
       left_is = ap (λ (x : SeatView). x.left) is;
     }
 
-pub turn-went : (i k : ℕ) (v w1 w : SeatView) (c c0 d : Cell) (word : ℕ) → k ≡ i → c0 ≡ c → Gets cell_tag IsLawful history_of tally_of i v c w1 → IsKept c0 d
+pub turn-went : (i k : ℕ) (v w1 w : SeatView) (c c0 d : Cell) (word : ℕ) → k ≡ i → c0 ≡ c → Gets cell_tag IsLawful history_of tally_of i v c w1 → StaysLawful c0 d
     → GivesBack history_of tally_of k w1 d word w → Went i c d v w
 turn-went i k v w1 w c c0 d word at here got kept back =
     turn-done i v w1 w c d word got (subst (λ (x : Cell). IsPrefix (history_of x) (history_of d)) here kept.history) (subst (λ (m : ℕ). GivesBack history_of tally_of m w1 d word w) at back)

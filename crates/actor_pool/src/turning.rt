@@ -1,7 +1,7 @@
 //! A turn: what waits on the links of an actor is brought to it.
 ghost use Rattle.std.specs.Prelude.{◌≡◌, ◌<◌, IfOk, IfErr};
 ghost use Rattle.actor_cells.specs.Lawful.{IsLawful, tally_of};
-ghost use Rattle.actor_cells.specs.Served.{IsKept, Turns};
+ghost use Rattle.actor_cells.specs.Served.{StaysLawful, Turns};
 ghost use Rattle.actor_pool.specs.Helpers.{IsHelperOf, GoesOn, seat_of, pass_of, actor_count};
 ghost use Rattle.actor_pool.specs.Turning.{ServedTurn, Faulted};
 
@@ -30,7 +30,7 @@ fn serve_noted<L: Ledger>(
     steps: &mut Steps<L>,
 ) -> Result<Turned, NoMemory>
     requires lawful { IsLawful cell.old }
-    ensures kept { IsKept cell.old cell.new }
+    ensures kept { StaysLawful cell.old cell.new }
     ensures turned { IfOk result (Turns (tally_of cell.old) (tally_of cell.new)) }
 {
     let served = cell.serve(alloc, steps);

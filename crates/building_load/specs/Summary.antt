@@ -15,15 +15,15 @@ abbrev pub firing_count : List Entry → ℕ
 firing_count entries = count_by (λ (entry : Entry). is_some entry.firing) entries
 
 -- how many messages were late, over all sources
-abbrev pub late_count : List (Source × ℕ) → ℕ
-late_count late = sum_by (λ (l : Source × ℕ). l.1) late
+abbrev pub late_total : List (Source × ℕ) → ℕ
+late_total late = sum_by (λ (l : Source × ℕ). l.1) late
 
 -- ` arrivals N firings N late N left N partials N`
 abbrev pub counts_text : ActorRun → List ℕ
 counts_text own =
     codes " arrivals " ++ (decimal (length own.entries)
     ++ (codes " firings " ++ (decimal (firing_count own.entries)
-    ++ (codes " late " ++ (decimal (late_count own.late)
+    ++ (codes " late " ++ (decimal (late_total own.late)
     ++ (codes " left " ++ (decimal (length own.left)
     ++ (codes " partials " ++ decimal own.partials))))))))
 

@@ -1,7 +1,7 @@
 //! What a run came to.
 ghost use Rattle.std.specs.Prelude.{◌≡◌, ◌++◌, length, OnOk, OnErr};
 ghost use Rattle.std.specs.Fmt.{decimal};
-ghost use Rattle.building_load.specs.Summary.{actor_line, actor_lines, counts_text, firing_count, late_count, summary_text};
+ghost use Rattle.building_load.specs.Summary.{actor_line, actor_lines, counts_text, firing_count, late_total, summary_text};
 
 use fair_semantics::{ActorRun, Entry, Run};
 use join_base::{Bytes, NoMemory, Source};
@@ -36,8 +36,8 @@ fn firing_count(entries: &[Entry]) -> usize
 }
 
 // How many messages were late.
-fn late_count(late: &[(Source, u64)]) -> u128
-    ensures { result ≡ late_count late.now }
+fn late_total(late: &[(Source, u64)]) -> u128
+    ensures { result ≡ late_total late.now }
 {
     let mut total: u128 = 0;
     for (_, count) in late {
@@ -52,7 +52,7 @@ fn write_counts(alloc: Global, text: &mut Bytes, run: &ActorRun) -> Result<(), N
 {
     let entries = run.entries.as_slice();
     let firings = firing_count(entries);
-    let late = late_count(run.late.as_slice());
+    let late = late_total(run.late.as_slice());
     write_labelled(alloc, text, b" arrivals ", entries.len() as u128)?;
     write_labelled(alloc, text, b" firings ", firings as u128)?;
     write_labelled(alloc, text, b" late ", late)?;

@@ -12,7 +12,7 @@ use Rattle.join_base.specs.declared.message.Stamped.{Stamped}
 use Rattle.fair_semantics.specs.declared.run.Entry.{Entry}
 use Rattle.fair_semantics.specs.Fair.{Sent}
 use Rattle.fair_semantics.specs.Linked.{arrived, arrived_after, same_source, stamp_at, taken_from}
-use Rattle.log_posts.specs.Posts.{with_stamp}
+use Rattle.log_posts.specs.Posts.{stamped_anew}
 use Rattle.log_posts.specs.Stamps.{link_at, links_after, next_stamp, posts_from, stamps_behind, with_stamps}
 
 -- ---- a post that was taken from its link
@@ -94,9 +94,9 @@ stamps_next links later before stamp carried entries i e done next whole l is by
 
 pub stamped_more : (stamps : List ℕ) (rows initial : List Entry) (place : ℕ) (e : Entry) → place < length rows → place < length stamps → e ≡ get_or rows place e
     → take place rows ++ with_stamps (drop place stamps) (drop place rows) ≡ with_stamps stamps initial
-    → take (place + 1) (slice_set rows place (with_stamp e (slice_index stamps place))) ++ with_stamps (drop (place + 1) stamps) (drop (place + 1) (slice_set rows place (with_stamp e (slice_index stamps place)))) ≡ with_stamps stamps initial
+    → take (place + 1) (slice_set rows place (stamped_anew e (slice_index stamps place))) ++ with_stamps (drop (place + 1) stamps) (drop (place + 1) (slice_set rows place (stamped_anew e (slice_index stamps place)))) ≡ with_stamps stamps initial
 stamped_more stamps rows initial place e l m is left =
-    let new : Entry = with_stamp e (slice_index stamps place) in
+    let new : Entry = stamped_anew e (slice_index stamps place) in
     let stamp_here : drop place stamps ≡ slice_index stamps place ∷ drop (place + 1) stamps = drop_more stamps place 0 m in
     let row_here : drop place rows ≡ e ∷ drop (place + 1) rows = drop_more rows place e l ∙ ap (λ (x : Entry). x ∷ drop (place + 1) rows) (sym is) in
     let rest : List Entry = with_stamps (drop (place + 1) stamps) (drop (place + 1) rows) in

@@ -7,7 +7,7 @@ use Rattle.join_base.specs.declared.message.Stamped.{Stamped}
 use Rattle.fair_semantics.specs.declared.run.Entry.{Entry}
 use Rattle.fair_semantics.specs.Fair.{Sent}
 use Rattle.fair_semantics.specs.Linked.{arrived}
-use Rattle.log_posts.specs.Posts.{with_stamp}
+use Rattle.log_posts.specs.Posts.{stamped_anew}
 
 -- 1 more than the greater of the stamp before and the one that the arrival carries, or 1 where no stamp is left
 abbrev pub next_stamp : ℕ → ℕ → ℕ
@@ -47,4 +47,4 @@ stamps_in version links entries = if version == 1 then replicate (length entries
 abbrev pub with_stamps : List ℕ → List Entry → List Entry
 with_stamps [] entries = entries
 with_stamps (stamp ∷ stamps) [] = []
-with_stamps (stamp ∷ stamps) (entry ∷ entries) = with_stamp entry stamp ∷ with_stamps stamps entries
+with_stamps (stamp ∷ stamps) (entry ∷ entries) = stamped_anew entry stamp ∷ with_stamps stamps entries

@@ -2,7 +2,7 @@
 ghost use Rattle.std.specs.Prelude.{◌≡◌, ◌∷◌, [], ◌++◌, drop, slice_get, MatchOption};
 ghost use Rattle.std.specs.List.{filter_map};
 ghost use Rattle.fair_semantics.specs.Linked.{effect_for, firing_effects};
-ghost use Rattle.log_posts.specs.Posts.{has_message, line_stamp, posts_made};
+ghost use Rattle.log_posts.specs.Posts.{has_message, line_stamp, link_posts};
 
 use crate::same::same_message;
 use fair_semantics::{Effect, Entry, Fired};
@@ -119,17 +119,17 @@ impl<'a> Model for Link<'a> {
     ghost use Rattle.std.specs.List.{filter_map};
     ghost use Rattle.join_base.specs.declared.message.Stamped.{Stamped};
     ghost use Rattle.fair_semantics.specs.Linked.{effect_for};
-    ghost use Rattle.log_posts.specs.Posts.{posts_made};
+    ghost use Rattle.log_posts.specs.Posts.{link_posts};
 
     ghost Value = { List Stamped };
 
-    ghost view = { λ l. filter_map (effect_for l.to l.stamp) l.effects.now ++ posts_made l.to l.made.now l.lines.now };
+    ghost view = { λ l. filter_map (effect_for l.to l.stamp) l.effects.now ++ link_posts l.to l.made.now l.lines.now };
 }
 
 impl<'a> Link<'a> {
     /// The posts to an actor by the entries that were made, with the lines that were read.
     pub fn new(to: u32, made: &'a [Entry], lines: &'a [Entry]) -> Link<'a>
-        ensures { result ≡ posts_made to made.now lines.now }
+        ensures { result ≡ link_posts to made.now lines.now }
     {
         Link {
             to,
@@ -177,7 +177,7 @@ impl<'a> Link<'a> {
 
 // The first post to an actor by the entries that were made, and those behind it.
 fn first_made<'a>(to: u32, made: &'a [Entry], lines: &'a [Entry]) -> Option<(Posted<'a>, Link<'a>)>
-    ensures { MatchOption result (posts_made to made.now lines.now ≡ []) (λ p. posts_made to made.now lines.now ≡ p.0 ∷ p.1) }
+    ensures { MatchOption result (link_posts to made.now lines.now ≡ []) (λ p. link_posts to made.now lines.now ≡ p.0 ∷ p.1) }
 {
     for (place, entry) in made.iter().enumerate() {
         let stamp = line_stamp(lines, place, entry);

@@ -20,7 +20,7 @@ use Rattle.fair_semantics.proofs.ListLemmas.{each_append}
 use Rattle.arrival_log.specs.LogText.{end_line, late_line}
 use Rattle.run_order.specs.Sorted.{entries_in}
 use Rattle.log_replay.specs.Expected.{expected_posts, expected_run, read_entries}
-use Rattle.log_replay.specs.Fault.{Line, IsPosted, Keeps, LacksNone, ends, entries_lines, entry_lines, firing_texts, lines_of, other_line, section_lines, sections_from, texts_of}
+use Rattle.log_replay.specs.Fault.{Line, IsPosted, Keeps, LacksNone, ends, entries_lines, lines_of_entry, firing_texts, lines_of, other_line, section_lines, sections_from, texts_of}
 use Rattle.log_replay.specs.Law.{AllPostsFit, LinkedIsAccepted, LinkedIsExpected}
 use Rattle.log_replay.proofs.SizeLemmas.{contains_actor}
 use Rattle.log_replay.proofs.ActorLemmas.{expected_is}
@@ -85,7 +85,7 @@ module _ (plan : Plan) (run : Run) where
   entries_keep : (actor : ℕ) (earlier entries : List Entry) → ((first more : List Entry) (entry : Entry) → earlier ++ entries ≡ first ++ entry ∷ more → IsPosted plan run actor first entry) → AllByRecursion Kept (entries_lines plan run.version actor earlier entries)
   entries_keep actor earlier [] h = tt
   entries_keep actor earlier (e ∷ entries) h =
-      each_append Kept (entry_lines plan run.version actor earlier e) (entries_lines plan run.version actor (earlier ++ e ∷ []) entries)
+      each_append Kept (lines_of_entry plan run.version actor earlier e) (entries_lines plan run.version actor (earlier ++ e ∷ []) entries)
       (h earlier entries e refl, each_mapped Kept other_line (λ t. tt) (firing_texts plan e.firing))
       (entries_keep actor (earlier ++ e ∷ []) entries (λ first more entry is. h first more entry (sym (append_assoc earlier (e ∷ []) entries) ∙ is)))
 

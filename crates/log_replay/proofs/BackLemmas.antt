@@ -11,7 +11,7 @@ use Rattle.fair_semantics.specs.declared.run.Run.{Run}
 use Rattle.arrival_log.specs.LogText.{end_line, late_line}
 use Rattle.fair_semantics.proofs.ListLemmas.{each_left, each_right}
 use Rattle.log_replay.specs.Expected.{expected_run}
-use Rattle.log_replay.specs.Fault.{Line, IsAccepted, IsPosted, ends, entries_lines, entry_lines, lines_of, other_line, section_lines, sections_from, texts_of}
+use Rattle.log_replay.specs.Fault.{Line, IsAccepted, IsPosted, ends, entries_lines, lines_of_entry, lines_of, other_line, section_lines, sections_from, texts_of}
 use Rattle.log_replay.specs.Law.{AcceptedHasOneText, ExpectedIsLinked}
 use Rattle.log_replay.proofs.LineLemmas.{lines_are_text}
 use Rattle.log_replay.proofs.AcceptedLemmas.{Kept, SectionKeeps}
@@ -42,7 +42,7 @@ module _ (plan : Plan) (run : Run) where
   posted_from actor earlier (x ∷ entries) h (y ∷ first) more entry e =
       let same : x ≡ y = cc in
       let later : entries ≡ first ++ entry ∷ more = cc in
-      let rest = each_right (Kept plan run) (entry_lines plan run.version actor earlier x) (entries_lines plan run.version actor (earlier ++ x ∷ []) entries) h in
+      let rest = each_right (Kept plan run) (lines_of_entry plan run.version actor earlier x) (entries_lines plan run.version actor (earlier ++ x ∷ []) entries) h in
       let at = posted_from actor (earlier ++ x ∷ []) entries rest first more entry later in
       subst (λ (es : List Entry). IsPosted plan run actor es entry) (append_assoc earlier (x ∷ []) first ∙ ap (λ (z : Entry). earlier ++ z ∷ first) same) at
 

@@ -27,7 +27,7 @@ use Rattle.log_replay.specs.declared.handed.Remade.{Remade}
 use Rattle.log_replay.specs.declared.shared.Replayed.{Replayed}
 use Rattle.log_replay.specs.declared.shared.Shared.{Shared}
 use Rattle.run_order.specs.Sorted.{entries_in}
-use Rattle.log_posts.specs.Posts.{with_stamp}
+use Rattle.log_posts.specs.Posts.{stamped_anew}
 use Rattle.log_replay.specs.Expected.{bare, read_entries, with_entries}
 use Rattle.log_replay.specs.Handed.{AreCounted, IsHanded, IsMade, IsRemade, fired_as, is_recorded, kept_from, kept_of}
 use Rattle.log_reader.specs.Log.{IsLogOf}
@@ -68,7 +68,7 @@ last_fired (e ∷ entries) entry = last_fired entries entry
 
 -- an arrival that was recorded with its number and firing is as it was read, but for its stamp
 pub as_read : (setting : Setting) (state next : State) (entry : Entry) (before : ℕ) (same : Bool) → next ≡ (fair_step setting state entry.source entry.message 0).0 → before ≡ length state.entries → same ≡ is_recorded next.entries before entry.number entry.firing → same ≡ true
-    → next.entries ≡ state.entries ++ with_stamp entry (max (latest_stamp state.entries) 0 + 1) ∷ []
+    → next.entries ≡ state.entries ++ stamped_anew entry (max (latest_stamp state.entries) 0 + 1) ∷ []
 as_read setting state next entry before same is count by_same good =
     let fired : Bool = fired_as (slice_get (map (λ (e : Entry). e.firing) next.entries) before) entry.firing in
     let parts = and_parts (nat_lt before entry.number) (length next.entries == entry.number && fired) (sym by_same ∙ good) in
@@ -90,11 +90,11 @@ as_read setting state next entry before same is count by_same good =
 
 -- ---- the walk of an actor
 
-stamps_push : (stamps : List ℕ) (entries : List Entry) (stamp : ℕ) (entry : Entry) → length stamps ≡ length entries → with_stamps (stamps ++ stamp ∷ []) (entries ++ entry ∷ []) ≡ with_stamps stamps entries ++ with_stamp entry stamp ∷ []
+stamps_push : (stamps : List ℕ) (entries : List Entry) (stamp : ℕ) (entry : Entry) → length stamps ≡ length entries → with_stamps (stamps ++ stamp ∷ []) (entries ++ entry ∷ []) ≡ with_stamps stamps entries ++ stamped_anew entry stamp ∷ []
 stamps_push [] [] stamp entry e = refl
 stamps_push [] (x ∷ entries) stamp entry e = absurd (omega (arith, e))
 stamps_push (s ∷ stamps) [] stamp entry e = absurd (omega (arith, e))
-stamps_push (s ∷ stamps) (x ∷ entries) stamp entry e = ap (λ (es : List Entry). with_stamp x s ∷ es) (stamps_push stamps entries stamp entry (omega (arith, e)))
+stamps_push (s ∷ stamps) (x ∷ entries) stamp entry e = ap (λ (es : List Entry). stamped_anew x s ∷ es) (stamps_push stamps entries stamp entry (omega (arith, e)))
 
 -- what is left of it, where what it recorded is what was read
 pub record Walks (plan : Plan) (limits : Limits) (feeds index : ℕ) (actor : Held) (stamps : List ℕ) (rest whole : List Entry) : Type 0 where
@@ -115,10 +115,10 @@ walks_first plan limits feeds index actor stamps rest whole is none all counted 
 
 pub walks_on : (plan : Plan) (limits : Limits) (feeds index : ℕ) (actor next : Held) (stamps more : List ℕ) (before rest whole : List Entry) (entry : Entry) → Walks plan limits feeds index actor stamps before whole → before ≡ entry ∷ rest
     → next.state ≡ (fair_step actor.setting actor.state entry.source entry.message 0).0 → next.setting ≡ actor.setting → ((other : Source) → HasCount actor.state.late other → HasCount next.state.late other) → length next.outbox ≡ length plan.actors
-    → next.state.entries ≡ actor.state.entries ++ with_stamp entry (max (latest_stamp actor.state.entries) 0 + 1) ∷ [] → more ≡ stamps ++ entry.stamp ∷ [] → Walks plan limits feeds index next more rest whole
+    → next.state.entries ≡ actor.state.entries ++ stamped_anew entry (max (latest_stamp actor.state.entries) 0 + 1) ∷ [] → more ≡ stamps ++ entry.stamp ∷ [] → Walks plan limits feeds index next more rest whole
 walks_on plan limits feeds index actor next stamps more before rest whole entry h here state same keeps boxes recorded push =
     let counted = (subst (AllByRecursion (λ (e : Entry). HasCount actor.state.late e.source)) here h.counted).1 in
-    let own : Entry = with_stamp entry (max (latest_stamp actor.state.entries) 0 + 1) in
+    let own : Entry = stamped_anew entry (max (latest_stamp actor.state.entries) 0 + 1) in
     let pushed : with_stamps more next.state.entries ≡ with_stamps stamps actor.state.entries ++ entry ∷ [] =
     (λ i. with_stamps (push i) (recorded i)) ∙ stamps_push stamps actor.state.entries entry.stamp own h.many in
     record {
@@ -145,7 +145,7 @@ source_itself : (source : Source) → same_source source source ≡ true
 source_itself (Feed k) = itself k
 source_itself (Actor a) = itself a
 
-stamped_itself : (e : Entry) (stamp : ℕ) → same_entry e (with_stamp e stamp) ≡ true
+stamped_itself : (e : Entry) (stamp : ℕ) → same_entry e (stamped_anew e stamp) ≡ true
 stamped_itself e stamp = λ i. ((itself e.number i && source_itself e.source i) && message_itself e.message i) && fired_itself e.firing i
 
 stamped_themselves : (stamps : List ℕ) (es : List Entry) → same_entries es (with_stamps stamps es) ≡ true

@@ -19,7 +19,7 @@ use Rattle.fair_semantics.specs.Linked.{message_from, messages_of, same_source, 
 use Rattle.fair_semantics.specs.Step.{is_running}
 use Rattle.arrival_log.specs.LogText.{effect_line, end_line, late_line}
 use Rattle.log_replay.specs.Expected.{expected_actor, expected_posts, read_entries}
-use Rattle.log_replay.specs.Fault.{Line, Mark, arrives, ends, entries_lines, entry_lines, firing_texts, other, other_line}
+use Rattle.log_replay.specs.Fault.{Line, Mark, arrives, ends, entries_lines, lines_of_entry, firing_texts, other, other_line}
 use Rattle.log_posts.specs.Posts.{has_message}
 use Rattle.log_posts.specs.Same.{same_message}
 use Rattle.log_replay.specs.Kept.{entry_size, firing_size, link_fault}
@@ -137,24 +137,24 @@ module _ (plan : Plan) (run : Run) where
           rest : List Line
           rest = entries_lines plan run.version to (before ++ e ∷ []) entries ++ last
 
-          lines : (entry_lines plan run.version to before e ++ entries_lines plan run.version to (before ++ e ∷ []) entries) ++ last ≡ entry_lines plan run.version to before e ++ rest
-          lines = append_assoc (entry_lines plan run.version to before e) (entries_lines plan run.version to (before ++ e ∷ []) entries) last
+          lines : (lines_of_entry plan run.version to before e ++ entries_lines plan run.version to (before ++ e ∷ []) entries) ++ last ≡ lines_of_entry plan run.version to before e ++ rest
+          lines = append_assoc (lines_of_entry plan run.version to before e) (entries_lines plan run.version to (before ++ e ∷ []) entries) last
 
-          size : line + length (entry_lines plan run.version to before e) ≡ line + entry_size e
+          size : line + length (lines_of_entry plan run.version to before e) ≡ line + entry_size e
           size = omega (arith, firing_count e.firing)
 
           next : (before ++ e ∷ []) ++ entries ≡ own.entries
           next = append_assoc before (e ∷ []) entries ∙ all
 
           -- where the arrival keeps what it says, by what is behind it
-          on : (o : Option ℕ) → LinkKeeps from (arrives to before e) → First (LinkLine from) (line + entry_size e) rest o → First (LinkLine from) line ((entry_lines plan run.version to before e ++ entries_lines plan run.version to (before ++ e ∷ []) entries) ++ last) o
+          on : (o : Option ℕ) → LinkKeeps from (arrives to before e) → First (LinkLine from) (line + entry_size e) rest o → First (LinkLine from) line ((lines_of_entry plan run.version to before e ++ entries_lines plan run.version to (before ++ e ∷ []) entries) ++ last) o
           on o keeps later =
               subst (λ (ls : List Line). First (LinkLine from) line ls o) (sym lines)
-              (first_behind (LinkLine from) line (entry_lines plan run.version to before e) rest o (keeps, others_keep from (firing_texts plan e.firing))
+              (first_behind (LinkLine from) line (lines_of_entry plan run.version to before e) rest o (keeps, others_keep from (firing_texts plan e.firing))
               (subst (λ (n : ℕ). First (LinkLine from) n rest o) (sym size) later))
 
           taken_by : (b : Bool) → has_message (slice_get posts taken) e.message ≡ b → same_source e.source (Actor from) ≡ true
-              → First (LinkLine from) line ((entry_lines plan run.version to before e ++ entries_lines plan run.version to (before ++ e ∷ []) entries) ++ last)
+              → First (LinkLine from) line ((lines_of_entry plan run.version to before e ++ entries_lines plan run.version to (before ++ e ∷ []) entries) ++ last)
               (if b then link_fault posts from runs (length own.late) (line + entry_size e) (taken + 1) entries else Some line)
           taken_by true h is =
               on (link_fault posts from runs (length own.late) (line + entry_size e) (taken + 1) entries)
@@ -169,7 +169,7 @@ module _ (plan : Plan) (run : Run) where
               )
 
           by : (b : Bool) → same_source e.source (Actor from) ≡ b
-              → First (LinkLine from) line ((entry_lines plan run.version to before e ++ entries_lines plan run.version to (before ++ e ∷ []) entries) ++ last)
+              → First (LinkLine from) line ((lines_of_entry plan run.version to before e ++ entries_lines plan run.version to (before ++ e ∷ []) entries) ++ last)
               (if b then (if has_message (slice_get posts taken) e.message then link_fault posts from runs (length own.late) (line + entry_size e) (taken + 1) entries else Some line)
               else link_fault posts from runs (length own.late) (line + entry_size e) taken entries)
           by true is = taken_by (has_message (slice_get posts taken) e.message) refl is

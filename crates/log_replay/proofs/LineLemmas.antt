@@ -12,7 +12,7 @@ use Rattle.fair_semantics.specs.declared.run.Firing.{Firing}
 use Rattle.fair_semantics.specs.declared.run.ActorRun.{ActorRun}
 use Rattle.arrival_log.specs.LogText.{actor_lines, arrival_line, effect_line, end_line, fire_line, firing_lines, head_line, late_line, line, log_text, sections}
 use Rattle.arrival_log.specs.LogText as text
-use Rattle.log_replay.specs.Fault.{Line, ends, entries_lines, entry_lines, firing_texts, other_line, section_lines, sections_from}
+use Rattle.log_replay.specs.Fault.{Line, ends, entries_lines, lines_of_entry, firing_texts, other_line, section_lines, sections_from}
 use Rattle.log_replay.specs.Law.{LinesAreText}
 
 abbrev shown : List Line → List ℕ
@@ -34,10 +34,10 @@ late_shown : (plan : Plan) (late : List (Source × ℕ)) → shown (map (λ l. o
 late_shown plan [] = refl
 late_shown plan (l ∷ late) = ap (λ (t : List ℕ). late_line plan l ++ t) (late_shown plan late)
 
-entries_shown : (plan : Plan) (version actor : ℕ) (before entries : List Entry) → shown (entries_lines plan version actor before entries) ≡ flat_map (text.entry_lines plan version) entries
+entries_shown : (plan : Plan) (version actor : ℕ) (before entries : List Entry) → shown (entries_lines plan version actor before entries) ≡ flat_map (text.lines_of_entry plan version) entries
 entries_shown plan version actor before [] = refl
 entries_shown plan version actor before (e ∷ entries) =
-    shown-append (entry_lines plan version actor before e) (entries_lines plan version actor (before ++ e ∷ []) entries)
+    shown-append (lines_of_entry plan version actor before e) (entries_lines plan version actor (before ++ e ∷ []) entries)
     ∙ (λ i. (arrival_line plan version e ++ firing_shown plan e.firing i) ++ entries_shown plan version actor (before ++ e ∷ []) entries i)
 
 section_shown : (plan : Plan) (version actor : ℕ) (named : ActorPlan) (own : ActorRun) → shown (section_lines plan version actor named own) ≡ actor_lines plan version named own

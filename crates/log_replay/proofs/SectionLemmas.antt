@@ -20,9 +20,9 @@ use Rattle.guard_eval.proofs.ReadyLemmas.{each_at}
 use Rattle.arrival_log.specs.LogText.{end_line, head_line, late_line, line as text_line}
 use Rattle.run_order.proofs.ArrivalLemmas.{length-arrived}
 use Rattle.run_order.specs.Sorted.{entries_in}
-use Rattle.log_posts.specs.Posts.{posts_made}
+use Rattle.log_posts.specs.Posts.{link_posts}
 use Rattle.log_replay.specs.Expected.{bare, expected_actor, expected_late, expected_posts, expected_run, read_entries, stamped_in, stamps_sent, stepped, unstamped_actor}
-use Rattle.log_replay.specs.Fault.{Keeps, Line, Mark, ends, entries_lines, entry_lines, firing_texts, lines_of, other_line, section_lines, sections_from}
+use Rattle.log_replay.specs.Fault.{Keeps, Line, Mark, ends, entries_lines, lines_of_entry, firing_texts, lines_of, other_line, section_lines, sections_from}
 use Rattle.log_replay.specs.Kept.{earlier, ends_running, entries_size, link_of, links_fault, posts_fault, section_fault, section_size, sections_fault}
 use Rattle.log_replay.proofs.AcceptedLemmas.{each_mapped}
 use Rattle.log_replay.proofs.FirstLemmas.{First, first_all, first_both, first_else, first_pass, first_same}
@@ -45,7 +45,7 @@ module _ (plan : Plan) (run : Run) where
       let added = adds (setting_of plan actor run.limits) sent (opening run.feeds (length plan.actors)) in
       omega (arith, ap length added.entries_are, few_records 0 sent added.new added.records, length-map (read_entries run actor) bare)
 
-  made_are : (from to : ℕ) → posts_made to (expected_actor plan run from).entries (read_entries run from) ≡ expected_posts plan run from to
+  made_are : (from to : ℕ) → link_posts to (expected_actor plan run from).entries (read_entries run from) ≡ expected_posts plan run from to
   made_are from to =
       let own : List Entry = (unstamped_actor plan run from).entries in
       let sent : List Sent = arrived (stamps_sent plan run from) (read_entries run from) in
@@ -77,9 +77,9 @@ module _ (plan : Plan) (run : Run) where
 
     link_first : (line from : ℕ) → from < length plan.actors → First (λ (l : Line). LinkKeeps plan run from l.mark) (line + 1) lines (link_of run expected to line own from)
     link_first line from l =
-        let posts = ap (λ (r : Run). posts_made to (entries_in (slice_get r.actors from)) (read_entries run from)) is ∙ ap (λ (es : List Entry). posts_made to es (read_entries run from)) (entries_of_actors from l) ∙ made_are from to in
+        let posts = ap (λ (r : Run). link_posts to (entries_in (slice_get r.actors from)) (read_entries run from)) is ∙ ap (λ (es : List Entry). link_posts to es (read_entries run from)) (entries_of_actors from l) ∙ made_are from to in
         let runs = ap (λ (r : Run). ends_running (slice_get r.actors to)) is ∙ ends_of_actors to there_is in
-        entries_first plan run to own read (ends_running (slice_get expected.actors to)) runs from (posts_made to (entries_in (slice_get expected.actors from)) (read_entries run from)) posts (line + 1) 0 [] own.entries refl refl
+        entries_first plan run to own read (ends_running (slice_get expected.actors to)) runs from (link_posts to (entries_in (slice_get expected.actors from)) (read_entries run from)) posts (line + 1) 0 [] own.entries refl refl
 
     abbrev Below : ℕ → Line → Type 0
     Below n l = KeepsBelow n l.mark
@@ -116,7 +116,7 @@ module _ (plan : Plan) (run : Run) where
       entries_same : (before entries : List Entry) → AllByRecursion (EntryFits plan run.version run.feeds) entries → AllByRecursion Same (entries_lines plan run.version to before entries)
       entries_same before [] fit = tt
       entries_same before (e ∷ entries) fit =
-          each_append Same (entry_lines plan run.version to before e) (entries_lines plan run.version to (before ++ e ∷ []) entries)
+          each_append Same (lines_of_entry plan run.version to before e) (entries_lines plan run.version to (before ++ e ∷ []) entries)
           (((λ h from source. h from (subst (λ (s : Source). SourceFits plan run.feeds s) source fit.0.source) source), λ h from less. h from), each_mapped Same other_line (λ t. ((λ h. tt), λ h from less. tt)) (firing_texts plan e.firing))
           (entries_same (before ++ e ∷ []) entries fit.1)
 
@@ -141,7 +141,7 @@ module _ (plan : Plan) (run : Run) where
   entries_count : (to : ℕ) (before entries : List Entry) → length (entries_lines plan run.version to before entries) ≡ entries_size entries
   entries_count to before [] = refl
   entries_count to before (e ∷ entries) =
-      omega (arith, length-append (entry_lines plan run.version to before e) (entries_lines plan run.version to (before ++ e ∷ []) entries), firing_count plan run e.firing, entries_count to (before ++ e ∷ []) entries)
+      omega (arith, length-append (lines_of_entry plan run.version to before e) (entries_lines plan run.version to (before ++ e ∷ []) entries), firing_count plan run e.firing, entries_count to (before ++ e ∷ []) entries)
 
   pub section_count : (to : ℕ) (named : ActorPlan) (own : ActorRun) → length (section_lines plan run.version to named own) ≡ section_size own
   section_count to named own =

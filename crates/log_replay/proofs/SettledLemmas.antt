@@ -27,7 +27,7 @@ use Rattle.fair_semantics.specs.Step.{State, definitions_of, is_running, letters
 use Rattle.run_order.proofs.ArrivalLemmas.{length-arrived}
 use Rattle.run_order.specs.Sorted.{entries_in}
 use Rattle.log_posts.specs.Lates.{actor_counts, count_where, lates_made}
-use Rattle.log_posts.specs.Posts.{posts_made, with_stamp}
+use Rattle.log_posts.specs.Posts.{link_posts, stamped_anew}
 use Rattle.log_posts.specs.Stamps.{HasLink, link_at, next_stamp, posts_from, stamps_behind, stamps_in, with_stamps}
 use Rattle.log_replay.specs.Expected.{expected_actor, expected_late, expected_posts, expected_run, late_in, may_be_late, posts_beyond, read_entries, read_late, restamped, settled, some_late, stamped_in, stamps_sent, stepped, with_entries}
 use Rattle.log_replay.specs.Settling as made
@@ -40,7 +40,7 @@ use Rattle.log_replay.proofs.EndingLemmas.{settled_entries}
 -- ---- links
 
 pub links_count : (made : List ActorRun) (run : Run) (to from n : ℕ) → length (links_to made run to from n) ≡ n
-links_count made run to from n = length-map (numbers_from from n) (λ k. posts_made to (entries_in (slice_get made k)) (entries_in (slice_get run.actors k))) ∙ count_numbers from n
+links_count made run to from n = length-map (numbers_from from n) (λ k. link_posts to (entries_in (slice_get made k)) (entries_in (slice_get run.actors k))) ∙ count_numbers from n
 
 -- ---- stamps
 
@@ -48,7 +48,7 @@ restamped_by : (before : ℕ) (sent : List Sent) (entries : List Entry) → leng
 restamped_by before [] [] l = refl
 restamped_by before [] (e ∷ entries) l = absurd (omega arith)
 restamped_by before (one ∷ sent) [] l = refl
-restamped_by before (one ∷ sent) (e ∷ entries) l = ap (λ (es : List Entry). with_stamp e (next_stamp before one.1.stamp) ∷ es) (restamped_by (next_stamp before one.1.stamp) sent entries (omega (arith, l)))
+restamped_by before (one ∷ sent) (e ∷ entries) l = ap (λ (es : List Entry). stamped_anew e (next_stamp before one.1.stamp) ∷ es) (restamped_by (next_stamp before one.1.stamp) sent entries (omega (arith, l)))
 
 unstamped_by : (n : ℕ) (entries : List Entry) → length entries ≤ n → with_stamps (replicate n 0) entries ≡ map unstamped_entry entries
 unstamped_by zero [] l = refl
@@ -99,14 +99,14 @@ module _ (plan : Plan) (run : Run) (runs : List ActorRun) (many : length run.act
       ∙ ap entries_in (get_numbers (made_run plan run) 0 (length plan.actors) a l)
       ∙ ap (λ (k : ℕ). (stepped plan run k).entries) same
 
-  posts_at : (to a : ℕ) → a < length plan.actors → posts_made to (entries_in (slice_get runs a)) (read_entries run a) ≡ expected_posts plan run a to
-  posts_at to a l = ap (λ (es : List Entry). posts_made to es (read_entries run a)) (made_at a l)
+  posts_at : (to a : ℕ) → a < length plan.actors → link_posts to (entries_in (slice_get runs a)) (read_entries run a) ≡ expected_posts plan run a to
+  posts_at to a l = ap (λ (es : List Entry). link_posts to es (read_entries run a)) (made_at a l)
 
   link_is : (to a : ℕ) → a < length plan.actors → link_at (slice_get (links_to runs run to 0 (length run.actors)) a) ≡ expected_posts plan run a to
   link_is to a l =
       let same : 0 + a ≡ a = omega arith in
-      ap link_at (get_numbers (λ k. posts_made to (entries_in (slice_get runs k)) (read_entries run k)) 0 (length run.actors) a (omega (arith, l, many)))
-      ∙ ap (λ (k : ℕ). posts_made to (entries_in (slice_get runs k)) (read_entries run k)) same
+      ap link_at (get_numbers (λ k. link_posts to (entries_in (slice_get runs k)) (read_entries run k)) 0 (length run.actors) a (omega (arith, l, many)))
+      ∙ ap (λ (k : ℕ). link_posts to (entries_in (slice_get runs k)) (read_entries run k)) same
       ∙ posts_at to a l
 
   module _ (to : ℕ) (may : Bool) where

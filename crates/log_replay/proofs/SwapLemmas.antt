@@ -17,7 +17,7 @@ use Rattle.fair_semantics.specs.Step.{is_running}
 use Rattle.log_replay.specs.declared.settling.Settlement.{Settlement}
 use Rattle.log_replay.specs.declared.shared.Shared.{Shared}
 use Rattle.run_order.specs.Sorted.{entries_in}
-use Rattle.log_posts.specs.Posts.{posts_made, stamped_as, with_stamp}
+use Rattle.log_posts.specs.Posts.{link_posts, stamped_as, stamped_anew}
 use Rattle.log_posts.specs.Stamps.{next_stamp, posts_from, stamps_behind, stamps_in, with_stamps}
 use Rattle.log_replay.specs.Expected.{with_entries}
 use Rattle.log_posts.specs.Same.{same_entries}
@@ -40,7 +40,7 @@ stamped_like (e ∷ es) (f ∷ fs) (line ∷ lines) same few =
     let first : unstamped_entry e ≡ unstamped_entry f = cc in
     let more : map unstamped_entry es ≡ map unstamped_entry fs = cc in
     let later = stamped_like es fs lines more (omega (arith, few)) in
-    λ i. with_stamp (first i) line.stamp ∷ later i
+    λ i. stamped_anew (first i) line.stamp ∷ later i
 
 stamps_like : (stamps : List ℕ) (es fs : List Entry) → map unstamped_entry es ≡ map unstamped_entry fs → length es ≤ length stamps → with_stamps stamps es ≡ with_stamps stamps fs
 stamps_like [] [] [] same few = refl
@@ -53,7 +53,7 @@ stamps_like (s ∷ stamps) (e ∷ es) (f ∷ fs) same few =
     let first : unstamped_entry e ≡ unstamped_entry f = cc in
     let more : map unstamped_entry es ≡ map unstamped_entry fs = cc in
     let later = stamps_like stamps es fs more (omega (arith, few)) in
-    λ i. with_stamp (first i) s ∷ later i
+    λ i. stamped_anew (first i) s ∷ later i
 
 -- ---- one actor
 
@@ -80,15 +80,15 @@ kept_stamps read own = by (same_entries own.entries read)
     by true = refl
     by false = refl
 
-swap_posts : (to : ℕ) (read own : ActorRun) → posts_made to (swap read own).entries read.entries ≡ posts_made to own.entries read.entries
+swap_posts : (to : ℕ) (read own : ActorRun) → link_posts to (swap read own).entries read.entries ≡ link_posts to own.entries read.entries
 swap_posts to read own = by (same_entries own.entries read.entries) refl
   where
-    by : (b : Bool) → same_entries own.entries read.entries ≡ b → posts_made to (swap read own).entries read.entries ≡ posts_made to own.entries read.entries
+    by : (b : Bool) → same_entries own.entries read.entries ≡ b → link_posts to (swap read own).entries read.entries ≡ link_posts to own.entries read.entries
     by true e =
         let same = entries_are own.entries read.entries e in
-        ap (λ (x : Bool). posts_made to (if x then with_entries own read.entries else own).entries read.entries) e
+        ap (λ (x : Bool). link_posts to (if x then with_entries own read.entries else own).entries read.entries) e
         ∙ ap (flat_map (entry_posts to)) (stamped_like read.entries own.entries read.entries (sym same) (omega arith))
-    by false e = ap (λ (x : Bool). posts_made to (if x then with_entries own read.entries else own).entries read.entries) e
+    by false e = ap (λ (x : Bool). link_posts to (if x then with_entries own read.entries else own).entries read.entries) e
 
 swap_late : (limits : Limits) (read own : ActorRun) → may_be_late limits (swap read own) ≡ may_be_late limits own
 swap_late limits read own = by (same_entries own.entries read.entries) refl
@@ -149,7 +149,7 @@ shown_finished read shared settlement definitions none = by shared.as_read
 -- ---- all actors
 
 swap_at : (to : ℕ) (reads owns : List ActorRun) (k : ℕ) → length owns ≡ length reads
-    → posts_made to (entries_in (slice_get (swap_all reads owns) k)) (entries_in (slice_get reads k)) ≡ posts_made to (entries_in (slice_get owns k)) (entries_in (slice_get reads k))
+    → link_posts to (entries_in (slice_get (swap_all reads owns) k)) (entries_in (slice_get reads k)) ≡ link_posts to (entries_in (slice_get owns k)) (entries_in (slice_get reads k))
 swap_at to [] [] k many = refl
 swap_at to [] (own ∷ owns) k many = absurd (omega arith)
 swap_at to (read ∷ reads) [] k many = absurd (omega arith)

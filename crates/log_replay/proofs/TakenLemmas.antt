@@ -9,7 +9,7 @@ use Rattle.fair_semantics.specs.Step.{Setting, State, entry_with, fits, is_refus
 use Rattle.fair_semantics.specs.Fair.{Sent, after_all}
 use Rattle.fair_semantics.specs.Linked.{unstamped_entry}
 use Rattle.fair_semantics.proofs.FairLemmas.{latest_stamp-more}
-use Rattle.log_posts.specs.Posts.{stamped_as, with_stamp}
+use Rattle.log_posts.specs.Posts.{stamped_as, stamped_anew}
 use Rattle.log_posts.specs.Stamps.{next_stamp}
 use Rattle.log_replay.specs.Expected.{restamped}
 use Rattle.log_replay.proofs.BareLemmas.{arrival_alike, bare_state}
@@ -88,7 +88,7 @@ restamped_is latest (s ∷ sent) (x ∷ new) (e ∷ entries) f same =
     let here : unstamped_entry e ≡ unstamped_entry x = cc in
     let later : map unstamped_entry entries ≡ map unstamped_entry new = cc in
     let stamp : ℕ = next_stamp latest s.1.stamp in
-    let first : with_stamp e stamp ≡ x = ap (λ (y : Entry). with_stamp y stamp) here ∙ ap (with_stamp x) (sym f.0) in
+    let first : stamped_anew e stamp ≡ x = ap (λ (y : Entry). stamped_anew y stamp) here ∙ ap (stamped_anew x) (sym f.0) in
     let others : restamped stamp sent entries ≡ new = ap (λ (n : ℕ). restamped n sent entries) (sym f.0) ∙ restamped_is x.stamp sent new entries f.1 later in
     λ i. first i ∷ others i
 
@@ -99,4 +99,4 @@ stamped_alike (e ∷ entries) [] same = absurd cc
 stamped_alike (e ∷ entries) (l ∷ lines) same =
     let here : unstamped_entry e ≡ unstamped_entry l = cc in
     let later : map unstamped_entry entries ≡ map unstamped_entry lines = cc in
-    λ i. with_stamp (here i) l.stamp ∷ stamped_alike entries lines later i
+    λ i. stamped_anew (here i) l.stamp ∷ stamped_alike entries lines later i

@@ -27,7 +27,7 @@ use Rattle.log_lines.proofs.LackLemmas.{body_lacks, head_lacks}
 use Rattle.log_reader.proofs.AgainLemmas.{sections_fit}
 use Rattle.log_reader.proofs.RunLines.{arrival_of, effect_log, end_log, entry_log, firing_log, head_of_run, late_log, section_log, sections_log}
 use Rattle.log_reader.proofs.WalkLemmas.{head_fits}
-use Rattle.log_replay.specs.Fault.{Line, ends, entries_lines, entry_lines, firing_texts, lines_of, other_line, section_lines, sections_from, texts_of}
+use Rattle.log_replay.specs.Fault.{Line, ends, entries_lines, lines_of_entry, firing_texts, lines_of, other_line, section_lines, sections_from, texts_of}
 use Rattle.log_replay.proofs.ApartLemmas.{IsLine}
 
 module _ (plan : Plan) (head : Head) where
@@ -52,13 +52,13 @@ module _ (plan : Plan) (head : Head) where
   firing_logged None = refl
   firing_logged (Some f) = ap (λ (ts : List (List ℕ)). fire_line f ∷ ts) (effects_logged f.effects)
 
-  entry_logged : (actor : ℕ) (before : List Entry) (e : Entry) → texts_of (entry_lines plan head.version actor before e) ≡ logged (entry_log e)
+  entry_logged : (actor : ℕ) (before : List Entry) (e : Entry) → texts_of (lines_of_entry plan head.version actor before e) ≡ logged (entry_log e)
   entry_logged actor before e = ap (λ (ts : List (List ℕ)). line_text plan head (Arrives (arrival_of e)) ∷ ts) (others (firing_texts plan e.firing) ∙ firing_logged e.firing)
 
   entries_logged : (actor : ℕ) (before entries : List Entry) → texts_of (entries_lines plan head.version actor before entries) ≡ logged (flat_map entry_log entries)
   entries_logged actor before [] = refl
   entries_logged actor before (e ∷ entries) =
-      texts-append (entry_lines plan head.version actor before e) (entries_lines plan head.version actor (before ++ e ∷ []) entries)
+      texts-append (lines_of_entry plan head.version actor before e) (entries_lines plan head.version actor (before ++ e ∷ []) entries)
       ∙ (λ i. entry_logged actor before e i ++ entries_logged actor (before ++ e ∷ []) entries i)
       ∙ sym (logged-append (entry_log e) (flat_map entry_log entries))
 

@@ -16,7 +16,7 @@ use Rattle.fair_semantics.specs.Fair.{Sent, fair, run_of, setting_of}
 use Rattle.fair_semantics.specs.Linked.{arrived, count_of, entry_posts, numbers_from, taken_from, unstamped_entry}
 use Rattle.run_order.specs.Sorted.{entries_in}
 use Rattle.log_posts.specs.Lates.{count_where}
-use Rattle.log_posts.specs.Posts.{stamped_as, with_stamp}
+use Rattle.log_posts.specs.Posts.{stamped_as, stamped_anew}
 use Rattle.log_posts.specs.Stamps.{next_stamp}
 
 -- ---- the section of an actor, as it was read
@@ -88,7 +88,7 @@ restamped before sent [] = []
 restamped before [] (entry ∷ more) = []
 restamped before (one ∷ sent) (entry ∷ more) =
     let stamp : ℕ = next_stamp before one.1.stamp in
-    with_stamp entry stamp ∷ restamped stamp sent more
+    stamped_anew entry stamp ∷ restamped stamp sent more
 
 -- version 1 has no stamps
 abbrev pub stamped_in : ℕ → List Sent → List Entry → List Entry

@@ -31,13 +31,13 @@ abbrev pub firing_texts : Plan → Option Firing → List (List ℕ)
 firing_texts plan None = []
 firing_texts plan (Some firing) = fire_line firing ∷ map (effect_line plan) firing.effects
 
-abbrev pub entry_lines : Plan → ℕ → ℕ → List Entry → Entry → List Line
-entry_lines plan version actor before entry = record { mark = arrives actor before entry; text = arrival_line plan version entry } ∷ map other_line (firing_texts plan entry.firing)
+abbrev pub lines_of_entry : Plan → ℕ → ℕ → List Entry → Entry → List Line
+lines_of_entry plan version actor before entry = record { mark = arrives actor before entry; text = arrival_line plan version entry } ∷ map other_line (firing_texts plan entry.firing)
 
 -- the lines of the entries behind these
 abbrev pub entries_lines : Plan → ℕ → ℕ → List Entry → List Entry → List Line
 entries_lines plan version actor before [] = []
-entries_lines plan version actor before (entry ∷ more) = entry_lines plan version actor before entry ++ entries_lines plan version actor (before ++ entry ∷ []) more
+entries_lines plan version actor before (entry ∷ more) = lines_of_entry plan version actor before entry ++ entries_lines plan version actor (before ++ entry ∷ []) more
 
 abbrev pub section_lines : Plan → ℕ → ℕ → ActorPlan → ActorRun → List Line
 section_lines plan version actor named own =

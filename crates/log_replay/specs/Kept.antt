@@ -10,7 +10,7 @@ use Rattle.fair_semantics.specs.declared.run.Run.{Run}
 use Rattle.fair_semantics.specs.Linked.{numbers_from, same_source}
 use Rattle.fair_semantics.specs.Step.{is_running}
 use Rattle.run_order.specs.Sorted.{entries_in}
-use Rattle.log_posts.specs.Posts.{has_message, posts_made}
+use Rattle.log_posts.specs.Posts.{has_message, link_posts}
 
 -- ---- the first line that does not hold
 
@@ -56,7 +56,7 @@ ends_running (Some own) = is_running own.ending
 -- of the section of an actor that begins at this line, by the posts of another
 abbrev pub link_of : Run → Run → ℕ → ℕ → ActorRun → ℕ → Option ℕ
 link_of run expected to line own from =
-    link_fault (posts_made to (entries_in (slice_get expected.actors from)) (entries_in (slice_get run.actors from))) from (ends_running (slice_get expected.actors to)) (length own.late) (line + 1) 0 own.entries
+    link_fault (link_posts to (entries_in (slice_get expected.actors from)) (entries_in (slice_get run.actors from))) from (ends_running (slice_get expected.actors to)) (length own.late) (line + 1) 0 own.entries
 
 -- the first of the links from these actors, where this was the first so far
 abbrev pub links_fault : Run → Run → ℕ → ℕ → ActorRun → Option ℕ → List ℕ → Option ℕ

@@ -13,13 +13,13 @@ use Rattle.fair_semantics.specs.Step.{is_running}
 use Rattle.log_replay.specs.declared.settling.Settlement.{Settlement}
 use Rattle.run_order.specs.Sorted.{entries_in}
 use Rattle.log_posts.specs.Lates.{lates_made}
-use Rattle.log_posts.specs.Posts.{posts_made}
+use Rattle.log_posts.specs.Posts.{link_posts}
 use Rattle.log_posts.specs.Stamps.{stamps_in, with_stamps}
 use Rattle.log_replay.specs.Expected.{stepped}
 
 -- the posts to an actor from each actor, by the entries that they made
 abbrev pub links_to : List ActorRun → Run → ℕ → ℕ → ℕ → List (List Stamped)
-links_to made run to from n = map (λ k. posts_made to (entries_in (slice_get made k)) (entries_in (slice_get run.actors k))) (numbers_from from n)
+links_to made run to from n = map (λ k. link_posts to (entries_in (slice_get made k)) (entries_in (slice_get run.actors k))) (numbers_from from n)
 
 -- ---- the run of an actor
 

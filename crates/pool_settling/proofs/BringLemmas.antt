@@ -20,7 +20,7 @@ use Rattle.actor_cells.specs.Lawful.{IsAmong, noted}
 use Rattle.actor_cells.proofs.CellLemmas.{prefix-refl}
 use Rattle.pool_settling.specs.Standing.{GoesOn, StandsBy, actor_count, arrivals_of, feed_count}
 use Rattle.pool_settling.specs.Ends.{GoOn}
-use Rattle.pool_settling.specs.Rounds.{AreMembers, Brings, BringsPosts, Came, IsMember, NoneWaits, StandAs, StandFed, all_work, work_of}
+use Rattle.pool_settling.specs.Rounds.{AreMembers, Brings, BringsPosts, Came, IsMember, OutboxHasNone, StandAs, StandFed, all_work, work_of}
 use Rattle.pool_settling.proofs.EndLemmas.{go_refl, go_trans, same_or_not, set_get, set_get_other, set_or, set_or_other, some_is}
 use Rattle.pool_settling.proofs.StandLemmas.{Steps, on_refl, stepped, stepped_on}
 use Rattle.pool_settling.proofs.WorkLemmas.{step_work, sum_set}
@@ -317,7 +317,7 @@ module _ (helds : List Held) (sender target : ℕ) (before after : Held) (at : s
   pub none_brought : AreMembers helds → Brings false helds (set helds sender after)
   none_brought members = subst (Brings false helds) (sym unchanged) (brings_none helds members)
 
-  pub none_waits : NoneWaits (set helds sender after) sender target
+  pub none_waits : OutboxHasNone (set helds sender after) sender target
   none_waits held is =
       let same : before ≡ held = some_is before held (sym at ∙ ap (λ (hs : List Held). slice_get hs sender) (sym unchanged) ∙ is) in
       ap (λ (h : Held). posts_for h.outbox target) (sym same) ∙ (takes_none target before after first taken).1

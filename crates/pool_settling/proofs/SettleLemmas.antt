@@ -42,7 +42,7 @@ use Rattle.cell_settling.specs.Settled.{cell_sent, poster_sent, went}
 use Rattle.pool_settling.specs.Standing.{actor_count, arrivals_of, feed_count}
 use Rattle.pool_settling.specs.Drained.{AreDrained}
 use Rattle.pool_settling.specs.Ends.{GoOn}
-use Rattle.pool_settling.specs.Rounds.{AreMembers, BringsPosts, HaveFeeds, IsFedRest, NoneWait, StandFed, fed_rest, run_in}
+use Rattle.pool_settling.specs.Rounds.{AreMembers, BringsPosts, HaveFeeds, IsFedRest, OutboxIsEmpty, StandFed, fed_rest, run_in}
 use Rattle.pool_settling.specs.Settling.{GoesOnFrom, IsLinkedToAll, IsScheduledOverAll}
 use Rattle.pool_settling.proofs.EndLemmas.{go_trans}
 use Rattle.pool_settling.proofs.StartLemmas.{map_get}
@@ -133,7 +133,7 @@ state_of start None = start
 state_of start (Some held) = held.state
 
 module _ (plan : Plan) (limits : Limits) (feeds : List (List (ℕ × Message))) (fed : ℕ → ℕ → List Stamped) (helds : List Held) (are : AreOf plan limits (length feeds) helds) (s : StandFed fed helds)
-    (none : (sender : ℕ) → sender < length helds → NoneWait helds sender) (no_feed : (actor : ℕ) → fed actor 0 ≡ []) (all_fed : (k actor : ℕ) → actor < length plan.actors → fed actor (suc k) ≡ feed_posts actor (slice_get feeds k)) where
+    (none : (sender : ℕ) → sender < length helds → OutboxIsEmpty helds sender) (no_feed : (actor : ℕ) → fed actor 0 ≡ []) (all_fed : (k actor : ℕ) → actor < length plan.actors → fed actor (suc k) ≡ feed_posts actor (slice_get feeds k)) where
   abbrev start : State
   start = opening (length feeds) (length plan.actors)
 
@@ -255,7 +255,7 @@ module _ (plan : Plan) (limits : Limits) (feeds : List (List (ℕ × Message))) 
 
 module _ (plan : Plan) (limits : Limits) (posters : List Poster) (cells : List Cell) (rest : List (List (ℕ × Message))) (typed : IsTyped plan) (limited : AreLimits limits) (rules : (actor : ℕ) → actor < length plan.actors → RulesFit plan limits actor)
     (count : IsFrom1To 16 (length posters)) (few : length rest ≤ length posters) (tags : AreTagsOf plan limits (length posters) (map cell_tag cells)) (first second third : List Held) (drained : AreDrained posters cells first) (fed : IsFedRest rest first second)
-    (second_on : GoOn first second) (brought : BringsPosts second third) (none : (sender : ℕ) → sender < length third → NoneWait third sender) (run : Run) (is : run ≡ record { version = 2; limits = limits; feeds = length posters; actors = map run_in third }) where
+    (second_on : GoOn first second) (brought : BringsPosts second third) (none : (sender : ℕ) → sender < length third → OutboxIsEmpty third sender) (run : Run) (is : run ≡ record { version = 2; limits = limits; feeds = length posters; actors = map run_in third }) where
   on : GoOn first third
   on = go_trans first second third second_on brought.on
 

@@ -74,12 +74,12 @@ pub record Brings (found : Bool) (olds nows : List Held) : Type 0 where
   pub same : found ≡ false → nows ≡ olds
 
 -- no post waits for the target in the outbox of the sender
-abbrev pub NoneWaits : List Held → ℕ → ℕ → Type 0
-NoneWaits helds sender target = (held : Held) → slice_get helds sender ≡ Some held → posts_for held.outbox target ≡ []
+abbrev pub OutboxHasNone : List Held → ℕ → ℕ → Type 0
+OutboxHasNone helds sender target = (held : Held) → slice_get helds sender ≡ Some held → posts_for held.outbox target ≡ []
 
 -- nor for any target
-abbrev pub NoneWait : List Held → ℕ → Type 0
-NoneWait helds sender = (target : ℕ) → target < length helds → NoneWaits helds sender target
+abbrev pub OutboxIsEmpty : List Held → ℕ → Type 0
+OutboxIsEmpty helds sender = (target : ℕ) → target < length helds → OutboxHasNone helds sender target
 
 -- ---- what is left of feeds
 

@@ -3,7 +3,7 @@ ghost use Rattle.std.specs.Prelude.{◌≡◌, ℕ, ◌+◌, ◌<◌, ◌≤◌,
 ghost use Rattle.join_base.specs.Late.{HasCount};
 ghost use Rattle.join_base.specs.declared.message.Source.TheVariants as source;
 ghost use Rattle.pool_settling.specs.Ends.{GoOn};
-ghost use Rattle.pool_settling.specs.Rounds.{AreMembers, Brings, BringsPosts, HaveFeeds, IsFedMore, IsFedRest, NoneWait, NoneWaits, run_in};
+ghost use Rattle.pool_settling.specs.Rounds.{AreMembers, Brings, BringsPosts, HaveFeeds, IsFedMore, IsFedRest, OutboxIsEmpty, OutboxHasNone, run_in};
 
 use actor_turn::Actor;
 use fair_semantics::ActorRun;
@@ -68,7 +68,7 @@ fn bring_post<L: Ledger>(
     requires sender { sender < length actors.old.items }
     requires target { target < length actors.old.items }
     ensures brought { IfOk result (λ found. Brings found actors.old.items actors.new.items) }
-    ensures none { IfOk result (λ found. found ≡ false → NoneWaits actors.new.items sender target) }
+    ensures none { IfOk result (λ found. found ≡ false → OutboxHasNone actors.new.items sender target) }
 {
     let Some(post) = actors[sender as usize].take_post(target) else {
         return Ok(false);
@@ -92,7 +92,7 @@ fn bring_from<L: Ledger>(
     requires sender { sender < length actors.old.items }
     requires few { length actors.old.items ≤ 32 }
     ensures brought { IfOk result (λ found. Brings found actors.old.items actors.new.items) }
-    ensures none { IfOk result (λ found. found ≡ false → NoneWait actors.new.items sender) }
+    ensures none { IfOk result (λ found. found ≡ false → OutboxIsEmpty actors.new.items sender) }
 {
     let mut found = false;
     for target in 0..actors.len() {
@@ -110,7 +110,7 @@ fn bring_round<L: Ledger>(
     requires members { AreMembers actors.old.items }
     requires few { length actors.old.items ≤ 32 }
     ensures brought { IfOk result (λ found. Brings found actors.old.items actors.new.items) }
-    ensures none { IfOk result (λ found. found ≡ false → (sender : ℕ) → sender < length actors.new.items → NoneWait actors.new.items sender) }
+    ensures none { IfOk result (λ found. found ≡ false → (sender : ℕ) → sender < length actors.new.items → OutboxIsEmpty actors.new.items sender) }
 {
     let mut found = false;
     for sender in 0..actors.len() {
@@ -129,7 +129,7 @@ pub fn bring_posts<L: Ledger>(
     requires members { AreMembers actors.old.items }
     requires few { length actors.old.items ≤ 32 }
     ensures brought { OnOk result (BringsPosts actors.old.items actors.new.items) }
-    ensures none { OnOk result ((sender : ℕ) → sender < length actors.new.items → NoneWait actors.new.items sender) }
+    ensures none { OnOk result ((sender : ℕ) → sender < length actors.new.items → OutboxIsEmpty actors.new.items sender) }
 {
     while bring_round(alloc, actors, steps)? {}
     Ok(())

@@ -15,7 +15,7 @@ use Rattle.csv.specs.declared.parser.State.{State}
 use Rattle.csv.specs.declared.parser.State.TheVariants as st
 use Rattle.csv.specs.declared.parser.Terminator.TheVariants as term
 use Rattle.sensor_feed.specs.Feed.{Record}
-use Rattle.sensor_feed.specs.Line.{CutsLine, IsPlain, ends_line, is_plain_byte}
+use Rattle.sensor_feed.specs.Line.{CutsLine, IsPlain, ends_line, is_no_quote}
 use Rattle.sensor_feed.proofs.ReadsLemmas.{drop_at}
 use Rattle.sensor_feed.proofs.RecordLemmas.{ends_after, first_taken, none_left}
 
@@ -71,17 +71,17 @@ skips = (st.StartRecord, act.Skip)
 abbrev quotes : State × Action
 quotes = (st.InQuoted, act.Skip)
 
-no_quote : (c : ℕ) → is_plain_byte c ≡ true → (c == 34) ≡ false
+no_quote : (c : ℕ) → is_no_quote c ≡ true → (c == 34) ≡ false
 no_quote c is = by-test (c == 34) is
   where
     by-test : (b : Bool) → not b ≡ true → b ≡ false
     by-test true is = absurd cc
     by-test false is = refl
 
-plain_start : (c : ℕ) → is_plain_byte c ≡ true → step cfg st.StartField c ≡ step cfg st.InField c
+plain_start : (c : ℕ) → is_no_quote c ≡ true → step cfg st.StartField c ≡ step cfg st.InField c
 plain_start c plain = ap (λ (b : Bool). cond b quotes (in_field cfg c)) (no_quote c plain)
 
-plain_record : (c : ℕ) → is_plain_byte c ≡ true → ends_line c ≡ false → step cfg st.StartRecord c ≡ step cfg st.InField c
+plain_record : (c : ℕ) → is_no_quote c ≡ true → ends_line c ≡ false → step cfg st.StartRecord c ≡ step cfg st.InField c
 plain_record c plain on = ap (λ (b : Bool). cond b skips (start_field cfg c)) on ∙ plain_start c plain
 
 end_skipped : (c : ℕ) → ends_line c ≡ true → step cfg st.StartRecord c ≡ skips
@@ -166,16 +166,16 @@ no_line text line n is there none =
 
 -- a line that is there is the first record
 pub line_taken : (text line : List ℕ) (n : ℕ) (fields : Record) (rest : List ℕ) → n ≡ prefix_len ends_line text → line ≡ drop n text → false ≡ (length line == 0)
-    → list_all is_plain_byte text ≡ true → CutsLine line fields rest → records cfg text ≡ fields ∷ records cfg rest
+    → list_all is_no_quote text ≡ true → CutsLine line fields rest → records cfg text ≡ fields ∷ records cfg rest
 line_taken text line n fields rest is there some plain cut = by-line line there (grind (arith, nat_tests)) cut.next
   where
     by-line : (l : List ℕ) → l ≡ drop n text → 0 < length l → next_record cfg st.InField [] [] l ≡ Some (fields, cut.state, rest) → records cfg text ≡ fields ∷ records cfg rest
     by-line [] there some next = absurd (omega arith)
     by-line (c ∷ others) there some next =
         let on : ends_line c ≡ false = no_end_there text c others (ap (λ k. drop k text) (sym is) ∙ sym there) in
-        let plain_line : list_all is_plain_byte (c ∷ others) ≡ true = ap (list_all is_plain_byte) there ∙ all_dropped is_plain_byte n text plain in
+        let plain_line : list_all is_no_quote (c ∷ others) ≡ true = ap (list_all is_no_quote) there ∙ all_dropped is_no_quote n text plain in
         let starts : next_record cfg st.StartRecord [] [] (c ∷ others) ≡ next_record cfg st.InField [] [] (c ∷ others) =
-        one_step [] [] c others st.StartRecord (step cfg st.InField c) (plain_record c (first_of_all is_plain_byte c others plain_line) on)
+        one_step [] [] c others st.StartRecord (step cfg st.InField c) (plain_record c (first_of_all is_no_quote c others plain_line) on)
         ∙ sym (one_step [] [] c others st.InField (step cfg st.InField c) refl) in
         let first : next_record cfg st.StartRecord [] [] text ≡ Some (fields, cut.state, rest) =
         next_behind_ends text ∙ ap (λ k. next_record cfg st.StartRecord [] [] (drop k text)) (sym is) ∙ ap (next_record cfg st.StartRecord [] []) (sym there)
@@ -192,10 +192,10 @@ nows = map (λ (field : Bor (List ℕ)). field.now)
 pub nows_more : (new old : List (Bor (List ℕ))) (x : Bor (List ℕ)) (field : List ℕ) → new ≡ old ++ x ∷ [] → x.now ≡ field → nows new ≡ nows old ++ field ∷ []
 nows_more new old x field is same = ap nows is ∙ map-append (λ (field : Bor (List ℕ)). field.now) old (x ∷ []) ∙ ap (λ (f : List ℕ). nows old ++ f ∷ []) same
 
-starts_as_inside : (fields : Record) (field : List ℕ) (text : List ℕ) → list_all is_plain_byte text ≡ true → next_record cfg st.StartField fields field text ≡ next_record cfg st.InField fields field text
+starts_as_inside : (fields : Record) (field : List ℕ) (text : List ℕ) → list_all is_no_quote text ≡ true → next_record cfg st.StartField fields field text ≡ next_record cfg st.InField fields field text
 unfolding next_record
 starts_as_inside fields field [] plain = refl
-starts_as_inside fields field (c ∷ rest) plain = one_step fields field c rest st.StartField (step cfg st.InField c) (plain_start c (first_of_all is_plain_byte c rest plain))
+starts_as_inside fields field (c ∷ rest) plain = one_step fields field c rest st.StartField (step cfg st.InField c) (plain_start c (first_of_all is_no_quote c rest plain))
 
 module _ (text : List ℕ) (fields : Record) (start place : ℕ) (before : start ≤ place) (within : place < length text) where
   abbrev c : ℕ
@@ -221,21 +221,21 @@ module _ (text : List ℕ) (fields : Record) (start place : ℕ) (before : start
         ∙ ap (λ (f : List ℕ). next_record cfg st.InField fields f (drop (place + 1) text)) more
         ∙ sym (one_step fields field c (drop (place + 1) text) st.InField (st.InField, act.Copy) (copied c other on)) ∙ opened
 
-    pub next_field : c ≡ 44 → list_all is_plain_byte text ≡ true
+    pub next_field : c ≡ 44 → list_all is_no_quote text ≡ true
         → next_record cfg st.InField (fields ++ field ∷ []) (take (place + 1 - (place + 1)) (drop (place + 1) text)) (drop (place + 1) text) ≡ next_record cfg st.InField [] [] text
     next_field comma plain =
         let none : place + 1 - (place + 1) ≡ 0 = omega arith in
         let ends : step cfg st.InField c ≡ (st.StartField, act.EndField) = ap (step cfg st.InField) comma in
         ap (λ n. next_record cfg st.InField (fields ++ field ∷ []) (take n (drop (place + 1) text)) (drop (place + 1) text)) none
-        ∙ sym (starts_as_inside (fields ++ field ∷ []) [] (drop (place + 1) text) (all_dropped is_plain_byte (place + 1) text plain))
+        ∙ sym (starts_as_inside (fields ++ field ∷ []) [] (drop (place + 1) text) (all_dropped is_no_quote (place + 1) text plain))
         ∙ sym (one_step fields field c (drop (place + 1) text) st.InField (st.StartField, act.EndField) ends) ∙ opened
 
-    pub ends_here : (c == 44) ≡ false → ends_line c ≡ true → list_all is_plain_byte text ≡ true → CutsLine text (fields ++ field ∷ []) (drop (place + 1) text)
+    pub ends_here : (c == 44) ≡ false → ends_line c ≡ true → list_all is_no_quote text ≡ true → CutsLine text (fields ++ field ∷ []) (drop (place + 1) text)
     ends_here other end plain = record {
       state = after_end term.CRLF c;
       next = sym opened ∙ one_step fields field c (drop (place + 1) text) st.InField (after_end term.CRLF c, act.EndRecord) (ended c other end);
       between = ends_after term.CRLF c;
-      plain = all_dropped is_plain_byte (place + 1) text plain;
+      plain = all_dropped is_no_quote (place + 1) text plain;
     }
 
 pub ends_at_last : (text : List ℕ) (fields : Record) (start place n : ℕ) → start ≤ place → length text ≤ place → n ≡ length text
@@ -251,7 +251,7 @@ ends_at_last text fields start place n before last all told =
       next = sym told ∙ ap (next_record cfg st.InField fields (take (place - start) (drop start text))) nothing
           ∙ ap (λ (f : List ℕ). Some (fields ++ f ∷ [], st.StartRecord, [])) whole ∙ ap (λ (r : List ℕ). Some (fields ++ drop start text ∷ [], st.StartRecord, r)) (sym rest);
       between = refl;
-      plain = ap (list_all is_plain_byte) rest;
+      plain = ap (list_all is_no_quote) rest;
     }
 
 -- ---- where there is no mark of the order of bytes
@@ -263,7 +263,7 @@ no_mark (a ∷ []) is = refl
 no_mark (a ∷ b ∷ []) is = refl
 no_mark (a ∷ b ∷ c ∷ rest) is = ap (λ (t : Bool). cond (t && (b == 0xBB) && (c == 0xBF)) rest (a ∷ b ∷ c ∷ rest)) is
 
-pub plain_told : (bytes : List ℕ) (first : ℕ) → first ≡ slice_index bytes 0 → (first ≡ 0xEF → ⊥) → list_all is_plain_byte bytes ≡ true → IsPlain bytes
+pub plain_told : (bytes : List ℕ) (first : ℕ) → first ≡ slice_index bytes 0 → (first ≡ 0xEF → ⊥) → list_all is_no_quote bytes ≡ true → IsPlain bytes
 plain_told bytes first is other plain =
     let test : (first == 0xEF) ≡ false = grind (arith, nat_tests) in
     record { plain = plain; whole = ap (records cfg) (no_mark bytes (ap (λ b. b == 0xEF) (sym is) ∙ test)) }

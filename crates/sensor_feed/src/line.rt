@@ -1,13 +1,13 @@
 //! The lines of a feed without double quotes, cut in place.
 ghost use Rattle.std.specs.Prelude.{◌≡◌, [], IfOk, List, ℕ, true, drop, map};
 ghost use Rattle.std.specs.List.{list_all, prefix_len};
-ghost use Rattle.sensor_feed.specs.Line.{CutsLine, IsPlain, TakesLine, ends_line, is_plain_byte};
+ghost use Rattle.sensor_feed.specs.Line.{CutsLine, IsPlain, TakesLine, ends_line, is_no_quote};
 
 use join_base::{NoMemory, byte_at};
 
 // It goes through all bytes, so that many are compared at once.
 fn has_no_quote(bytes: &[u8]) -> bool
-    ensures { result ≡ list_all is_plain_byte bytes.now }
+    ensures { result ≡ list_all is_no_quote bytes.now }
 {
     let mut plain = true;
     for byte in bytes {
@@ -42,7 +42,7 @@ fn line_ends(text: &[u8]) -> usize
 
 // Appends the fields of the first line, and gives what is behind it.
 fn cut_line<'a>(text: &'a [u8], fields: &mut Vec<&'a [u8]>) -> Result<&'a [u8], NoMemory>
-    requires plain { list_all is_plain_byte text.now ≡ true }
+    requires plain { list_all is_no_quote text.now ≡ true }
     requires empty { fields.old.items ≡ [] }
     ensures { IfOk result (λ rest. CutsLine text.now (map (λ field. field.now) fields.new.items) rest.now) }
 {
@@ -67,7 +67,7 @@ pub fn take_line<'a>(
     text: &'a [u8],
     fields: &mut Vec<&'a [u8]>,
 ) -> Result<Option<&'a [u8]>, NoMemory>
-    requires plain { list_all is_plain_byte text.now ≡ true }
+    requires plain { list_all is_no_quote text.now ≡ true }
     ensures { IfOk result (λ rest. TakesLine text.now (map (λ field. field.now) fields.new.items) rest) }
 {
     let line = text.split_at(line_ends(text)).1;

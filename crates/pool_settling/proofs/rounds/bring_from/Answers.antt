@@ -1,5 +1,5 @@
 use Rattle.std.proofs.Common.{◌∙◌}
-use Rattle.pool_settling.specs.Rounds.{NoneWaits}
+use Rattle.pool_settling.specs.Rounds.{OutboxHasNone}
 use Rattle.pool_settling.proofs.BringLemmas.{all_below, brings_more}
 use Rattle.pool_settling.proofs.rounds.bring_from.Goals as goal
 
@@ -10,5 +10,5 @@ loop-target-preserved g c =
     record {
       count = one.brought.posts.on.count ∙ before.count;
       brought = brings_more _ _ _ _ _ before.brought one.brought;
-      none = all_below (λ hs target. NoneWaits hs c.args.sender target) c.loop-target.found c.in_ok-found.field-0 c.loop-target.actors.items c.bring_post.new.actors.items c.loop-target.target one.brought.same before.none one.none;
+      none = all_below (λ hs target. OutboxHasNone hs c.args.sender target) c.loop-target.found c.in_ok-found.field-0 c.loop-target.actors.items c.bring_post.new.actors.items c.loop-target.target one.brought.same before.none one.none;
     }

@@ -1,5 +1,5 @@
 use Rattle.std.proofs.Common.{◌≡◌, ℕ, ◌<◌, false, length}
-use Rattle.pool_settling.specs.Rounds.{Brings, NoneWaits}
+use Rattle.pool_settling.specs.Rounds.{Brings, OutboxHasNone}
 use Rattle.pool_settling.proofs.rounds.bring_from.Given as goal
 
 -- the first outboxes were looked into
@@ -7,5 +7,5 @@ abbrev pub invariant-loop-target : goal.invariant-loop-target
 invariant-loop-target g l = record {
   count : length l.actors.items ≡ length l.initial.actors.items;
   brought : Brings l.found l.initial.actors.items l.actors.items;
-  none : l.found ≡ false → (target : ℕ) → target < l.target → NoneWaits l.actors.items l.sender target;
+  none : l.found ≡ false → (target : ℕ) → target < l.target → OutboxHasNone l.actors.items l.sender target;
 }

@@ -1,5 +1,5 @@
 use Rattle.std.proofs.Common.{◌∙◌}
-use Rattle.pool_settling.specs.Rounds.{NoneWait}
+use Rattle.pool_settling.specs.Rounds.{OutboxIsEmpty}
 use Rattle.pool_settling.proofs.BringLemmas.{all_below, brings_more}
 use Rattle.pool_settling.proofs.rounds.bring_round.Goals as goal
 
@@ -10,5 +10,5 @@ loop-sender-preserved g c =
     record {
       count = one.brought.posts.on.count ∙ before.count;
       brought = brings_more _ _ _ _ _ before.brought one.brought;
-      none = all_below NoneWait c.loop-sender.found c.in_ok-found.field-0 c.loop-sender.actors.items c.bring_from.new.actors.items c.loop-sender.sender one.brought.same before.none one.none;
+      none = all_below OutboxIsEmpty c.loop-sender.found c.in_ok-found.field-0 c.loop-sender.actors.items c.bring_from.new.actors.items c.loop-sender.sender one.brought.same before.none one.none;
     }
