@@ -3,7 +3,7 @@ use crate::place::{begins_character, line_around, line_start, place_of};
 use crate::refusal::{Refused, read_refusal};
 use crate::row::row_at;
 use crate::sentence::{feed_sentence, log_sentence, script_sentence};
-use join_base::{Bytes, NoMemory, write_number};
+use join_base::{Bytes, NoMemory, byte_at, write_number};
 use std::alloc::Global;
 
 // The most bytes that are shown of a row or a line, and of what a line has in front of a place.
@@ -35,15 +35,27 @@ fn end_of(bytes: &[u8], max: usize) -> &[u8] {
     &bytes[start..]
 }
 
-// Appends the bytes with blanks in place of the signs that a terminal obeys.
+// What is shown of a byte between two others: a blank in place of a sign that a terminal obeys. In UTF-8 some of these
+// have two bytes, of which the first is 0xC2.
+fn shown(before: u8, b: u8, behind: u8) -> Option<u8> {
+    match (before, b, behind) {
+        (_, 0xC2, 0x80..=0x9F) => None,
+        (0xC2, 0x80..=0x9F, _) => Some(b' '),
+        (_, b'\t', _) => Some(b'\t'),
+        (_, 0..=31 | 127, _) => Some(b' '),
+        _ => Some(b),
+    }
+}
+
+// Appends the bytes as they are shown.
 fn push_shown(out: &mut Bytes, bytes: &[u8]) -> Result<(), NoMemory> {
-    for b in bytes {
-        let shown = if *b < 32 && *b != b'\t' || *b == 127 {
-            b' '
-        } else {
-            *b
-        };
-        out.push_all(&[shown])?;
+    let mut before = 0;
+    for place in 0..bytes.len() {
+        let b = bytes[place];
+        if let Some(sign) = shown(before, b, byte_at(bytes, place + 1)) {
+            out.push_all(&[sign])?;
+        }
+        before = b;
     }
     Ok(())
 }
@@ -96,7 +108,7 @@ fn word_in(text: &[u8]) -> &[u8] {
 
 // Appends the sentence of a cause at a place, with the text from there on.
 fn push_script_cause(out: &mut Bytes, cause: &[u8], rest: &[u8]) -> Result<(), NoMemory> {
-    let (sentence, names) = script_sentence(cause);
+    let (sentence, names) = script_sentence(cause, rest);
     if rest.is_empty() && cause == b"BadSyntax".as_slice() {
         return push_cause(out, cause, b"the script ends too early");
     }
@@ -173,9 +185,10 @@ fn log_note(
     let mut out = part_note(alloc, name, b":", line)?;
     match line_start(text, line) {
         Some(start) if start < text.len() => {
-            push_cause(&mut out, cause, log_sentence(cause))?;
-            out.push_all(b"\n")?;
             let (_, back) = line_around(text, start);
+            let is_ended = back.len() < text.len() - start;
+            push_cause(&mut out, cause, log_sentence(cause, back, is_ended))?;
+            out.push_all(b"\n")?;
             push_line(&mut out, back)?;
         }
         _ => {
@@ -198,6 +211,45 @@ pub fn refusal_note(
         Some(Refused::Script { place, cause }) => script_note(alloc, name, text, place, cause),
         Some(Refused::Feed { row, cause }) => feed_note(alloc, name, text, row, cause),
         Some(Refused::Log { line, cause }) => log_note(alloc, name, text, line, cause),
+        None => Ok(Bytes::new(alloc)),
+    }
+}
+
+// What is told of a part of a file that can't be shown.
+fn blind_note(
+    alloc: Global,
+    name: &str,
+    part: &[u8],
+    number: u64,
+    cause: &[u8],
+    sentence: &[u8],
+) -> Result<Bytes, NoMemory> {
+    let mut out = part_note(alloc, name, part, number)?;
+    push_cause(&mut out, cause, sentence)?;
+    out.push_all(b"\n")?;
+    Ok(out)
+}
+
+/// The same of a file that can't be read a second time, as a pipe: where the fault is, and why.
+pub fn unseen_note(alloc: Global, name: &str, line: &[u8]) -> Result<Bytes, NoMemory> {
+    match read_refusal(line) {
+        Some(Refused::Script { place, cause }) => {
+            let (sentence, _) = script_sentence(cause, &[]);
+            blind_note(alloc, name, b": byte ", place, cause, sentence)
+        }
+        Some(Refused::Feed { row, cause }) => {
+            blind_note(alloc, name, b": row ", row, cause, feed_sentence(cause))
+        }
+        Some(Refused::Log { line, cause }) => {
+            blind_note(
+                alloc,
+                name,
+                b":",
+                line,
+                cause,
+                log_sentence(cause, &[], true),
+            )
+        }
         None => Ok(Bytes::new(alloc)),
     }
 }

@@ -1,8 +1,8 @@
 //! What is told, for each sort of refusal.
-use crate::note::{long_note, read_note, refusal_note, write_note};
+use crate::note::{long_note, read_note, refusal_note, unseen_note, write_note};
 use crate::place::{Place, line_start, place_of};
 use crate::refusal::{Refused, read_refusal};
-use crate::sentence::{NO_MEMORY, USAGE};
+use crate::sentence::{LIMITS, NO_MEMORY, USAGE};
 use join_base::Bytes;
 use std::alloc::Global;
 use std::process::Abort;
@@ -24,9 +24,41 @@ const SCRIPTS: &[Told] = &[
     (
         b"message a(x: int) actor m { when a(x) if x = 1 { } }",
         b"refused script 43 BadToken\n",
-        b"home:1:44: BadToken: no word, number, text or sign begins here, or it is too long
+        b"home:1:44: BadToken: this is no sign (equal is ==)
     message a(x: int) actor m { when a(x) if x = 1 { } }
                                                ^
+",
+    ),
+    (
+        b"message a(x: int) actor m { when a(x) { print \"it is open; } }",
+        b"refused script 46 BadToken\n",
+        b"home:1:47: BadToken: no text begins here: it does not end, an escape is wrong or missing, or it has more than 120 bytes
+    message a(x: int) actor m { when a(x) { print \"it is open; } }
+                                                  ^
+",
+    ),
+    (
+        b"message a(x: int) actor m { when a(x) if x > 9223372036854775808 { } }",
+        b"refused script 45 BadToken\n",
+        b"home:1:46: BadToken: the number is greater than 9223372036854775807
+    message a(x: int) actor m { when a(x) if x > 9223372036854775808 { } }
+                                                 ^
+",
+    ),
+    (
+        b"\xEF\xBB\xBFmessage a()",
+        b"refused script 0 BadToken\n",
+        b"home:1:1: BadToken: a byte order mark stands here; save the file without one
+    \xEF\xBB\xBFmessage a()
+    ^
+",
+    ),
+    (
+        b"\xC2\x9B@message",
+        b"refused script 0 BadToken\n",
+        b"home:1:1: BadToken: no word, number, text or sign begins here, or it is too long
+     @message
+    ^
 ",
     ),
     (
@@ -159,14 +191,14 @@ const FEEDS: &[Told] = &[
     (
         b"x,a,1\n",
         b"refused feed 1 row 1 UnknownActor\n",
-        b"home: row 1: UnknownActor: the first field is no actor's name
+        b"home: row 1: UnknownActor: the first field is no actor's name (there is no line of headings, and blanks count)
     x,a,1
 ",
     ),
     (
         b"m,z,1\n",
         b"refused feed 1 row 1 UnknownMessage\n",
-        b"home: row 1: UnknownMessage: the second field is no message's name
+        b"home: row 1: UnknownMessage: the second field is no message's name (blanks count)
     m,z,1
 ",
     ),
@@ -187,7 +219,7 @@ const FEEDS: &[Told] = &[
     (
         b"m,a,+1\n",
         b"refused feed 1 row 1 BadInt\n",
-        b"home: row 1: BadInt: a field of type int is not a whole number of 64 bits, written like 7 or -7
+        b"home: row 1: BadInt: a field of type int is not a whole number of 64 bits, written like 7 or -7 without blanks
     m,a,+1
 ",
     ),
@@ -208,35 +240,35 @@ const FEEDS: &[Told] = &[
     (
         ROWS,
         b"refused feed 2 row 1 BadInt\n",
-        b"home: row 1: BadInt: a field of type int is not a whole number of 64 bits, written like 7 or -7
+        b"home: row 1: BadInt: a field of type int is not a whole number of 64 bits, written like 7 or -7 without blanks
     m,a,1
 ",
     ),
     (
         ROWS,
         b"refused feed 2 row 2 BadInt\n",
-        b"home: row 2: BadInt: a field of type int is not a whole number of 64 bits, written like 7 or -7
+        b"home: row 2: BadInt: a field of type int is not a whole number of 64 bits, written like 7 or -7 without blanks
     \"m\",say,\"one \"\"two\"\"\"
 ",
     ),
     (
         ROWS,
         b"refused feed 2 row 3 BadInt\n",
-        b"home: row 3: BadInt: a field of type int is not a whole number of 64 bits, written like 7 or -7
+        b"home: row 3: BadInt: a field of type int is not a whole number of 64 bits, written like 7 or -7 without blanks
     m,a,x
 ",
     ),
     (
         ROWS,
         b"refused feed 2 row 4 BadInt\n",
-        b"home: row 4: BadInt: a field of type int is not a whole number of 64 bits, written like 7 or -7
+        b"home: row 4: BadInt: a field of type int is not a whole number of 64 bits, written like 7 or -7 without blanks
     m,b
 ",
     ),
     (
         ROWS,
         b"refused feed 2 row 5 BadInt\n",
-        b"home: row 5: BadInt: a field of type int is not a whole number of 64 bits, written like 7 or -7
+        b"home: row 5: BadInt: a field of type int is not a whole number of 64 bits, written like 7 or -7 without blanks
     
 ",
     ),
@@ -249,6 +281,20 @@ const LOGS: &[Told] = &[
         b"refused log line 3 LogFault\n",
         b"home:3: LogFault: no log of this script goes on like this
     01 at 1 from feed 1 a(7)
+",
+    ),
+    (
+        b"joinlog 2 arrivals 5 partials 6 feeds 1\nactor m\n1 at 1 from fe",
+        b"refused log line 3 LogFault\n",
+        b"home:3: LogFault: the log ends within this line
+    1 at 1 from fe
+",
+    ),
+    (
+        b"joinlog 2 arrivals 5 partials 6 feeds 1\r\nactor m\r\n",
+        b"refused log line 1 LogFault\n",
+        b"home:1: LogFault: the line ends in a carriage return, and a log has none
+    joinlog 2 arrivals 5 partials 6 feeds 1 
 ",
     ),
     (
@@ -363,6 +409,34 @@ fn lines_in_fault_are_told(rt: HostRuntime) -> Result<(), Fail> {
 }
 
 #[test]
+fn faults_of_a_file_that_is_gone_are_told(rt: HostRuntime) -> Result<(), Fail> {
+    let cases: [(&[u8], &[u8]); 5] = [
+        (
+            b"refused script 163 UnknownName\n",
+            b"home: byte 163: UnknownName: no variable of this definition has the name\n",
+        ),
+        (
+            b"refused script 9 BadToken\n",
+            b"home: byte 9: BadToken: no word, number, text or sign begins here, or it is too long\n",
+        ),
+        (
+            b"refused feed 2 row 7 WrongCount\n",
+            b"home: row 7: WrongCount: the row has not as many fields as its message, or names no message\n",
+        ),
+        (
+            b"refused log line 4 LogFault\n",
+            b"home:4: LogFault: no log of this script goes on like this\n",
+        ),
+        (b"refused usage\n", b""),
+    ];
+    for (line, want) in cases {
+        let note = unseen_note(rt.alloc(), "home", line)?;
+        assert_eq!(rt; note.bytes(), want);
+    }
+    Ok(())
+}
+
+#[test]
 fn a_long_row_is_cut(rt: HostRuntime) -> Result<(), Fail> {
     let alloc = rt.alloc();
     let mut text = Bytes::new(alloc);
@@ -391,7 +465,7 @@ fn other_faults_are_told(rt: HostRuntime) -> Result<(), Fail> {
     let unnamed = read_note(alloc, "", "No such file or directory (os error 2)")?;
     let long = long_note(alloc, "f", 16_777_216)?;
     let written = write_note(alloc, "Broken pipe (os error 32)")?;
-    let cases: [(&[u8], &[u8]); 6] = [
+    let cases: [(&[u8], &[u8]); 7] = [
         (read.bytes(), b"f: Is a directory (os error 21)\n"),
         (
             unnamed.bytes(),
@@ -404,14 +478,24 @@ fn other_faults_are_told(rt: HostRuntime) -> Result<(), Fail> {
         ),
         (NO_MEMORY, b"joinactors: there was not enough memory\n"),
         (
+            LIMITS,
+            b"joinactors: an actor ended at a limit, and what came to it later is counted as late
+  end jammed: at --partials, end spent: at --arrivals
+",
+        ),
+        (
             USAGE,
             b"usage:
-  run SCRIPT FEED.. [--workers N] [--ring N] [--arrivals N] [--partials N]
+  run SCRIPT FEED.. [OPTION N]..    1 to 16 feeds
   check SCRIPT
   lint SCRIPT
   replay SCRIPT LOG
-  load N
-docs/LANGUAGE.md has the ranges
+  load N                            N from 1 to 20000
+the options of run, each at most once:
+  --workers N     1 to 64, usually 4
+  --ring N        1 to 4096, usually 64
+  --arrivals N    1 to 1000000, usually 50000
+  --partials N    1 to 1000000, usually 65536
 ",
         ),
     ];

@@ -1,6 +1,8 @@
 //! What a person is told on standard error. Nothing rests on it: the output and the status stand before.
 use command_words::Request;
-use fault_places::{NO_MEMORY, USAGE, long_note, read_note, refusal_note, write_note};
+use fault_places::{
+    LIMITS, NO_MEMORY, USAGE, long_note, read_note, refusal_note, unseen_note, write_note,
+};
 use join_base::{Bytes, Inputs, NoMemory, Word, WordList};
 use join_command::{MAX_FILE, MAX_LOG, Status, command_of, write_all};
 use std::alloc::Global;
@@ -79,7 +81,7 @@ fn read_again(rt: &HostRuntime, name: &str) -> Option<Bytes> {
 fn refused_note(rt: &HostRuntime, name: &str, line: &[u8]) -> Result<Bytes, NoMemory> {
     match read_again(rt, name) {
         Some(text) => refusal_note(rt.alloc(), name, text.bytes(), line),
-        None => Ok(Bytes::new(rt.alloc())),
+        None => unseen_note(rt.alloc(), name, line),
     }
 }
 
@@ -121,7 +123,8 @@ fn note_of<W: Write + Drop>(
 ) -> Result<Bytes, NoMemory> {
     let alloc = rt.alloc();
     match status {
-        Status::Done | Status::Limits => Ok(Bytes::new(alloc)),
+        Status::Done => Ok(Bytes::new(alloc)),
+        Status::Limits => text_of(alloc, LIMITS),
         Status::Usage => text_of(alloc, USAGE),
         Status::NoMemory => Err(NoMemory),
         Status::WriteFault => write_fault_note(alloc, out.error()),
@@ -142,7 +145,7 @@ pub fn tell_no_memory(rt: &HostRuntime) {
     tell_bytes(rt, NO_MEMORY);
 }
 
-/// Tells why a call came to nothing. `fetches` says how many files were asked for.
+/// Tells why a call came to nothing, or that an actor met a limit. `fetches` says how many files were asked for.
 pub fn tell<W: Write + Drop>(
     rt: &HostRuntime,
     words: &WordList,
