@@ -34,7 +34,7 @@ late_shown : (plan : Plan) (late : List (Source × ℕ)) → shown (map (λ l. o
 late_shown plan [] = refl
 late_shown plan (l ∷ late) = ap (λ (t : List ℕ). late_line plan l ++ t) (late_shown plan late)
 
-entries_shown : (plan : Plan) (version actor : ℕ) (before entries : List Entry) → shown (entries_lines plan version actor before entries) ≡ flat_map (text.lines_of_entry plan version) entries
+entries_shown : (plan : Plan) (version actor : ℕ) (before entries : List Entry) → shown (entries_lines plan version actor before entries) ≡ flat_map (text.entry_lines plan version) entries
 entries_shown plan version actor before [] = refl
 entries_shown plan version actor before (e ∷ entries) =
     shown-append (lines_of_entry plan version actor before e) (entries_lines plan version actor (before ++ e ∷ []) entries)
