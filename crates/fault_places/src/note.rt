@@ -159,7 +159,7 @@ fn part_note(alloc: Global, name: &str, part: &[u8], number: u64) -> Result<Byte
     Ok(out)
 }
 
-// What is told of a feed with a row in fault: file, row, cause, and the row.
+// What is told of a feed with a row in fault: file, line, row, cause, and the row.
 fn feed_note(
     alloc: Global,
     name: &str,
@@ -167,10 +167,17 @@ fn feed_note(
     row: u64,
     cause: &[u8],
 ) -> Result<Bytes, NoMemory> {
-    let mut out = part_note(alloc, name, b": row ", row)?;
+    let (place, bytes) = row_at(alloc, text, row)?;
+    let mut out = Bytes::new(alloc);
+    push_name(&mut out, name)?;
+    out.push_all(b":")?;
+    write_number(&mut out, place_of(text, place).line as i128)?;
+    out.push_all(b": row ")?;
+    write_number(&mut out, i128::from(row))?;
+    out.push_all(b": ")?;
     push_cause(&mut out, cause, feed_sentence(cause))?;
     out.push_all(b"\n")?;
-    push_line(&mut out, row_at(alloc, text, row)?)?;
+    push_line(&mut out, bytes)?;
     Ok(out)
 }
 

@@ -1,40 +1,49 @@
 //! The row of a feed, as its file has it.
+ghost use Rattle.std.specs.Prelude.{◌≤◌, length};
+
 use csv::{ByteRecord, ReaderBuilder};
 use join_base::NoMemory;
 use std::alloc::Global;
-
-const BYTE_ORDER_MARK: &[u8] = b"\xEF\xBB\xBF";
 
 fn is_line_end(b: u8) -> bool {
     b == b'\n' || b == b'\r'
 }
 
-// The bytes between the line ends in front and those behind.
-fn without_line_ends(bytes: &[u8]) -> &[u8] {
-    let before = bytes.iter().take_while(|b| is_line_end(**b)).count();
-    let (_, rest) = bytes.split_at(before);
-    let behind = rest.iter().rev().take_while(|b| is_line_end(**b)).count();
-    let (row, _) = rest.split_at(rest.len().saturating_sub(behind));
-    row
+// How many of these bytes in front are line ends.
+fn line_ends_len(bytes: &[u8]) -> usize
+    ensures { result ≤ length bytes.now }
+{
+    bytes.iter().take_while(|b| is_line_end(**b)).count()
 }
 
-// The row in a piece of the file, which may begin with the mark of its encoding.
-fn row_in(piece: &[u8]) -> &[u8] {
-    match piece.strip_prefix(BYTE_ORDER_MARK) {
-        Some(rest) => without_line_ends(rest),
-        None => without_line_ends(piece),
+// Where a row begins in a piece of the file, which may begin with the mark of its encoding and with line ends.
+fn row_start(piece: &[u8]) -> usize
+    ensures { result ≤ length piece.now }
+{
+    match piece {
+        [0xEF, 0xBB, 0xBF, rest @ ..] => 3 + line_ends_len(rest),
+        _ => line_ends_len(piece),
     }
 }
 
-// The bytes from a place to another, as far as there are any.
-fn between(bytes: &[u8], start: u64, end: u64) -> &[u8] {
-    let end = end.min(bytes.len() as u64) as usize;
-    let start = start.min(end as u64) as usize;
-    &bytes[start..end]
+// The bytes in front of the line ends at their end.
+fn without_line_ends(bytes: &[u8]) -> &[u8] {
+    let behind = bytes.iter().rev().take_while(|b| is_line_end(**b)).count();
+    let (row, _) = bytes.split_at(bytes.len().saturating_sub(behind));
+    row
 }
 
-/// The bytes of the record of this number, counted from 1, or none where there is no such record.
-pub fn row_at(alloc: Global, bytes: &[u8], row: u64) -> Result<&[u8], NoMemory> {
+// The row between two places of the file, and where it begins.
+fn row_between(bytes: &[u8], start: u64, end: u64) -> (usize, &[u8]) {
+    let end = end.min(bytes.len() as u64) as usize;
+    let start = start.min(end as u64) as usize;
+    let piece = &bytes[start..end];
+    let skipped = row_start(piece);
+    (start + skipped, without_line_ends(&piece[skipped..]))
+}
+
+/// Where the record of this number, counted from 1, begins, and its bytes; the end and none where there is no such record.
+pub fn row_at(alloc: Global, bytes: &[u8], row: u64) -> Result<(usize, &[u8]), NoMemory> {
     let mut reader = ReaderBuilder::new()
         .has_headers(false)
         .flexible(true)
@@ -45,13 +54,12 @@ pub fn row_at(alloc: Global, bytes: &[u8], row: u64) -> Result<&[u8], NoMemory> 
         match reader.read_byte_record(&mut record) {
             Ok(true) => {
                 if number == row {
-                    let piece = between(bytes, start, reader.position().byte());
-                    return Ok(row_in(piece));
+                    return Ok(row_between(bytes, start, reader.position().byte()));
                 }
             }
-            Ok(false) => return Ok(&[]),
+            Ok(false) => return Ok((bytes.len(), &[])),
             Err(_) => return Err(NoMemory),
         }
     }
-    Ok(&[])
+    Ok((bytes.len(), &[]))
 }

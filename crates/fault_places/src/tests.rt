@@ -191,84 +191,84 @@ const FEEDS: &[Told] = &[
     (
         b"x,a,1\n",
         b"refused feed 1 row 1 UnknownActor\n",
-        b"home: row 1: UnknownActor: the first field is no actor's name (there is no line of headings, and blanks count)
+        b"home:1: row 1: UnknownActor: the first field is no actor's name (there is no line of headings, and blanks count)
     x,a,1
 ",
     ),
     (
         b"m,z,1\n",
         b"refused feed 1 row 1 UnknownMessage\n",
-        b"home: row 1: UnknownMessage: the second field is no message's name (blanks count)
+        b"home:1: row 1: UnknownMessage: the second field is no message's name (blanks count)
     m,z,1
 ",
     ),
     (
         b"m\n",
         b"refused feed 1 row 1 WrongCount\n",
-        b"home: row 1: WrongCount: the row has not as many fields as its message, or names no message
+        b"home:1: row 1: WrongCount: the row has not as many fields as its message, or names no message
     m
 ",
     ),
     (
         b"m,a\n",
         b"refused feed 1 row 1 WrongCount\n",
-        b"home: row 1: WrongCount: the row has not as many fields as its message, or names no message
+        b"home:1: row 1: WrongCount: the row has not as many fields as its message, or names no message
     m,a
 ",
     ),
     (
         b"m,a,+1\n",
         b"refused feed 1 row 1 BadInt\n",
-        b"home: row 1: BadInt: a field of type int is not a whole number of 64 bits, written like 7 or -7 without blanks
+        b"home:1: row 1: BadInt: a field of type int is not a whole number of 64 bits, written like 7 or -7 without blanks
     m,a,+1
 ",
     ),
     (
         b"m,say,\xFF\n",
         b"refused feed 1 row 1 NotText\n",
-        b"home: row 1: NotText: a field of type text is not UTF-8
+        b"home:1: row 1: NotText: a field of type text is not UTF-8
     m,say,\xFF
 ",
     ),
     (
         b"m,say,and so on\n",
         b"refused feed 1 row 1 TooLong\n",
-        b"home: row 1: TooLong: a field of type text has more than 120 bytes
+        b"home:1: row 1: TooLong: a field of type text has more than 120 bytes
     m,say,and so on
 ",
     ),
     (
         ROWS,
         b"refused feed 2 row 1 BadInt\n",
-        b"home: row 1: BadInt: a field of type int is not a whole number of 64 bits, written like 7 or -7 without blanks
+        b"home:1: row 1: BadInt: a field of type int is not a whole number of 64 bits, written like 7 or -7 without blanks
     m,a,1
 ",
     ),
     (
         ROWS,
         b"refused feed 2 row 2 BadInt\n",
-        b"home: row 2: BadInt: a field of type int is not a whole number of 64 bits, written like 7 or -7 without blanks
+        b"home:3: row 2: BadInt: a field of type int is not a whole number of 64 bits, written like 7 or -7 without blanks
     \"m\",say,\"one \"\"two\"\"\"
 ",
     ),
     (
         ROWS,
         b"refused feed 2 row 3 BadInt\n",
-        b"home: row 3: BadInt: a field of type int is not a whole number of 64 bits, written like 7 or -7 without blanks
+        b"home:7: row 3: BadInt: a field of type int is not a whole number of 64 bits, written like 7 or -7 without blanks
     m,a,x
 ",
     ),
     (
         ROWS,
         b"refused feed 2 row 4 BadInt\n",
-        b"home: row 4: BadInt: a field of type int is not a whole number of 64 bits, written like 7 or -7 without blanks
+        b"home:7: row 4: BadInt: a field of type int is not a whole number of 64 bits, written like 7 or -7 without blanks
     m,b
 ",
     ),
     (
         ROWS,
         b"refused feed 2 row 5 BadInt\n",
-        b"home: row 5: BadInt: a field of type int is not a whole number of 64 bits, written like 7 or -7 without blanks
+        b"home:7: row 5: BadInt: a field of type int is not a whole number of 64 bits, written like 7 or -7 without blanks
     
 ",
     ),
@@ -444,7 +444,7 @@ fn a_long_row_is_cut(rt: HostRuntime) -> Result<(), Fail> {
     text.push_all(&[b'k'; 294])?;
     let mut want = Bytes::new(alloc);
     want.push_all(
-        b"home: row 1: TooLong: a field of type text has more than 120 bytes\n    m,say,",
+        b"home:1: row 1: TooLong: a field of type text has more than 120 bytes\n    m,say,",
     )?;
     want.push_all(&[b'k'; 194])?;
     want.push_all(b"\n")?;

@@ -44,7 +44,7 @@ fn main(rt: HostRuntime) -> ExitCode {
             let mut inputs = FileInputs::new(&rt);
             let mut out = OutSink::new(rt.stdout());
             let status = join_main(&rt, rt.alloc(), &words, &mut inputs, &mut out, &FreeGate);
-            tell(&rt, &words, status, inputs.fetches(), &out);
+            tell(&rt, &words, status, &inputs, &out);
             status
         }
         Err(NoMemory) => {

@@ -7,8 +7,7 @@ use join_base::{Bytes, Inputs, NoMemory, Word, WordList};
 use join_command::{MAX_FILE, MAX_LOG, Status, command_of, write_all};
 use std::alloc::Global;
 use std::fs;
-use std::fs::File;
-use std::io::{self, Read, Write};
+use std::io::{self, Write};
 use system_files::{FileInputs, OutSink};
 
 // The file of a command that is fetched with this number, counted from 1.
@@ -44,25 +43,10 @@ fn words_of(alloc: Global, error: io::Error) -> Result<String, NoMemory> {
     Ok(words)
 }
 
-fn read_one(file: &mut File) -> io::Result<usize> {
-    let mut byte = [0u8; 1];
-    file.read(&mut byte)
-}
-
-// What the system says of a file that could not be read. A file that could wait, as a pipe, is not opened again.
-fn why_unread(rt: &HostRuntime, name: &str) -> io::Result<()> {
-    let known = fs::metadata(rt, name)?;
-    if known.is_file() || known.is_dir() {
-        let mut file = fs::open(rt, name)?;
-        read_one(&mut file)?;
-    }
-    Ok(())
-}
-
-fn unread_note(rt: &HostRuntime, name: &str) -> Result<Bytes, NoMemory> {
-    match why_unread(rt, name) {
-        Ok(()) => read_note(rt.alloc(), name, "it could not be read"),
-        Err(error) => read_note(rt.alloc(), name, words_of(rt.alloc(), error)?.as_str()),
+fn read_fault_note(alloc: Global, name: &str, error: Option<io::Error>) -> Result<Bytes, NoMemory> {
+    match error {
+        Some(error) => read_note(alloc, name, words_of(alloc, error)?.as_str()),
+        None => Ok(Bytes::new(alloc)),
     }
 }
 
@@ -90,18 +74,19 @@ fn file_note(
     rt: &HostRuntime,
     words: &WordList,
     status: Status,
-    fetches: u64,
+    inputs: &FileInputs<'_, HostRuntime>,
     line: &[u8],
 ) -> Result<Bytes, NoMemory> {
     let alloc = rt.alloc();
     let Some(command) = command_of(alloc, words)? else {
         return Ok(Bytes::new(alloc));
     };
+    let fetches = inputs.fetches();
     let Some(name) = file_of(&command, fetches) else {
         return Ok(Bytes::new(alloc));
     };
     match status {
-        Status::ReadFault => unread_note(rt, name.as_str()),
+        Status::ReadFault => read_fault_note(alloc, name.as_str(), inputs.error()),
         Status::TooLong => long_note(alloc, name.as_str(), most_of(&command, fetches)),
         _ => refused_note(rt, name.as_str(), line),
     }
@@ -118,7 +103,7 @@ fn note_of<W: Write + Drop>(
     rt: &HostRuntime,
     words: &WordList,
     status: Status,
-    fetches: u64,
+    inputs: &FileInputs<'_, HostRuntime>,
     out: &OutSink<W>,
 ) -> Result<Bytes, NoMemory> {
     let alloc = rt.alloc();
@@ -132,7 +117,7 @@ fn note_of<W: Write + Drop>(
         | Status::FeedRefused
         | Status::LogRefused
         | Status::ReadFault
-        | Status::TooLong => file_note(rt, words, status, fetches, out.front()),
+        | Status::TooLong => file_note(rt, words, status, inputs, out.front()),
     }
 }
 
@@ -145,15 +130,15 @@ pub fn tell_no_memory(rt: &HostRuntime) {
     tell_bytes(rt, NO_MEMORY);
 }
 
-/// Tells why a call came to nothing, or that an actor met a limit. `fetches` says how many files were asked for.
+/// Tells why a call came to nothing, or that an actor met a limit.
 pub fn tell<W: Write + Drop>(
     rt: &HostRuntime,
     words: &WordList,
     status: Status,
-    fetches: u64,
+    inputs: &FileInputs<'_, HostRuntime>,
     out: &OutSink<W>,
 ) {
-    match note_of(rt, words, status, fetches, out) {
+    match note_of(rt, words, status, inputs, out) {
         Ok(note) => tell_bytes(rt, note.bytes()),
         Err(NoMemory) => tell_no_memory(rt),
     }

@@ -1,8 +1,8 @@
 //! Real files and real output: the edge of the program, which tells nothing of its bytes.
-ghost use Rattle.std.specs.Prelude.{◌≡◌, ◌<◌, ◌≤◌, ◌+◌, ◌^◌, ℕ, List, length, IfOk, OnOk, None, min};
+ghost use Rattle.std.specs.Prelude.{◌≡◌, ◌<◌, ◌≤◌, ◌+◌, ◌^◌, ℕ, List, length, IfOk, IfSome, OnOk, None, min};
 ghost use Rattle.join_base.specs.Outside.{FetchCause, FetchTells, IsCount, WriteCause, WriteTells};
 
-use join_base::{Bytes, Failed, FetchFault, Inputs, NoMemory, Sink};
+use join_base::{Bytes, Failed, FetchFault, Inputs, Sink};
 use std::alloc::Global;
 use std::fs;
 use std::io::{self, ErrorKind, Read, Write};
@@ -12,7 +12,7 @@ use std::rt::Files;
 pub const MAX_TRIES: u32 = 1_000;
 
 // Reads some bytes, or none at the end.
-fn read_some<F: Read>(file: &mut F, buffer: &mut [u8]) -> Result<usize, FetchFault>
+fn read_some<F: Read>(file: &mut F, buffer: &mut [u8]) -> io::Result<usize>
     ensures within { IfOk result (λ count. count ≤ length buffer.old) }
     ensures same_length { length buffer.new ≡ length buffer.old }
 {
@@ -21,32 +21,33 @@ fn read_some<F: Read>(file: &mut F, buffer: &mut [u8]) -> Result<usize, FetchFau
             Ok(count) => return Ok(count),
             Err(error) => {
                 if error.kind() != ErrorKind::Interrupted {
-                    return Err(fault_of(&error));
+                    return Err(error);
                 }
             }
         }
     }
-    Err(FetchFault::Failed)
+    Err(io::Error::from(ErrorKind::Interrupted))
 }
 
 // Room for this many bytes.
-fn buffer_of(alloc: Global, size: usize) -> Result<Vec<u8>, NoMemory>
+fn buffer_of(alloc: Global, size: usize) -> io::Result<Vec<u8>>
     ensures { IfOk result (λ buffer. length buffer.items ≡ size) }
 {
     let buffer = vec![in alloc; 0u8; size]?;
     Ok(buffer)
 }
 
-fn append(bytes: &mut Vec<u8>, piece: &[u8]) -> Result<(), NoMemory>
+fn append(bytes: &mut Vec<u8>, piece: &[u8]) -> io::Result<()>
     ensures { OnOk result (length bytes.new.items ≡ length bytes.old.items + length piece.now) }
 {
     bytes.extend_from_slice(piece)?;
     Ok(())
 }
 
-/// Reads to the end. `TooLong` comes where there are more than `max` bytes, of which a few past them were read.
-pub fn read_up_to<F: Read + Drop>(alloc: Global, mut file: F, max: u64) -> Result<Bytes, FetchFault>
-    ensures within { IfOk result (λ bytes. length bytes ≤ max) }
+/// Reads to the end. There are none where there are more than `max` bytes, of which a few past them were read. Want of
+/// memory is `OutOfMemory`, and a reader that is interrupted again and again `Interrupted`.
+pub fn read_up_to<F: Read + Drop>(alloc: Global, mut file: F, max: u64) -> io::Result<Option<Bytes>>
+    ensures within { IfOk result (λ found. IfSome found (λ bytes. length bytes ≤ max)) }
 {
     let mut bytes = Vec::new(alloc);
     let size = max.saturating_add(1).min(65_536) as usize;
@@ -54,28 +55,20 @@ pub fn read_up_to<F: Read + Drop>(alloc: Global, mut file: F, max: u64) -> Resul
     'pieces: while bytes.len() as u64 <= max {
         let count = read_some(&mut file, buffer.as_mut_slice())?;
         if count == 0 {
-            return Ok(Bytes::from_vec(bytes));
+            return Ok(Some(Bytes::from_vec(bytes)));
         }
         append(&mut bytes, &buffer[..count])?;
     }
-    Err(FetchFault::TooLong)
+    Ok(None)
 }
 
-// Want of memory is no fault of the file.
-fn fault_of(error: &io::Error) -> FetchFault {
-    if error.kind() == ErrorKind::OutOfMemory {
-        FetchFault::NoMemory
-    } else {
-        FetchFault::Failed
-    }
-}
-
-/// The files of the file system, by their paths.
+/// The files of the file system, by their paths. They keep the error of the latest fetch that failed.
 #[derive(Drop)]
 pub struct FileInputs<'a, R: Files> {
     rt: &'a R,
     fetches: u64,
     faults: u64,
+    error: Option<io::Error>,
 }
 
 impl<'a, R: Files> FileInputs<'a, R> {
@@ -86,6 +79,7 @@ impl<'a, R: Files> FileInputs<'a, R> {
             rt,
             fetches: 0,
             faults: 0,
+            error: None,
         }
     }
 
@@ -93,16 +87,19 @@ impl<'a, R: Files> FileInputs<'a, R> {
     pub fn fetches(&self) -> u64 {
         self.fetches
     }
+
+    /// Why the latest fetch that failed did so.
+    pub fn error(&self) -> Option<io::Error> {
+        self.error
+    }
 }
 
 // The bytes of a file, of which there are at most `max`.
-fn read_file<R: Files>(rt: &R, alloc: Global, name: &str, max: u64) -> Result<Bytes, FetchFault>
-    ensures within { IfOk result (λ bytes. length bytes ≤ max) }
+fn read_file<R: Files>(rt: &R, alloc: Global, name: &str, max: u64) -> io::Result<Option<Bytes>>
+    ensures within { IfOk result (λ found. IfSome found (λ bytes. length bytes ≤ max)) }
 {
-    match fs::open(rt, name) {
-        Ok(file) => read_up_to(alloc, file, max),
-        Err(error) => Err(fault_of(&error)),
-    }
+    let file = fs::open(rt, name)?;
+    read_up_to(alloc, file, max)
 }
 
 impl<'a, R: Files> Inputs for FileInputs<'a, R> {
@@ -114,11 +111,19 @@ impl<'a, R: Files> Inputs for FileInputs<'a, R> {
     /// and again. Reading ends soon behind `max` bytes, so a device that never ends is `TooLong`.
     fn fetch(&mut self, alloc: Global, name: &str, max: u64) -> Result<Bytes, FetchFault> {
         self.fetches = self.fetches.saturating_add(1);
-        let read = read_file(self.rt, alloc, name, max);
-        if let Err(FetchFault::Failed) = read {
-            self.faults = self.faults.saturating_add(1);
+        match read_file(self.rt, alloc, name, max) {
+            Ok(Some(bytes)) => Ok(bytes),
+            Ok(None) => Err(FetchFault::TooLong),
+            Err(error) => {
+                // Want of memory is no fault of the file.
+                if error.kind() == ErrorKind::OutOfMemory {
+                    return Err(FetchFault::NoMemory);
+                }
+                self.error = Some(error);
+                self.faults = self.faults.saturating_add(1);
+                Err(FetchFault::Failed)
+            }
         }
-        read
     }
 }
 

@@ -70,15 +70,18 @@ fn interrupted_reads_are_made_again(rt: HostRuntime) -> Result<(), Fail> {
         bytes: 3,
     };
     match read_up_to(alloc, few, 3) {
-        Ok(bytes) => assert_eq!(rt; bytes.bytes(), b"kkk".as_slice()),
-        Err(_) => assert!(rt; false),
+        Ok(Some(bytes)) => assert_eq!(rt; bytes.bytes(), b"kkk".as_slice()),
+        _ => assert!(rt; false),
     }
     let many = Interrupted {
         times: MAX_TRIES,
         left: 0,
         bytes: 3,
     };
-    assert_eq!(rt; read_up_to(alloc, many, 3).err(), Some(FetchFault::Failed));
+    match read_up_to(alloc, many, 3) {
+        Err(error) => assert_eq!(rt; error.kind(), ErrorKind::Interrupted),
+        _ => assert!(rt; false),
+    }
     Ok(())
 }
 
