@@ -14,6 +14,8 @@ use Rattle.fair_semantics.specs.Linked.{effect_for, entry_posts, firing_effects,
 use Rattle.fair_semantics.proofs.ListLemmas.{each_append}
 use Rattle.fair_semantics.proofs.SizeLemmas.{Sized, sized}
 use Rattle.actor_turn.specs.Held.{Held, new_entries, posts_behind, posts_for}
+use Rattle.actor_turn.specs.Rest.{HoldsPartialMatches}
+use Rattle.actor_turn.proofs.HeldLemmas.{same_partial}
 use Rattle.actor_turn.proofs.PostsLemmas.{length-posts_behind}
 use Rattle.post_ring.specs.declared.link_in.LinkIn.{LinkIn}
 use Rattle.post_ring.specs.declared.link_out.LinkOut.{LinkOut}
@@ -54,8 +56,9 @@ IsPosted outward outbox entries actors = (target : ℕ) → target < actors → 
 
 -- a cell with the tag of another whose state stands
 pub to-lawful : (c after : Cell) → IsLawful c → (held_in after).setting ≡ (held_in c).setting → cell_tag after ≡ cell_tag c → length (held_in after).outbox ≡ length (held_in c).outbox
-    → Stands (held_in c).setting (feeds_in c) (actors_in c) (received_from after.inward.items) (state_in after) → IsPosted after.outward.items (held_in after).outbox (entries_in after) (actors_in c) → IsLawful after
-to-lawful c after lawful setting tag boxes before posted =
+    → Stands (held_in c).setting (feeds_in c) (actors_in c) (received_from after.inward.items) (state_in after) → HoldsPartialMatches (held_in after)
+    → IsPosted after.outward.items (held_in after).outbox (entries_in after) (actors_in c) → IsLawful after
+to-lawful c after lawful setting tag boxes before partial posted =
     let feeds : feeds_in after ≡ feeds_in c = ap (λ (t : CellTag). t.feeds) tag in
     let actors : actors_in after ≡ actors_in c = ap (λ (t : CellTag). t.actors) tag in
     let now = subst (λ (x : Setting × ℕ × ℕ). Stands x.0 x.1 x.2 (received_from after.inward.items) (state_in after)) (λ i. (sym setting i, sym feeds i, sym actors i)) before in
@@ -65,6 +68,7 @@ to-lawful c after lawful setting tag boxes before posted =
       in_order = now.in_order;
       late = now.late;
       fair = now.fair;
+      partial = partial;
       posted = λ target within. posted target (subst (λ (n : ℕ). target < n) actors within);
     }
 
@@ -123,7 +127,7 @@ module _ (c after : Cell) (k : ℕ) (w : Inward) (l : LinkOut) (lawful : IsLawfu
       let posted : IsPosted after.outward.items (held_in after).outbox (entries_in after) (actors_in c) =
       subst (λ (x : List Outward × Held). IsPosted x.0 x.1.outbox x.1.state.entries (actors_in c)) (λ i. (sym outward i, sym same i)) lawful.posted in
       record {
-        lawful = to-lawful c after lawful (ap (λ (h : Held). h.setting) same) tag (ap (λ (h : Held). length h.outbox) same) now posted;
+        lawful = to-lawful c after lawful (ap (λ (h : Held). h.setting) same) tag (ap (λ (h : Held). length h.outbox) same) now (subst HoldsPartialMatches (sym same) lawful.partial) posted;
         tag = tag;
         history = subst (IsPrefix (history_of c)) (λ i. map noted (sym same i).state.entries) (prefix-refl (history_of c));
       }
@@ -155,7 +159,7 @@ module _ (c after : Cell) (k : ℕ) (w : Inward) (l : LinkOut) (lawful : IsLawfu
       let boxes : (held_in after).outbox ≡ posts_behind 0 g.new (held_in c).outbox = b.outbox ∙ ap (λ (es : List Entry). posts_behind 0 es (held_in c).outbox) new in
       let posted = still-posted c.outward.items (held_in c).outbox (held_in after).outbox (entries_in c) (entries_in after) g.new (actors_in c) entries boxes lawful.outboxes lawful.posted in
       record {
-        lawful = to-lawful c after lawful b.setting tag (ap length boxes ∙ length-posts_behind 0 g.new (held_in c).outbox) now (subst (λ (o : List Outward). IsPosted o (held_in after).outbox (entries_in after) (actors_in c)) (sym outward) posted);
+        lawful = to-lawful c after lawful b.setting tag (ap length boxes ∙ length-posts_behind 0 g.new (held_in c).outbox) now b.partial (subst (λ (o : List Outward). IsPosted o (held_in after).outbox (entries_in after) (actors_in c)) (sym outward) posted);
         tag = tag;
         history = (map noted g.new, sym (ap (map noted) entries ∙ map-append noted (entries_in c) g.new));
       }
@@ -198,8 +202,9 @@ module _ (c after : Cell) (k : ℕ) (w : Outward) (l : LinkIn) (lawful : IsLawfu
       subst (λ (x : List Inward × State). Stands (held_in c).setting (feeds_in c) (actors_in c) (received_from x.0) x.1) (λ i. (sym inward i, sym moves.state i)) (of-lawful c lawful) in
       let posted : IsPosted after.outward.items (held_in after).outbox (entries_in after) (actors_in c) =
       subst (λ (x : List Outward × State). IsPosted x.0 (held_in after).outbox x.1.entries (actors_in c)) (λ i. (sym outward i, sym moves.state i)) now_posted in
+      let partial = same_partial (held_in c) (held_in after) moves.setting moves.state moves.trees lawful.partial in
       record {
-        lawful = to-lawful c after lawful moves.setting tag moves.count now posted;
+        lawful = to-lawful c after lawful moves.setting tag moves.count now partial posted;
         tag = tag;
         history = subst (IsPrefix (history_of c)) (λ i. map noted (sym moves.state i).entries) (prefix-refl (history_of c));
       }

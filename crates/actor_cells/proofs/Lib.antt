@@ -4,6 +4,7 @@ pub mod LinkLemmas
 pub mod TallyLemmas
 pub mod CellLemmas
 pub mod SendLemmas
+pub mod SentLemmas
 pub mod BringLemmas
 pub mod RoundLemmas
 pub mod PrepareLemmas

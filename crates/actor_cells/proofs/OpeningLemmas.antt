@@ -15,6 +15,7 @@ use Rattle.fair_semantics.specs.Linked.{entry_posts, same_source}
 use Rattle.fair_semantics.proofs.ListLemmas.{each_from_All}
 use Rattle.run_order.proofs.EventLemmas.{same_source_is}
 use Rattle.actor_turn.specs.Held.{Held, posts_for}
+use Rattle.actor_turn.specs.Rest.{HoldsPartialMatches}
 use Rattle.post_ring.specs.Links.{received, sent}
 use Rattle.post_ring.specs.declared.identity.LinkIdentity.{LinkIdentity}
 use Rattle.cell_links.specs.declared.ends.Inward.{Inward}
@@ -61,8 +62,8 @@ none-waits (suc n) zero = refl
 none-waits (suc n) (suc target) = none-waits n target
 
 -- an opening cell with a tag is lawful
-pub opening-lawful : (plan : Plan) (limits : Limits) (feeds ring index : ℕ) (c : Cell) → IsOpening plan limits feeds ring index c → IsTag (cell_tag c) → IsLawful c
-opening-lawful plan limits feeds ring index c o tag =
+pub opening-lawful : (plan : Plan) (limits : Limits) (feeds ring index : ℕ) (c : Cell) → IsOpening plan limits feeds ring index c → IsTag (cell_tag c) → HoldsPartialMatches (held_in c) → IsLawful c
+opening-lawful plan limits feeds ring index c o tag partial =
     let n : ℕ = length plan.actors in
     let state : state_in c ≡ opening feeds n = ap (λ (h : Held). h.state) o.actor in
     let feed_count : feeds_in c ≡ feeds = ap (λ (s : State). length s.late.feeds) state ∙ length-replicate feeds 0 in
@@ -75,6 +76,7 @@ opening-lawful plan limits feeds ring index c o tag =
       in_order = stands.in_order;
       late = stands.late;
       fair = stands.fair;
+      partial = partial;
       posted = λ target within.
           (λ i. none-went ring c.outward.items o.outward target i ++ (ap (λ (h : Held). posts_for h.outbox target) o.actor ∙ none-waits n target) i) ∙ ap (λ (s : State). flat_map (entry_posts target) s.entries) (sym state);
     }

@@ -12,7 +12,10 @@ use Rattle.fair_semantics.specs.Fits.{RuleFits}
 use Rattle.fair_semantics.specs.Linked.{numbers_from}
 use Rattle.fair_semantics.proofs.FairLemmas.{numbers_from-more}
 use Rattle.fair_semantics.proofs.NumberLemmas.{get_numbers}
-use Rattle.actor_turn.specs.Held.{Held, new_actor}
+use Rattle.script_types.specs.Typed.{IsTyped}
+use Rattle.actor_turn.specs.Held.{AreLimits, Held, new_actor}
+use Rattle.actor_turn.specs.Rest.{HoldsPartialMatches}
+use Rattle.actor_turn.proofs.HeldLemmas.{new_partial}
 use Rattle.cell_links.specs.declared.ends.ActorLinks.{ActorLinks}
 use Rattle.cell_links.specs.declared.ends.LinkTags.{LinkTags}
 use Rattle.cell_links.specs.declared.ends.Inward.{Inward}
@@ -136,7 +139,7 @@ module _ (plan : Plan) (limits : Limits) (feeds ring : ℕ) (cells : List Cell) 
         outward = subst (All (IsNewOut ring)) (sym l.outward) fresh.outward;
       }
 
-  module _ (count : length links ≡ length plan.actors) (many : length posters ≡ feeds) (wired : IsWired (map link_tags links) posters) (to : map (λ (l : ActorLinks). map target_of (going l)) links ≡ all) (are : AreTargetsOf (length plan.actors) plan.actors all) where
+  module _ (typed : IsTyped plan) (given : AreLimits limits) (count : length links ≡ length plan.actors) (many : length posters ≡ feeds) (wired : IsWired (map link_tags links) posters) (to : map (λ (l : ActorLinks). map target_of (going l)) links ≡ all) (are : AreTargetsOf (length plan.actors) plan.actors all) where
     pub lawful-at : (k : ℕ) (c : Cell) → slice_get cells k ≡ Some c → IsLawful c
     lawful-at k c at =
         let within : k < length plan.actors = (let l = get-within cells k c at in let n = count-cells count in omega (arith, l, n)) in
@@ -147,7 +150,7 @@ module _ (plan : Plan) (limits : Limits) (feeds ring : ℕ) (cells : List Cell) 
         ap (λ (ts : List (List ℕ)). slice_get ts k) (sym to) ∙ get-map (λ (x : ActorLinks). map target_of (going x)) links k l.own l.at ∙ (λ i. Some (map target_of (sym l.outward i))) in
         let tag = opening-tag plan limits feeds ring k c (map link_tags links) posters (map target_of (outward_of c)) o here (length-map links link_tags ∙ count) many wired refl
         (some-actor plan.actors all (length plan.actors) k (map target_of (outward_of c)) are own) in
-        opening-lawful plan limits feeds ring k c o tag
+        opening-lawful plan limits feeds ring k c o tag (subst HoldsPartialMatches (sym o.actor) (new_partial plan k limits feeds typed given within))
 
     pub all-lawful : All IsLawful cells
     all-lawful k d within = lawful-at k (get_or cells k d) (get-at cells k d within)

@@ -21,7 +21,7 @@ set-other (b ∷ boxes) (suc t) ps zero apart = refl
 set-other (b ∷ boxes) (suc t) ps (suc other) apart = set-other boxes t ps other (λ same. apart (ap suc same))
 
 pub moves-none : (t : ℕ) (a : Held) (l : LinkIn) → Moves t a a l l
-moves-none t a l = record { identity = refl; setting = refl; state = refl; count = refl; all = refl; others = λ other apart. refl }
+moves-none t a l = record { identity = refl; setting = refl; state = refl; trees = refl; count = refl; all = refl; others = λ other apart. refl }
 
 -- the first post was taken out
 pub record TakesOut (t : ℕ) (before after : Held) (post : Stamped) : Type 0 where
@@ -29,6 +29,7 @@ pub record TakesOut (t : ℕ) (before after : Held) (post : Stamped) : Type 0 wh
   pub was : posts_for before.outbox t ≡ post ∷ rest
   pub setting : after.setting ≡ before.setting
   pub state : after.state ≡ before.state
+  pub trees : after.trees ≡ before.trees
   pub boxes : after.outbox ≡ slice_set before.outbox t rest
 
 pub takes-out : (t : ℕ) (before after : Held) (post : Stamped) → Some post ≡ first_of (posts_for before.outbox t) → after ≡ without_first before t (posts_for before.outbox t) → TakesOut t before after post
@@ -43,6 +44,7 @@ takes-out t before after post first is = by (posts_for before.outbox t) refl fir
           was = e ∙ ap (λ (x : Stamped). x ∷ ps) same;
           setting = ap (λ (h : Held). h.setting) i;
           state = ap (λ (h : Held). h.state) i;
+          trees = ap (λ (h : Held). h.trees) i;
           boxes = ap (λ (h : Held). h.outbox) i;
         }
 
@@ -68,6 +70,7 @@ module _ (t : ℕ) (first before after : Held) (start old : LinkIn) (post : Stam
     identity = identity ∙ moves.identity;
     setting = out.setting ∙ moves.setting;
     state = out.state ∙ moves.state;
+    trees = out.trees ∙ moves.trees;
     count = count-out ∙ moves.count;
     all = (λ i. more i ++ left i) ∙ append_assoc (sent old) (post ∷ []) out.rest ∙ ap (λ (ps : List Stamped). sent old ++ ps) (sym out.was) ∙ moves.all;
     others = λ other apart. others other apart ∙ moves.others other apart;
@@ -84,10 +87,19 @@ module _ (t : ℕ) (first before after : Held) (start old : LinkIn) (post : Stam
         identity = identity ∙ moves.identity;
         setting = ap (λ (h : Held). h.setting) is ∙ out.setting ∙ moves.setting;
         state = ap (λ (h : Held). h.state) is ∙ out.state ∙ moves.state;
+        trees = ap (λ (h : Held). h.trees) is ∙ out.trees ∙ moves.trees;
         count = ap length boxes ∙ length-set after.outbox t (again ∷ posts_for after.outbox t) ∙ count-out ∙ moves.count;
         all = (λ i. sent_same i ++ here i) ∙ moves.all;
         others = λ other apart. ap (λ (o : List (List Stamped)). posts_for o other) boxes ∙ set-other after.outbox t (again ∷ posts_for after.outbox t) other apart ∙ others other apart ∙ moves.others other apart;
       }
+
+-- none waits where none was found
+pub none-waits : (t : ℕ) (before after : Held) → None ≡ first_of (posts_for before.outbox t) → after ≡ before → posts_for after.outbox t ≡ []
+none-waits t before after none same = ap (λ (h : Held). posts_for h.outbox t) same ∙ by (posts_for before.outbox t) none
+  where
+    by : (ps : List Stamped) → None ≡ first_of ps → ps ≡ []
+    by [] e = refl
+    by (p ∷ ps) e = absurd cc
 
 -- none waited
 pub takes-none : (t : ℕ) (before after : Held) → None ≡ first_of (posts_for before.outbox t) → after ≡ without_first before t (posts_for before.outbox t) → after ≡ before

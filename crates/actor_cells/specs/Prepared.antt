@@ -1,5 +1,5 @@
 -- What is prepared.
-use Rattle.std.specs.Prelude.{◌≡◌, ℕ, List, All, length, map, slice_get, slice_set, Some, Result, IfOk, OnErr}
+use Rattle.std.specs.Prelude.{◌≡◌, ℕ, List, All, length, map, slice_get, slice_set, Some, Result, IfOk, OnOk, OnErr}
 use Rattle.join_base.specs.declared.items.NoMemory.{NoMemory}
 use Rattle.script_types.specs.declared.plan.Plan.{Plan}
 use Rattle.fair_semantics.specs.declared.run.Limits.{Limits}
@@ -13,7 +13,7 @@ use Rattle.actor_cells.specs.declared.cell.CellTag.{CellTag}
 use Rattle.actor_cells.specs.declared.cells.Cells.{Cells}
 use Rattle.actor_cells.specs.declared.serving.Turned.{Turned}
 use Rattle.actor_cells.specs.Lawful.{held_in, tally_of}
-use Rattle.actor_cells.specs.Served.{StaysLawful, IsRefusing, Turns}
+use Rattle.actor_cells.specs.Served.{AllSent, StaysLawful, IsRefusing, Turns}
 
 -- the cells of a list, in order
 abbrev pub cells_of : Cells → List Cell
@@ -49,4 +49,5 @@ pub record IsServedAt (place : ℕ) (old now : List Cell) (result : Result Turne
   pub only : now ≡ slice_set old place after
   pub kept : StaysLawful before after
   pub turned : IfOk result (Turns (tally_of before) (tally_of after))
+  pub sent : OnOk result (AllSent after)
   pub refused : OnErr result (IsRefusing after)

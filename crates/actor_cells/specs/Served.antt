@@ -1,10 +1,12 @@
 -- What serving does.
-use Rattle.std.specs.Prelude.{◌≡◌, ℕ, ◌+◌, ◌<◌, ◌≤◌, List, [], ◌∷◌, true, slice_get, Some}
+use Rattle.std.specs.Prelude.{◌≡◌, ◌⊎◌, ℕ, ◌+◌, ◌<◌, ◌≤◌, List, [], ◌∷◌, true, slice_get, Some}
 use mathlib.Core.List.{IsPrefix}
 use Rattle.join_base.specs.declared.message.Stamped.{Stamped}
-use Rattle.post_ring.specs.Links.{one_more, waiting}
-use Rattle.actor_turn.specs.Held.{is_taken}
+use Rattle.post_ring.specs.declared.link_in.LinkIn.{LinkIn}
+use Rattle.post_ring.specs.Links.{one_more, room, waiting}
+use Rattle.actor_turn.specs.Held.{Held, is_taken, posts_for}
 use Rattle.cell_links.specs.declared.ends.Inward.{Inward}
+use Rattle.cell_links.specs.declared.ends.Outward.{Outward}
 use Rattle.actor_cells.specs.declared.cell.Cell.{Cell}
 use Rattle.actor_cells.specs.declared.cell.LinkTally.{LinkTally}
 use Rattle.actor_cells.specs.declared.serving.Turned.{Turned}
@@ -42,3 +44,11 @@ pub record IsRefusing (c : Cell) : Type 0 where
   pub here : slice_get c.inward.items place ≡ Some link
   pub first : IsPrefix (message ∷ []) (waiting link.link)
   pub taken : is_taken (held_in c).setting (state_in c) message.message message.stamp ≡ true
+
+-- no post waits for the target, or the link to it is known to have no room
+abbrev pub IsSent : ℕ → Held → LinkIn → Type 0
+IsSent target held link = (posts_for held.outbox target ≡ []) ⊎ (room link ≡ 0)
+
+-- so it is of the target of each link
+abbrev pub AllSent : Cell → Type 0
+AllSent c = (place : ℕ) (w : Outward) → slice_get c.outward.items place ≡ Some w → IsSent w.target (held_in c) w.link

@@ -1,5 +1,5 @@
 -- What private functions do.
-use Rattle.std.specs.Prelude.{◌≡◌, ℕ, zero, suc, ◌+◌, ◌-◌, ◌^◌, ◌≤◌, min, List, [], ◌∷◌, ◌++◌, true, length}
+use Rattle.std.specs.Prelude.{◌≡◌, ℕ, zero, suc, ◌+◌, ◌-◌, ◌^◌, ◌<◌, ◌≤◌, min, List, [], ◌∷◌, ◌++◌, true, length, slice_get, Some}
 use Rattle.std.specs.List.{AllByRecursion}
 use mathlib.Core.List.{IsPrefix}
 use Rattle.join_base.specs.declared.message.Source.{Source}
@@ -9,10 +9,13 @@ use Rattle.post_ring.specs.declared.link_out.LinkOut.{LinkOut}
 use Rattle.post_ring.specs.Links.{empty_looks, identity_in, identity_out, one_more, received, sent, waiting}
 use Rattle.fair_semantics.specs.Step.{fair_step}
 use Rattle.actor_turn.specs.Held.{Held, is_taken, new_entries, posts_behind, posts_for}
+use Rattle.cell_links.specs.declared.ends.Outward.{Outward}
+use Rattle.actor_turn.specs.Rest.{HoldsPartialMatches}
 use Rattle.actor_cells.specs.declared.cell.LinkTally.{LinkTally}
-use Rattle.actor_cells.specs.Served.{all_received}
+use Rattle.actor_cells.specs.Served.{IsSent, all_received}
 
--- a message was taken from the link of a source, and the actor did its fair step
+-- a message was taken from the link of a source, and the actor did its fair step; its trees hold the partial matches
+-- again
 pub record Brings (source : Source) (before after : Held) (old now : LinkOut) : Type 0 where
   pub message : Stamped
   pub identity : identity_out now ≡ identity_out old
@@ -20,6 +23,7 @@ pub record Brings (source : Source) (before after : Held) (old now : LinkOut) : 
   pub looks : empty_looks now ≡ empty_looks old
   pub setting : after.setting ≡ before.setting
   pub state : after.state ≡ (fair_step before.setting before.state source message.message message.stamp).0
+  pub partial : HoldsPartialMatches after
   pub outbox : after.outbox ≡ posts_behind 0 (new_entries before.state after.state) before.outbox
 
 -- the link showed nothing
@@ -44,9 +48,14 @@ pub record Moves (target : ℕ) (before after : Held) (old now : LinkIn) : Type 
   pub identity : identity_in now ≡ identity_in old
   pub setting : after.setting ≡ before.setting
   pub state : after.state ≡ before.state
+  pub trees : after.trees ≡ before.trees
   pub count : length after.outbox ≡ length before.outbox
   pub all : sent now ++ posts_for after.outbox target ≡ sent old ++ posts_for before.outbox target
   pub others : (other : ℕ) → ¬ (other ≡ target) → posts_for after.outbox other ≡ posts_for before.outbox other
+
+-- each post for the targets of the first links was sent, as far as there is room
+abbrev pub FirstSent : ℕ → Held → List Outward → Type 0
+FirstSent count held links = (place : ℕ) (w : Outward) → place < count → slice_get links place ≡ Some w → IsSent w.target held w.link
 
 -- their stamps are not too great for a link
 abbrev pub AreSmall : List Stamped → Type 0

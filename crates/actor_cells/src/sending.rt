@@ -1,9 +1,9 @@
 //! Moving posts from outboxes to links.
-ghost use Rattle.std.specs.Prelude.{◌≡◌, ◌<◌, true, if◌then◌else◌, length, set};
+ghost use Rattle.std.specs.Prelude.{◌≡◌, ◌+◌, ◌<◌, true, if◌then◌else◌, length, set};
 ghost use Rattle.actor_turn.specs.Held.{posts_for};
-ghost use Rattle.actor_cells.specs.Lawful.{IsLawful, state_in};
-ghost use Rattle.actor_cells.specs.Served.{StaysLawful};
-ghost use Rattle.actor_cells.specs.Steps.{AreSmall, Moves};
+ghost use Rattle.actor_cells.specs.Lawful.{IsLawful, held_in, state_in};
+ghost use Rattle.actor_cells.specs.Served.{AllSent, IsSent, StaysLawful};
+ghost use Rattle.actor_cells.specs.Steps.{AreSmall, FirstSent, Moves};
 
 use crate::actor_set::ActorSet;
 use crate::cell::Cell;
@@ -23,7 +23,8 @@ struct Sent {
 fn send_over(actor: &mut Actor, target: u32, link: &mut LinkIn) -> Sent
     requires exists { target < length actor.old.outbox }
     requires small { AreSmall (posts_for actor.old.outbox target) }
-    ensures { Moves target actor.old actor.new link.old link.new }
+    ensures moves { Moves target actor.old actor.new link.old link.new }
+    ensures sent { IsSent target actor.new link.new }
 {
     let mut moved = false;
     while let Some(post) = actor.take_post(target) {
@@ -67,6 +68,7 @@ impl Cell {
         ensures inward { self.new.inward ≡ self.old.inward }
         ensures state { state_in self.new ≡ state_in self.old }
         ensures count { length self.new.outward.items ≡ length self.old.outward.items }
+        ensures sent { FirstSent place (held_in self.old) self.old.outward.items → FirstSent (place + 1) (held_in self.new) self.new.outward.items }
     {
         let one = &mut self.outward[place];
         send_over(&mut self.actor, one.target, &mut one.link)
@@ -77,18 +79,20 @@ impl Cell {
         requires lawful { IsLawful self.old }
         ensures kept { StaysLawful self.old self.new }
         ensures inward { self.new.inward ≡ self.old.inward }
-        ensures state { state_in self.new ≡ state_in self.old }
+        ensures outward { self.new.outward ≡ self.old.outward }
+        ensures held { held_in self.new ≡ held_in self.old }
     {
         self.moved = moved;
         self.held = held;
     }
 
-    // Moves posts from the outboxes to their links as far as room is known, and notes it beside what was moved before.
-    fn send(&mut self)
+    /// Moves posts from the outboxes to their links as far as room is known, and notes it beside what was moved before.
+    pub(crate) fn send(&mut self)
         requires lawful { IsLawful self.old }
         ensures kept { StaysLawful self.old self.new }
         ensures inward { self.new.inward ≡ self.old.inward }
         ensures state { state_in self.new ≡ state_in self.old }
+        ensures sent { AllSent self.new }
     {
         let mut moved = self.moved;
         let mut held = ActorSet::new();

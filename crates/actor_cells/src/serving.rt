@@ -2,7 +2,7 @@
 ghost use Rattle.std.specs.Prelude.{◌≡◌, ◌<◌, ◌≤◌, length, IfOk, OnErr, OnOk, MatchBool, MatchOption};
 ghost use Rattle.join_base.specs.Late.{HasCount};
 ghost use Rattle.actor_cells.specs.Lawful.{IsLawful, tally_of};
-ghost use Rattle.actor_cells.specs.Served.{StaysLawful, IsRefusing, LooksRose, Turns};
+ghost use Rattle.actor_cells.specs.Served.{AllSent, StaysLawful, IsRefusing, LooksRose, Turns};
 ghost use Rattle.actor_cells.specs.Steps.{Brings, FindsNone, Refuses, TakesMany, changed_at, one_look, one_received};
 
 use crate::actor_set::ActorSet;
@@ -204,7 +204,7 @@ impl Cell {
     /// Moves posts from the outboxes to their links as far as room is known, brings messages of the inward links to the
     /// actor in rounds, and moves the posts that each of them made. What the actor posts to itself comes before the
     /// next message of another link, at least the first `OWN` in a row. `More` exactly where `MOST` messages were
-    /// taken. After `NoMemory` the message that was refused still waits first on its link, and the earlier ones have
+    /// taken. A post that is left in its outbox then waits for a link that is known to have no room. After `NoMemory` the message that was refused still waits first on its link, and the earlier ones have
     /// arrived.
     pub fn serve<L: Ledger>(
         &mut self,
@@ -214,12 +214,13 @@ impl Cell {
         requires lawful { IsLawful self.old }
         ensures kept { StaysLawful self.old self.new }
         ensures turned { IfOk result (Turns (tally_of self.old) (tally_of self.new)) }
+        ensures sent { OnOk result (AllSent self.new) }
         ensures refused { OnErr result (IsRefusing self.new) }
     {
         self.note(ActorSet::new(), self.held);
         self.send_rest(false);
         let turned = self.take_all(alloc, steps)?;
-        self.send_rest(false);
+        self.send();
         Ok(turned)
     }
 }

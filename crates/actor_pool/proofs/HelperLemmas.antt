@@ -16,7 +16,7 @@ use Rattle.actor_cells.specs.Lawful.{IsLawful, cell_tag, history_of, tally_of}
 use Rattle.actor_cells.specs.Served.{StaysLawful}
 use Rattle.actor_pool.specs.declared.helper.Helper.{Helper}
 use Rattle.actor_pool.specs.declared.pool.Pool.{Pool}
-use Rattle.actor_pool.specs.Turning.{HadTurn}
+use Rattle.actor_pool.specs.Turning.{HadTurn, TakesTurn}
 use Rattle.actor_pool.specs.Helpers.{SeatView, IsHelperOf, GoesOn, seat_of, pass_of}
 
 pub prefix-refl : {X : Type 0} (a : List X) → IsPrefix a a
@@ -68,6 +68,20 @@ pub turn-went : (i k : ℕ) (v w1 w : SeatView) (c c0 d : Cell) (word : ℕ) →
     → GivesBack history_of tally_of k w1 d word w → Went i c d v w
 turn-went i k v w1 w c c0 d word at here got kept back =
     turn-done i v w1 w c d word got (subst (λ (x : Cell). IsPrefix (history_of x) (history_of d)) here kept.history) (subst (λ (m : ℕ). GivesBack history_of tally_of m w1 d word w) at back)
+
+-- the turn of which the clauses of `turn` speak
+pub turn-taken : (i k : ℕ) (v w1 w : SeatView) (c c0 d : Cell) (word : ℕ) → k ≡ i → c0 ≡ c → Gets cell_tag IsLawful history_of tally_of i v c w1 → StaysLawful c0 d
+    → GivesBack history_of tally_of k w1 d word w → TakesTurn i c d v w
+turn-taken i k v w1 w c c0 d word at here got kept back =
+    let went = turn-went i k v w1 w c c0 d word at here got kept back in record {
+      had = went.had;
+      during = w1;
+      got = got;
+      kept = subst (λ (x : Cell). StaysLawful x d) here kept;
+      back = (word, subst (λ (m : ℕ). GivesBack history_of tally_of m w1 d word w) at back);
+      tally_found = went.found_is;
+      tally_left = went.left_is;
+    }
 
 pub went-goes : (p : Pool) (a b : Helper) (i : ℕ) (c d : Cell) → IsHelperOf p a → b.seat.seat.table_id ≡ a.seat.seat.table_id → b.pass ≡ a.pass → Went i c d (seat_of a) (seat_of b) → GoesOn p a b
 went-goes p a b i c d belongs same kept went = record {

@@ -1,7 +1,7 @@
 //! Helpers for other threads.
 ghost use Rattle.std.specs.Prelude.{◌≡◌, ℕ, ◌+◌, IfOk, OnOk, if◌then◌else◌, is_ok};
 ghost use Rattle.turn_lock.specs.View.{IsOther, HasSeenAll, with_one_more, new_view, joined as joined_seats};
-ghost use Rattle.ready_queue.specs.View.{new_view as new_pass, joined as joined_passes};
+ghost use Rattle.ready_queue.specs.View.{new_view as new_pass, shared as shared_pass, joined as joined_passes};
 ghost use Rattle.actor_pool.specs.Helpers.{IsHelperOf, IsFirstHelper, seat_of, pass_of};
 
 use crate::helper::{Helper, Noted};
@@ -24,12 +24,12 @@ impl Helper {
     /// Makes a helper for another thread. It has seen what the first helper has seen, and has done nothing. The first
     /// helper counts one more out.
     ///
-    /// At `NoMemory` the first helper is as it was. It does not wait.
+    /// At `NoMemory` the first helper is as it was, but that its pass is no more a sole one. It does not wait.
     pub fn split(&mut self, pool: &Pool) -> Result<Helper, NoMemory>
         requires own { IsHelperOf pool.now self.old }
         requires first { (out : ℕ) × IsFirstHelper pool.now out self.old }
         ensures own { IsHelperOf pool.now self.new }
-        ensures pass { pass_of self.new ≡ pass_of self.old }
+        ensures pass { pass_of self.new ≡ shared_pass (pass_of self.old) }
         ensures kept { seat_of self.new ≡ (if is_ok result then with_one_more (seat_of self.old) else seat_of self.old) }
         ensures given { IfOk result (λ other. IsHelperOf pool.now other × (seat_of other ≡ new_view (seat_of self.old)) × (pass_of other ≡ new_pass)) }
         ensures out { OnOk result ((out : ℕ) → IsFirstHelper pool.now out self.old → IsFirstHelper pool.now (out + 1) self.new) }

@@ -1,7 +1,7 @@
 //! A turn: what waits on the links of an actor is brought to it.
-ghost use Rattle.std.specs.Prelude.{◌≡◌, ◌<◌, IfOk, IfErr};
+ghost use Rattle.std.specs.Prelude.{◌≡◌, ◌<◌, IfOk, IfErr, OnOk, OnErr};
 ghost use Rattle.actor_cells.specs.Lawful.{IsLawful, tally_of};
-ghost use Rattle.actor_cells.specs.Served.{StaysLawful, Turns};
+ghost use Rattle.actor_cells.specs.Served.{AllSent, IsRefusing, StaysLawful, Turns};
 ghost use Rattle.actor_pool.specs.Helpers.{IsHelperOf, GoesOn, seat_of, pass_of, actor_count};
 ghost use Rattle.actor_pool.specs.Turning.{ServedTurn, Faulted};
 
@@ -32,6 +32,8 @@ fn serve_noted<L: Ledger>(
     requires lawful { IsLawful cell.old }
     ensures kept { StaysLawful cell.old cell.new }
     ensures turned { IfOk result (Turns (tally_of cell.old) (tally_of cell.new)) }
+    ensures sent { OnOk result (AllSent cell.new) }
+    ensures refused { OnErr result (IsRefusing cell.new) }
 {
     let served = cell.serve(alloc, steps);
     noted.actor = actor;
@@ -45,7 +47,9 @@ fn serve_noted<L: Ledger>(
 ///
 /// `More` comes exactly where 256 messages were taken, and `Dry` only where each inward link was looked at and showed
 /// none: the tallies that the seat keeps, as found and as left, show it. `Busy` comes exactly where the one claim found
-/// another seat at the actor. At `NoMemory` the earlier messages of this turn have arrived. It does not wait.
+/// another seat at the actor: at each other answer it found none, and the cell that the lock held came back lawful, with
+/// a history that goes on. At `NoMemory` the earlier messages of this turn have arrived, and the one that was refused
+/// waits first on its link. It does not wait.
 pub fn turn<L: Ledger>(
     alloc: Global,
     pool: &Pool,

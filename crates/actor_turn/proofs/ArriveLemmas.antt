@@ -8,7 +8,7 @@ use Rattle.std.proofs.lemmas.Bool.Decides.{nat_tests}
 use Rattle.std.proofs.lemmas.List.{length-map, map-append}
 use Rattle.std.proofs.lemmas.Bool.{or_parts, not-false}
 use Rattle.join_base.specs.Stamps.{greatest_stamp}
-use Rattle.join_base.specs.Taken.{without}
+use Rattle.join_base.specs.Taken.{contains_number, without}
 use Rattle.join_base.specs.declared.message.Message.{Message}
 use Rattle.join_base.specs.declared.message.Source.{Source}
 use Rattle.mailbox_core.specs.Mail.{Mail, Received, latest, latest_from, next_arrival, with_arrival, with_live}
@@ -19,9 +19,11 @@ use Rattle.pattern_core.specs.Matches.{partial_count}
 use Rattle.pattern_core.specs.Members.{IsIn}
 use Rattle.pattern_core.specs.Suits.{DefinitionSuits, IsRecorded}
 use Rattle.match_tree.specs.Tree.{Tree}
+use Rattle.match_tree.proofs.RowsLemmas.{one_of_in}
 use Rattle.tree_law.specs.Partials.{letters_more, number_more}
 use Rattle.tree_law.specs.Trees.{HoldAll, HasOnce, HasReserve, AreKept, AreKeptAt, AreTreesOf, AreReservedFor, CanOfferTo, IsReservedAt, best_of, cleared_tree, path_count, settled_tree, tries_at}
 use Rattle.tree_law.proofs.KeepLemmas.{have_reserves, kept_more}
+use Rattle.tree_law.proofs.TreesLemmas.{best_takes}
 use Rattle.fair_semantics.specs.declared.run.Ending.{Ending}
 use Rattle.fair_semantics.specs.declared.run.Ending.TheVariants as ending
 use Rattle.fair_semantics.specs.declared.run.Entry.{Entry}
@@ -31,6 +33,7 @@ use Rattle.fair_semantics.specs.declared.run.Outcome.TheVariants as outcome
 use Rattle.fair_semantics.specs.Body.{stops}
 use Rattle.fair_semantics.specs.Step.{Arrival, Setting, State, by_choice, body_at, definitions_of, entry_with, fair_step, firing_of, fits, is_refused, is_running, latest_stamp, letters_of, letters_with, live_with, recorded, stamp_of}
 use Rattle.fair_semantics.proofs.ListLemmas.{each_append}
+use Rattle.run_fits.specs.RestLaw.{TakesNewest}
 use Rattle.actor_turn.specs.Held.{new_entries, tries_for}
 use Rattle.actor_turn.specs.Inside.{IsAtRest, IsTold}
 use Rattle.actor_turn.specs.Parts.{IsKeptIn, Keeps, fired_at, state_of}
@@ -176,9 +179,9 @@ module _ (actors : ℕ) (setting : Setting) (m : Mail) (firings : List (Option F
       live_same : m.live ++ (length m.arrivals + 1) ∷ [] ≡ live_with arrival
       live_same = ap (λ (k : ℕ). m.live ++ (k + 1) ∷ []) (sym entry_count)
 
-      done : (firing : Option Firing) (live : List ℕ) (ended : Ending) (left : List Tree) (out : Outcome) → IsSteady setting (recorded arrival firing live ended) left → AllByRecursion HasOnce left → path_count left ≤ 1000000
-          → fair_step setting state source message stamp ≡ (recorded arrival firing live ended, out) → IsDone setting arrival firing (with_live (with_arrival m source message stamp) live) (firings ++ firing ∷ []) ended left out
-      done firing live ended left out steady left_once left_few step =
+      done : (firing : Option Firing) (live : List ℕ) (ended : Ending) (left : List Tree) (out : Outcome) → TakesNewest (entry_with arrival firing) → (is_running ended ≡ false → live ≡ [])
+          → IsSteady setting (recorded arrival firing live ended) left → AllByRecursion HasOnce left → path_count left ≤ 1000000 → fair_step setting state source message stamp ≡ (recorded arrival firing live ended, out) → IsDone setting arrival firing (with_live (with_arrival m source message stamp) live) (firings ++ firing ∷ []) ended left out
+      done firing live ended left out takes over steady left_once left_few step =
           let shown = recorded_is m firings end source message stamp rest.fired firing live ended in
           let next : Received = next_arrival m.arrivals source message stamp in
           let long = length-append firings (firing ∷ []) in
@@ -188,10 +191,12 @@ module _ (actors : ℕ) (setting : Setting) (m : Mail) (firings : List (Option F
           record {
             at_rest = record {
               fired = omega arith;
+              newest = subst (λ (s : State). AllByRecursion TakesNewest s.entries) (sym shown) (each_append TakesNewest state.entries (entry_with arrival firing ∷ []) rest.newest (takes, tt));
               fitting = subst (λ (ms : List Message). AllByRecursion (λ x. fits setting.sorts x ≡ true) ms) (sym (map-append (λ (a : Received). a.message) m.arrivals (next ∷ []))) fit_all;
               steady = subst (λ (s : State). IsSteady setting s left) (sym shown) steady;
               once = left_once;
               few = left_few;
+              ended = over;
             };
             step = step ∙ (λ i. (sym shown i, out));
             entries = ap (new_entries state) shown ∙ drop_seam state.entries (entry_with arrival firing);
@@ -220,7 +225,7 @@ module _ (actors : ℕ) (setting : Setting) (m : Mail) (firings : List (Option F
         jammed kept left after ended out test steady chosen how =
             let step : fair_step setting state source message stamp ≡ (recorded arrival None [] ending.Jammed, outcome.Jammed) = chosen ∙ rw test refl in
             let cleared = ended_steady setting state source message stamp trees None ending.Jammed kept (letters_of (recorded arrival None (live_with arrival) ending.Running).entries) (live_with arrival) steady.of_rules steady.hold in
-            let one = done None [] ending.Jammed (map cleared_tree kept) outcome.Jammed cleared (cleared_once kept) (cleared_few kept steady.of_rules) step in
+            let one = done None [] ending.Jammed (map cleared_tree kept) outcome.Jammed tt (λ over. refl) cleared (cleared_once kept) (cleared_few kept steady.of_rules) step in
             done_is None (with_live mail_after []) after (firings ++ None ∷ []) (firings ++ None ∷ []) ending.Jammed ended (map cleared_tree kept) left outcome.Jammed out how.mail refl how.end how.trees how.outcome one
 
         stays : (kept left : List Tree) (after : Mail) (ended : Ending) (out : Outcome) → nat_lt setting.limits.partials (partial_count (letters_with arrival) (live_with arrival) definitions) ≡ false → path_count kept ≡ partial_count (letters_with arrival) (live_with arrival) definitions
@@ -230,7 +235,7 @@ module _ (actors : ℕ) (setting : Setting) (m : Mail) (firings : List (Option F
             let step : fair_step setting state source message stamp ≡ (recorded arrival None (live_with arrival) ending.Running, outcome.Kept) = chosen ∙ rw test refl in
             let most = told.limits.partials.1 in
             let low = lt_false setting.limits.partials (partial_count (letters_with arrival) (live_with arrival) definitions) test in
-            let one = done None (live_with arrival) ending.Running kept outcome.Kept steady kept_once (omega arith) step in
+            let one = done None (live_with arrival) ending.Running kept outcome.Kept tt (λ over. absurd cc) steady kept_once (omega arith) step in
             let same : mail_after ≡ with_live mail_after (live_with arrival) = ap (with_live mail_after) live_same in
             done_is None (with_live mail_after (live_with arrival)) after (firings ++ None ∷ []) (firings ++ None ∷ []) ending.Running ended kept left outcome.Kept out (how.mail ∙ same) refl (how.end ∙ running) how.trees how.outcome one
 
@@ -270,17 +275,23 @@ module _ (actors : ℕ) (setting : Setting) (m : Mail) (firings : List (Option F
             let may = choice_may setting.sorts (letters_more letters message) fitting told.fields (live_with arrival) live_all actors setting.rules told.typed chosen chosen_is in
             subst (λ (ms : List Message). MayFire ms actors setting.rules chosen) letters_after may
 
-        goes_on : (firing : Option Firing) → fair_step setting state source message stamp ≡ (recorded arrival firing (without (live_with arrival) chosen.taken) ending.Running, outcome.Fired)
+        -- it takes the number of the message
+        takes_own : IsIn (length state.entries + 1) chosen.taken
+        takes_own =
+            let same : number_more letters ≡ length state.entries + 1 = ap (λ (n : ℕ). n + 1) (length-map state.entries (λ (e : Entry). e.message)) in
+            one_of_in chosen.taken (length state.entries + 1) (subst (λ (n : ℕ). contains_number chosen.taken n ≡ true) same (best_takes letters message offered chosen reserved best))
+
+        goes_on : (firing : Option Firing) → TakesNewest (entry_with arrival firing) → fair_step setting state source message stamp ≡ (recorded arrival firing (without (live_with arrival) chosen.taken) ending.Running, outcome.Fired)
             → IsDone setting arrival firing (with_live mail_with (without mail_with.live chosen.taken)) (firings ++ firing ∷ []) ending.Running (map (fired_at (number_more letters) chosen.taken) offered) outcome.Fired
-        goes_on firing step =
+        goes_on firing takes step =
             let steady = fired_steady setting state source message stamp trees rest.steady offered chosen firing of_rules hold reserved best in
-            let one = done firing (without (live_with arrival) chosen.taken) ending.Running (map (fired_at (number_more letters) chosen.taken) offered) outcome.Fired steady (fired_once (number_more letters) chosen.taken offered once) (fired_few (number_more letters) chosen.taken offered few) step in
+            let one = done firing (without (live_with arrival) chosen.taken) ending.Running (map (fired_at (number_more letters) chosen.taken) offered) outcome.Fired takes (λ over. absurd cc) steady (fired_once (number_more letters) chosen.taken offered once) (fired_few (number_more letters) chosen.taken offered few) step in
             subst (λ (ns : List ℕ). IsDone setting arrival firing (with_live mail_with (without ns chosen.taken)) (firings ++ firing ∷ []) ending.Running (map (fired_at (number_more letters) chosen.taken) offered) outcome.Fired) (sym live_same) one
 
-        ends : (firing : Option Firing) → fair_step setting state source message stamp ≡ (recorded arrival firing [] ending.Stopped, outcome.Fired)
+        ends : (firing : Option Firing) → TakesNewest (entry_with arrival firing) → fair_step setting state source message stamp ≡ (recorded arrival firing [] ending.Stopped, outcome.Fired)
             → IsDone setting arrival firing (with_live mail_with []) (firings ++ firing ∷ []) ending.Stopped (map cleared_tree offered) outcome.Fired
-        ends firing step =
-            done firing [] ending.Stopped (map cleared_tree offered) outcome.Fired (ended_steady setting state source message stamp trees firing ending.Stopped offered letters state.live of_rules hold) (cleared_once offered) (cleared_few offered of_rules) step
+        ends firing takes step =
+            done firing [] ending.Stopped (map cleared_tree offered) outcome.Fired takes (λ over. refl) (ended_steady setting state source message stamp trees firing ending.Stopped offered letters state.live of_rules hold) (cleared_once offered) (cleared_few offered of_rules) step
 
         pub fires_done : (number : ℕ) (firing : Option Firing) (before after : Mail) (fired : List (Option Firing)) (ended : Ending) (left : List Tree) → number ≡ length m.arrivals + 1 → before ≡ mail_with
             → firing ≡ firing_of setting.rules (mail.letters_of before.arrivals) (Some chosen)
@@ -291,18 +302,19 @@ module _ (actors : ℕ) (setting : Setting) (m : Mail) (firings : List (Option F
             → IsDone setting arrival firing after fired ended left outcome.Fired
         fires_done number firing before after fired ended left is recorded_as firing_is mail_is left_is ended_is fired_is =
             let firing_same : firing_of setting.rules (letters_with arrival) (Some chosen) ≡ firing = ap (λ (ms : List Message). firing_of setting.rules ms (Some chosen)) (letters_after ∙ ap (λ (b : Mail). mail.letters_of b.arrivals) (sym recorded_as)) ∙ sym firing_is in
+            let takes : TakesNewest (entry_with arrival firing) = subst (λ (f : Option Firing). TakesNewest (entry_with arrival f)) firing_same takes_own in
             let step = step_by_best (ap is_running running) ∙ ap (by_choice setting arrival) best in
             let mail_same = mail_is ∙ ap (λ (b : Mail). with_live b (if stops (body_at setting.rules chosen.rule) then [] else without b.live chosen.taken)) recorded_as in
             let left_same = left_is ∙ ap (λ (n : ℕ). if stops (body_at setting.rules chosen.rule) then map cleared_tree offered else map (fired_at n chosen.taken) offered) (is ∙ sym number_same) in
             let ended_same = ended_is ∙ ap (λ (e : Ending). if stops (body_at setting.rules chosen.rule) then ending.Stopped else e) running in
             let shown : fair_step setting state source message stamp ≡ (if stops (body_at setting.rules chosen.rule) then recorded arrival firing [] ending.Stopped else recorded arrival firing (without (live_with arrival) chosen.taken) ending.Running, outcome.Fired)
             = step ∙ ap (λ (f : Option Firing). (if stops (body_at setting.rules chosen.rule) then recorded arrival f [] ending.Stopped else recorded arrival f (without (live_with arrival) chosen.taken) ending.Running, outcome.Fired)) firing_same in
-            by (stops (body_at setting.rules chosen.rule)) shown mail_same left_same ended_same
+            by (stops (body_at setting.rules chosen.rule)) takes shown mail_same left_same ended_same
           where
-            by : (b : Bool) → fair_step setting state source message stamp ≡ (if b then recorded arrival firing [] ending.Stopped else recorded arrival firing (without (live_with arrival) chosen.taken) ending.Running, outcome.Fired)
+            by : (b : Bool) → TakesNewest (entry_with arrival firing) → fair_step setting state source message stamp ≡ (if b then recorded arrival firing [] ending.Stopped else recorded arrival firing (without (live_with arrival) chosen.taken) ending.Running, outcome.Fired)
                 → after ≡ with_live mail_with (if b then [] else without mail_with.live chosen.taken) → left ≡ (if b then map cleared_tree offered else map (fired_at (number_more letters) chosen.taken) offered) → ended ≡ (if b then ending.Stopped else ending.Running)
                 → IsDone setting arrival firing after fired ended left outcome.Fired
-            by true shown mail_same left_same ended_same =
-                done_is firing _ after (firings ++ firing ∷ []) fired _ ended _ left outcome.Fired outcome.Fired mail_same fired_is ended_same left_same refl (ends firing shown)
-            by false shown mail_same left_same ended_same =
-                done_is firing _ after (firings ++ firing ∷ []) fired _ ended _ left outcome.Fired outcome.Fired mail_same fired_is ended_same left_same refl (goes_on firing shown)
+            by true takes shown mail_same left_same ended_same =
+                done_is firing _ after (firings ++ firing ∷ []) fired _ ended _ left outcome.Fired outcome.Fired mail_same fired_is ended_same left_same refl (ends firing takes shown)
+            by false takes shown mail_same left_same ended_same =
+                done_is firing _ after (firings ++ firing ∷ []) fired _ ended _ left outcome.Fired outcome.Fired mail_same fired_is ended_same left_same refl (goes_on firing takes shown)

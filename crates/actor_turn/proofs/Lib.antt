@@ -1,6 +1,7 @@
 pub mod ArriveLemmas
 pub mod BodiesLemmas
 pub mod FitLemmas
+pub mod HeldLemmas
 pub mod LetGoLemmas
 pub mod OfferedLemmas
 pub mod OpeningLemmas

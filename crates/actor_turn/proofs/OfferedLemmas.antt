@@ -14,8 +14,9 @@ use Rattle.tree_law.specs.Trees.{HoldAll, HasOnce, AreTreesOf, AreReservedFor, A
 use Rattle.tree_law.proofs.CountLemmas.{once_filter, once_sum}
 use Rattle.tree_law.proofs.OfferLemmas.{can_offer}
 use Rattle.tree_law.proofs.TreesLemmas.{cleared_holds}
+use Rattle.actor_turn.specs.Held.{new_trees}
 use Rattle.actor_turn.specs.Parts.{fired_at}
-use Rattle.actor_turn.specs.Steady.{HasPatterns, new_trees}
+use Rattle.actor_turn.specs.Steady.{HasPatterns}
 
 -- ---- what is offered, and how often it is tried
 

@@ -6,7 +6,8 @@ use Rattle.pattern_core.specs.declared.definition.Definition.{Definition}
 use Rattle.match_tree.specs.Tree.{Tree, empty_of}
 use Rattle.script_types.specs.declared.plan.Rule.{Rule}
 use Rattle.fair_semantics.specs.Step.{definitions_of}
-use Rattle.actor_turn.specs.Steady.{HasPatterns, new_trees}
+use Rattle.actor_turn.specs.Held.{new_trees}
+use Rattle.actor_turn.specs.Steady.{HasPatterns}
 
 definitions_more : (rules : List Rule) (i : ℕ) (rule : Rule) → i < length rules → rule ≡ get_or rules i rule → definitions_of (take (i + 1) rules) ≡ definitions_of (take i rules) ++ rule.definition ∷ []
 definitions_more rules i rule l e =

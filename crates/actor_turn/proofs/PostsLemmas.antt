@@ -6,6 +6,7 @@ use Rattle.std.proofs.lemmas.List.{map-set, append-nil, get_or-set_same, length-
 use Rattle.std.proofs.Math.Seq.{map-set_same, take-length}
 use Rattle.std.proofs.lemmas.Bool.Decides.{nat_tests}
 use Rattle.join_base.specs.declared.message.Stamped.{Stamped}
+use Rattle.match_tree.specs.Tree.{Tree}
 use Rattle.fair_semantics.specs.declared.run.Effect.{Effect}
 use Rattle.fair_semantics.specs.declared.run.Effect.TheVariants as effect
 use Rattle.fair_semantics.specs.declared.run.Firing.{Firing}
@@ -21,9 +22,9 @@ at_map f [] i d e within = absurd (omega arith)
 at_map f (x ∷ xs) zero d e within = refl
 at_map f (x ∷ xs) (suc i) d e within = at_map f xs i d e (omega arith)
 
-module _ (setting : Setting) (state : State) (boxes : List Queue) (target : ℕ) (d now : Queue) (within : target < length boxes) (is : d ≡ get_or boxes target d) where
+module _ (setting : Setting) (state : State) (trees : List Tree) (boxes : List Queue) (target : ℕ) (d now : Queue) (within : target < length boxes) (is : d ≡ get_or boxes target d) where
   abbrev held : List Queue → Held
-  held bs = record { setting = setting; state = state; outbox = map (λ o. o.posts) bs; lent = map (λ o. o.lent) bs }
+  held bs = record { setting = setting; state = state; trees = trees; outbox = map (λ o. o.posts) bs; lent = map (λ o. o.lent) bs }
 
   waiting : posts_for (held boxes).outbox target ≡ d.posts
   waiting = at_map (λ (o : Queue). o.posts) boxes target d [] within ∙ ap (λ (o : Queue). o.posts) (sym is)
@@ -38,20 +39,20 @@ module _ (setting : Setting) (state : State) (boxes : List Queue) (target : ℕ)
           let same_lent : now.lent ≡ d.lent = lent ∙ ap (λ (ps : List Stamped). is_lent_after ps d.lent) e in
           let outbox = map-set_same (λ (o : Queue). o.posts) boxes target now d (same_posts ∙ ap (λ (o : Queue). o.posts) is) in
           let kept = map-set_same (λ (o : Queue). o.lent) boxes target now d (same_lent ∙ ap (λ (o : Queue). o.lent) is) in
-          λ i. record { setting = setting; state = state; outbox = outbox i; lent = kept i }
+          λ i. record { setting = setting; state = state; trees = trees; outbox = outbox i; lent = kept i }
       by (p ∷ ps) e =
           let first : now.posts ≡ ps = posts ∙ ap (drop 1) e in
           let kept : now.lent ≡ true = lent ∙ ap (λ (qs : List Stamped). is_lent_after qs d.lent) e in
           let outbox = map-set (λ (o : Queue). o.posts) boxes target now ∙ ap (slice_set (map (λ (o : Queue). o.posts) boxes) target) first in
           let lents = map-set (λ (o : Queue). o.lent) boxes target now ∙ ap (slice_set (map (λ (o : Queue). o.lent) boxes) target) kept in
-          λ i. record { setting = setting; state = state; outbox = outbox i; lent = lents i }
+          λ i. record { setting = setting; state = state; trees = trees; outbox = outbox i; lent = lents i }
 
   -- it is brought back
   pub returned_is : (post : Stamped) → now.posts ≡ post ∷ d.posts → now.lent ≡ false → held (slice_set boxes target now) ≡ with_first (held boxes) target post
   returned_is post posts lent =
       let outbox = map-set (λ (o : Queue). o.posts) boxes target now ∙ ap (slice_set (map (λ (o : Queue). o.posts) boxes) target) (posts ∙ ap (λ (ps : List Stamped). post ∷ ps) (sym waiting)) in
       let lents = map-set (λ (o : Queue). o.lent) boxes target now ∙ ap (slice_set (map (λ (o : Queue). o.lent) boxes) target) lent in
-      λ i. record { setting = setting; state = state; outbox = outbox i; lent = lents i }
+      λ i. record { setting = setting; state = state; trees = trees; outbox = outbox i; lent = lents i }
 
 -- ---- room, and posts that are delivered
 

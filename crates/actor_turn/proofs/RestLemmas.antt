@@ -27,10 +27,9 @@ use Rattle.fair_semantics.specs.declared.run.Firing.{Firing}
 use Rattle.fair_semantics.specs.Fair.{partials_of}
 use Rattle.fair_semantics.specs.Step.{Setting, State, definitions_of, fair_step, fits, is_refused, is_running, late_step, latest_stamp, spent_step}
 use Rattle.fair_semantics.proofs.ListLemmas.{each_at}
-use Rattle.actor_turn.specs.Held.{AreLimits, is_taken}
+use Rattle.actor_turn.specs.Held.{AreLimits, is_taken, new_trees}
 use Rattle.actor_turn.specs.Inside.{HasFewFields, IsAtRest, IsTold}
 use Rattle.actor_turn.specs.Parts.{state_of}
-use Rattle.actor_turn.specs.Steady.{new_trees}
 use Rattle.actor_turn.proofs.OfferedLemmas.{cleared_count, cleared_once, new_count, new_hold, new_of, new_once, new_settled, trees_count}
 use Rattle.actor_turn.proofs.SteadyLemmas.{spent_steady}
 use Rattle.actor_turn.proofs.ToldLemmas.{rules_patterns, rules_see}
@@ -75,7 +74,15 @@ module _ (setting : Setting) (state : State) (message : Message) (stamp : ℕ) w
 pub late_rest : (setting : Setting) (m m' : Mail) (late : Late) (f : List (Option Firing)) (e : Ending) (t : List Tree) → m' ≡ with_late m late → IsAtRest setting m f e t → IsAtRest setting m' f e t
 late_rest setting m m' late f e t is h =
     subst (λ (x : Mail). IsAtRest setting x f e t) (sym is)
-    (record { fired = h.fired; fitting = h.fitting; steady = record { live = h.steady.live; of_rules = h.steady.of_rules; hold = h.steady.hold; settled = h.steady.settled }; once = h.once; few = h.few })
+    (record {
+      fired = h.fired;
+      newest = h.newest;
+      fitting = h.fitting;
+      steady = record { live = h.steady.live; of_rules = h.steady.of_rules; hold = h.steady.hold; settled = h.steady.settled };
+      once = h.once;
+      few = h.few;
+      ended = h.ended;
+    })
 
 pub spent_rest : (actors : ℕ) (setting : Setting) (m m' : Mail) (late : Late) (source : Source) (f : List (Option Firing)) (e e' : Ending) (t t' : List Tree) → m' ≡ with_live (with_late m late) [] → e' ≡ ending.Spent → t' ≡ map cleared_tree t
     → IsTold actors setting → IsAtRest setting m f e t → IsAtRest setting m' f e' t'
@@ -87,10 +94,12 @@ spent_rest actors setting m m' late source f e e' t t' em ee et told h =
     subst P (λ i. (sym em i, sym ee i, sym et i))
     (record {
       fired = h.fired;
+      newest = h.newest;
       fitting = h.fitting;
       steady = record { live = steady.live; of_rules = steady.of_rules; hold = steady.hold; settled = steady.settled };
       once = cleared_once t;
       few = omega arith;
+      ended = λ over. refl;
     })
 
 -- no entry is new
@@ -123,6 +132,7 @@ new_rest actors setting feeds sources m f t told em ef et =
     subst P (λ i. (sym em i, sym ef i, sym et i))
     (record {
       fired = refl;
+      newest = tt;
       fitting = tt;
       steady = record {
         live = λ k h. absurd h;
@@ -132,6 +142,7 @@ new_rest actors setting feeds sources m f t told em ef et =
       };
       once = new_once 1 definitions;
       few = omega arith;
+      ended = λ over. refl;
     })
 
 -- as many outboxes as actors

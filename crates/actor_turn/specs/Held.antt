@@ -3,6 +3,8 @@ use Rattle.std.specs.Prelude.{ℕ, ◌+◌, List, [], ◌∷◌, ◌++◌, Bool,
 use Rattle.std.specs.List.{flat_map}
 use Rattle.join_base.specs.declared.message.Message.{Message}
 use Rattle.join_base.specs.declared.message.Stamped.{Stamped}
+use Rattle.pattern_core.specs.declared.definition.Definition.{Definition}
+use Rattle.match_tree.specs.Tree.{Tree, empty_of}
 use Rattle.tree_law.specs.Trees.{tries_from}
 use Rattle.script_types.specs.declared.plan.Plan.{Plan}
 use Rattle.script_types.specs.declared.plan.Rule.{Rule}
@@ -13,11 +15,12 @@ use Rattle.fair_semantics.specs.Fits.{IsFrom1To}
 use Rattle.fair_semantics.specs.Linked.{entry_posts}
 use Rattle.fair_semantics.specs.Step.{Setting, State, letters_of, definitions_of, opening, is_running, is_refused}
 
--- what it was told and its state; for each actor of the plan the posts that wait for it, in order, and whether the post
--- that was taken last may be brought back
+-- what it was told and its state; the trees, of partial matches, that it keeps; for each actor of the plan the posts that
+-- wait for it, in order, and whether the post that was taken last may be brought back
 pub record Held : Type 0 where
   pub setting : Setting
   pub state : State
+  pub trees : List Tree
   pub outbox : List (List Stamped)
   pub lent : List Bool
 
@@ -26,11 +29,17 @@ pub record AreLimits (limits : Limits) : Type 0 where
   pub arrivals : IsFrom1To 1000000 limits.arrivals
   pub partials : IsFrom1To 1000000 limits.partials
 
+-- a tree for each definition, of which the first has this number, with the empty path alone
+abbrev pub new_trees : ℕ → List Definition → List Tree
+new_trees rule [] = []
+new_trees rule (definition ∷ definitions) = record { definition = definition; rule = rule; paths = empty_of definition ∷ []; reserve = None } ∷ new_trees (rule + 1) definitions
+
 -- an actor before its first arrival
 abbrev pub new_actor : Plan → ℕ → Limits → ℕ → Held
 new_actor plan index limits feeds = record {
   setting = setting_of plan index limits;
   state = opening feeds (length plan.actors);
+  trees = new_trees 1 (definitions_of (setting_of plan index limits).rules);
   outbox = replicate (length plan.actors) [];
   lent = replicate (length plan.actors) false;
 }

@@ -1,5 +1,5 @@
 -- What an actor keeps inside.
-use Rattle.std.specs.Prelude.{◌≡◌, ℕ, ◌≤◌, List, [], Option, true, length, map, vec_capacity}
+use Rattle.std.specs.Prelude.{◌≡◌, ℕ, ◌≤◌, List, [], Option, true, false, length, map, vec_capacity}
 use Rattle.std.specs.List.{AllByRecursion}
 use Rattle.join_base.specs.declared.message.Sort.{Sort}
 use Rattle.mailbox_core.specs.Mail.{Mail}
@@ -9,7 +9,8 @@ use Rattle.tree_law.specs.Trees.{HasOnce, path_count}
 use Rattle.script_types.specs.Typed.{IsTypedRule}
 use Rattle.fair_semantics.specs.declared.run.Ending.{Ending}
 use Rattle.fair_semantics.specs.declared.run.Firing.{Firing}
-use Rattle.fair_semantics.specs.Step.{Setting, fits}
+use Rattle.fair_semantics.specs.Step.{Setting, fits, is_running}
+use Rattle.run_fits.specs.RestLaw.{TakesNewest}
 use Rattle.actor_turn.specs.declared.actor.Actor.TheInside.{Inside}
 use Rattle.actor_turn.specs.Held.{Held, AreLimits}
 use Rattle.actor_turn.specs.Parts.{AreFired, state_of}
@@ -22,6 +23,7 @@ abbrev pub held_of : Inside → Held
 held_of a = record {
   setting = setting_in a;
   state = state_of a.mail.mail a.firings.items a.ending;
+  trees = a.trees.items;
   outbox = map (λ o. o.posts) a.outboxes.items;
   lent = map (λ o. o.lent) a.outboxes.items;
 }
@@ -37,14 +39,16 @@ pub record IsTold (actors : ℕ) (setting : Setting) : Type 0 where
   pub few : length setting.rules ≤ 16
   pub typed : AllByRecursion (IsTypedRule actors setting.sorts) setting.rules
 
--- a firing or none for each arrival; the recorded messages fit; the trees hold the partial matches, each once, and
--- there are not too many
+-- a firing or none for each arrival, which took its number; the recorded messages fit; the trees hold the partial
+-- matches, each once, and there are not too many; no number is left where the actor has ended
 pub record IsAtRest (setting : Setting) (m : Mail) (firings : List (Option Firing)) (end : Ending) (trees : List Tree) : Type 0 where
   pub fired : AreFired m firings
+  pub newest : AllByRecursion TakesNewest (state_of m firings end).entries
   pub fitting : AllByRecursion (λ message. fits setting.sorts message ≡ true) (mail.letters_of m.arrivals)
   pub steady : IsSteady setting (state_of m firings end) trees
   pub once : AllByRecursion HasOnce trees
   pub few : path_count trees ≤ 1000000
+  pub ended : is_running end ≡ false → m.live ≡ []
 
 -- what is true of every actor; it has room for the entries of its run
 pub record IsKept (a : Inside) : Type 0 where

@@ -1,5 +1,6 @@
 -- what the claims are made of
 pub mod Held
+pub mod Rest
 -- what private functions compute
 pub mod Inside
 pub mod Outbox

@@ -1,7 +1,7 @@
 -- The trees of an actor, and the state that it shows.
-use Rattle.std.specs.Prelude.{ℕ, ◌+◌, ◌≤◌, List, [], ◌∷◌, None, length}
+use Rattle.std.specs.Prelude.{◌≤◌, List, length}
 use Rattle.pattern_core.specs.declared.definition.Definition.{Definition}
-use Rattle.match_tree.specs.Tree.{Tree, empty_of}
+use Rattle.match_tree.specs.Tree.{Tree}
 use Rattle.tree_law.specs.Partials.{AreLive}
 use Rattle.tree_law.specs.Trees.{HoldAll, AreTreesOf, AreSettled}
 use Rattle.fair_semantics.specs.Step.{Setting, State, letters_of, definitions_of}
@@ -17,8 +17,3 @@ pub record IsSteady (setting : Setting) (state : State) (trees : List Tree) : Ty
 -- from 1 to 8 patterns
 abbrev pub HasPatterns : Definition → Type 0
 HasPatterns definition = (1 ≤ length definition.patterns) × (length definition.patterns ≤ 8)
-
--- a tree for each definition, of which the first has this number, with the empty path alone
-abbrev pub new_trees : ℕ → List Definition → List Tree
-new_trees rule [] = []
-new_trees rule (definition ∷ definitions) = record { definition = definition; rule = rule; paths = empty_of definition ∷ []; reserve = None } ∷ new_trees (rule + 1) definitions

@@ -9,6 +9,7 @@ ghost use Rattle.script_types.specs.Typed.{IsTyped};
 ghost use Rattle.fair_semantics.specs.Step.{fair_step, is_running};
 ghost use Rattle.fair_semantics.specs.Fair.{partials_of, run_of, setting_of};
 ghost use Rattle.fair_semantics.specs.Fits.{RuleFits};
+ghost use Rattle.actor_turn.specs.Rest.{HoldsPartialMatches, NoMatchWaits};
 ghost use Rattle.actor_turn.specs.Held.{AreLimits, first_of, is_taken, new_actor, new_entries, posts_behind, posts_for, tries_for, with_first, without_first};
 
 use crate::fit::fits;
@@ -87,6 +88,8 @@ impl Actor {
         requires limits { AreLimits limits }
 
         ensures opening { IfOk result (λ a. a ≡ new_actor plan.now index limits feeds) }
+        ensures partial { IfOk result HoldsPartialMatches }
+        ensures waits { IfOk result NoMatchWaits }
         ensures texts { OnOk result (AllByRecursion RuleFits (setting_of plan.now index limits).rules) }
     {
         let actor = plan.actors.at(index as usize);
@@ -133,6 +136,8 @@ impl Actor {
         ensures setting { self.new.setting ≡ self.old.setting }
         ensures outbox { self.new.outbox ≡ posts_behind 0 (new_entries self.old.state self.new.state) self.old.outbox }
         ensures lent { self.new.lent ≡ self.old.lent }
+        ensures partial { HoldsPartialMatches self.new }
+        ensures waits { NoMatchWaits self.new }
         ensures sources { (other : Source) → HasCount self.old.state.late other → HasCount self.new.state.late other }
     {
         if !runs(self.ending) {
@@ -160,6 +165,8 @@ impl Actor {
         ensures setting { self.new.setting ≡ self.old.setting }
         ensures outbox { OnOk result (self.new.outbox ≡ posts_behind 0 (new_entries self.old.state self.new.state) self.old.outbox) }
         ensures lent { self.new.lent ≡ self.old.lent }
+        ensures partial { HoldsPartialMatches self.new }
+        ensures waits { NoMatchWaits self.new }
         ensures unchanged { OnErr result (self.new ≡ self.old) }
         ensures taken { OnErr result (is_taken self.old.setting self.old.state message.now stamp ≡ true) }
         ensures steps { steps.new ≤ steps.old + tries_for self.old.setting.rules self.old.state message.now }
@@ -168,6 +175,8 @@ impl Actor {
         if !self.takes(message, stamp) {
             return Ok(self.turn_away(source));
         }
+        // What the trees hold is told here for the exit without memory.
+        let _ = self.trees();
         let own = message.copy(alloc)?;
         match self.take_in(alloc, source, own, stamp, steps) {
             Ok(outcome) => Ok(outcome),
@@ -191,6 +200,8 @@ impl Actor {
         ensures setting { self.new.setting ≡ self.old.setting }
         ensures outbox { OnOk result (self.new.outbox ≡ posts_behind 0 (new_entries self.old.state self.new.state) self.old.outbox) }
         ensures lent { self.new.lent ≡ self.old.lent }
+        ensures partial { HoldsPartialMatches self.new }
+        ensures waits { NoMatchWaits self.new }
         ensures unchanged { OnErr result (self.new ≡ self.old) }
         ensures taken { OnErr result (is_taken self.old.setting self.old.state message stamp ≡ true) }
         ensures back { IfErr result (λ r. r.message ≡ message) }
@@ -218,6 +229,8 @@ impl Actor {
         ensures setting { self.new.setting ≡ self.old.setting }
         ensures outbox { OnOk result (self.new.outbox ≡ posts_behind 0 (new_entries self.old.state self.new.state) self.old.outbox) }
         ensures lent { self.new.lent ≡ self.old.lent }
+        ensures partial { HoldsPartialMatches self.new }
+        ensures waits { NoMatchWaits self.new }
         ensures unchanged { OnErr result (self.new ≡ self.old) }
         ensures back { IfErr result (λ r. r.message ≡ message) }
         ensures steps { steps.new ≤ steps.old + tries_for self.old.setting.rules self.old.state message }
@@ -266,6 +279,16 @@ impl Actor {
                 })
             }
         }
+    }
+
+    /// The trees of the rules, in order, as the actor keeps them. Of every actor they hold the partial matches of the
+    /// messages that are not consumed, each once, and no complete match waits.
+    pub fn trees(&self) -> &[MatchTree]
+        ensures same { result.now ≡ self.now.trees }
+        ensures partial { HoldsPartialMatches self.now }
+        ensures waits { NoMatchWaits self.now }
+    {
+        &self.trees
     }
 
     /// The number of partial matches over all definitions.

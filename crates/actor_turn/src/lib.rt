@@ -2,8 +2,9 @@
 //!
 //! `Actor::new` makes it, `arrive` is one fair step with a copy of a message and `receive` one with the message itself,
 //! `take_post` and `return_post` are for those who carry its posts, and `into_run` gives its run. A contract sees what
-//! it was told, its state, and the posts that wait for each actor. Between two arrivals its trees hold the partial
-//! matches, each once, and no complete match waits. `give_room_back` is for lists that are emptied item by item.
+//! it was told, its state, its trees, and the posts that wait for each actor. `trees` hands out the trees: between two
+//! arrivals they hold the partial matches, each once (`HoldsPartialMatches`, specs/Rest), and no complete match waits
+//! (`NoMatchWaits`). `give_room_back` is for lists that are emptied item by item.
 //! Only tested: that calls answer `Ok` where memory is ample.
 #![tactic(auto)]
 

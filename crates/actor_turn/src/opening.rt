@@ -4,7 +4,8 @@ ghost use Rattle.join_base.specs.declared.message.Sort.{Sort as FieldSort};
 ghost use Rattle.std.specs.List.{AllByRecursion};
 ghost use Rattle.script_types.specs.Typed.{kind_types};
 ghost use Rattle.fair_semantics.specs.Step.{definitions_of};
-ghost use Rattle.actor_turn.specs.Steady.{HasPatterns, new_trees};
+ghost use Rattle.actor_turn.specs.Held.{new_trees};
+ghost use Rattle.actor_turn.specs.Steady.{HasPatterns};
 
 use crate::outbox::Outbox;
 use join_base::{Items, Name, NoMemory, Sort};

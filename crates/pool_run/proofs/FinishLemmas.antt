@@ -12,14 +12,15 @@ use Rattle.cell_links.specs.declared.poster.Poster as ends
 use Rattle.cell_links.specs.Ends.{PosterTag, poster_links, poster_tag, sent_to}
 use Rattle.actor_cells.specs.declared.cell.Cell.{Cell}
 use Rattle.actor_cells.specs.declared.cell.CellTag.{CellTag}
+use Rattle.actor_cells.specs.AllLawful.{AreLawful}
 use Rattle.actor_cells.specs.Prepared.{AreWired}
 use Rattle.actor_cells.specs.Tags.{AreTagsOf}
-use Rattle.pool_settling.specs.Settling.{AreFeedsWith, GoesOnFrom, IsLinkedToAll, IsScheduledOverAll}
+use Rattle.pool_settling.specs.Settling.{AreFeedsWith, GoesOnFrom, IsLinkedToAll, IsScheduledOverAll, TakesFew}
 use Rattle.actor_pool.specs.declared.poster.Poster.{Poster}
 use Rattle.actor_pool.specs.Helpers.{SeatView}
 use Rattle.actor_pool.specs.Posters.{feed_ends, feed_tag}
 use Rattle.actor_pool.specs.Whole.{HoldSeen}
-use Rattle.pool_run.specs.Finishing.{AreSent, GoesOnFromSeen, IsLinkedToSent, IsScheduledOverSent}
+use Rattle.pool_run.specs.Finishing.{AreSent, FinishesFew, GoesOnFromSeen, IsLinkedToSent, IsScheduledOverSent}
 
 prefix-trans : {X : Type 0} (a b c : List X) → IsPrefix a b → IsPrefix b c → IsPrefix a c
 prefix-trans a b c p q = (p.0 ++ q.0, sym (append_assoc a p.0 q.0) ∙ ap (λ l. l ++ q.0) p.1 ∙ q.1)
@@ -70,3 +71,6 @@ seen-on v cells run hold on actor own at =
     let long = on.count in
     let found = cell-at cells actor (omega (arith, within, long)) in
     prefix-trans _ _ _ (hold actor found.0 found.1) (on.history actor found.0 own found.1 at)
+
+pub few-taken : (v : SeatView) (posters : List Poster) (own : List ends.Poster) (cells : List Cell) (run : Run) → own ≡ map feed_ends posters → AreLawful cells → HoldSeen v cells → TakesFew own cells [] run → FinishesFew v posters run
+few-taken v posters own cells run same lawful seen few = record { cells = cells; lawful = lawful; seen = seen; few = subst (λ (l : List ends.Poster). TakesFew l cells [] run) same few }

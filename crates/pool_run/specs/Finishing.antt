@@ -1,5 +1,5 @@
 -- What finishing a pool gives.
-use Rattle.std.specs.Prelude.{◌≡◌, ℕ, ◌<◌, List, Some, length, map, slice_get}
+use Rattle.std.specs.Prelude.{◌≡◌, ℕ, ◌<◌, List, [], Some, length, map, slice_get}
 use mathlib.Core.List.{IsPrefix}
 use Rattle.join_base.specs.declared.message.Message.{Message}
 use Rattle.script_types.specs.declared.plan.Plan.{Plan}
@@ -11,10 +11,14 @@ use Rattle.run_order.specs.Order.{IsScheduled}
 use Rattle.schedule_law.specs.Reached.{FeedsFit}
 use Rattle.turn_lock.specs.View.{seen_of}
 use Rattle.cell_links.specs.Ends.{sent_to}
+use Rattle.actor_cells.specs.declared.cell.Cell.{Cell}
+use Rattle.actor_cells.specs.AllLawful.{AreLawful}
 use Rattle.actor_cells.specs.Lawful.{noted}
+use Rattle.pool_settling.specs.Settling.{TakesFew}
 use Rattle.actor_pool.specs.declared.poster.Poster.{Poster}
 use Rattle.actor_pool.specs.Helpers.{SeatView}
-use Rattle.actor_pool.specs.Posters.{feed_links}
+use Rattle.actor_pool.specs.Posters.{feed_ends, feed_links}
+use Rattle.actor_pool.specs.Whole.{HoldSeen}
 
 -- a feed for each poster: its posts to each actor of the plan are what the poster sent there; and their values are in
 -- range
@@ -34,3 +38,12 @@ IsScheduledOverSent plan limits posters run = (feeds : List (List (ℕ × Messag
 -- the arrivals of each actor go on from what was seen of it
 abbrev pub GoesOnFromSeen : SeatView → Run → Type 0
 GoesOnFromSeen v run = (actor : ℕ) (own : ActorRun) → slice_get run.actors actor ≡ Some own → IsPrefix (seen_of v actor) (map noted own.entries)
+
+-- the actors were given at most what waited: of the cells that the pool had, which are lawful and go on from what was
+-- seen, what had gone over links and not come and what waited in outboxes, and 17 messages for each arrival that could
+-- still be recorded
+pub record FinishesFew (v : SeatView) (posters : List Poster) (run : Run) : Type 0 where
+  pub cells : List Cell
+  pub lawful : AreLawful cells
+  pub seen : HoldSeen v cells
+  pub few : TakesFew (map feed_ends posters) cells [] run

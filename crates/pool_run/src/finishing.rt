@@ -6,7 +6,7 @@ ghost use Rattle.fair_semantics.specs.Fits.{IsFrom1To};
 ghost use Rattle.actor_turn.specs.Held.{AreLimits};
 ghost use Rattle.actor_pool.specs.Helpers.{seat_of};
 ghost use Rattle.actor_pool.specs.Whole.{IsWhole};
-ghost use Rattle.pool_run.specs.Finishing.{GoesOnFromSeen, IsLinkedToSent, IsScheduledOverSent};
+ghost use Rattle.pool_run.specs.Finishing.{FinishesFew, GoesOnFromSeen, IsLinkedToSent, IsScheduledOverSent};
 
 use actor_pool::{Helper, Pool, Poster};
 use fair_semantics::{Limits, Run};
@@ -39,6 +39,7 @@ fn finish_in<L: Ledger>(
     ensures scheduled { IfOk result (IsScheduledOverSent plan.now limits posters.items) }
     ensures version { IfOk result (λ run. run.version ≡ 2) }
     ensures seen { IfOk result (GoesOnFromSeen (seat_of helper)) }
+    ensures few { IfOk result (FinishesFew (seat_of helper) posters.items) }
 {
     let mut steps = Steps::<L>::new(blank);
     let (cells, ends) = pool.close(alloc, posters, helper)?;
@@ -47,7 +48,8 @@ fn finish_in<L: Ledger>(
 
 /// Closes a pool that has all its parts, brings what still waits to the actors, and gives the run that they show. The
 /// run is linked to the feeds whose posts to each actor are what the posters sent, and it is that of one schedule of
-/// single steps. The arrivals of each actor go on from what the helper had seen of it.
+/// single steps. The arrivals of each actor go on from what the helper had seen of it. The actors are given at most what
+/// waits in links and in outboxes, and 17 messages for each arrival that they may still record.
 ///
 /// It does not wait. `NoMemory` comes where there was none, for an arrival or for the lists that it needs.
 pub fn finish(
@@ -67,6 +69,7 @@ pub fn finish(
     ensures scheduled { IfOk result (IsScheduledOverSent plan.now limits posters.items) }
     ensures version { IfOk result (λ run. run.version ≡ 2) }
     ensures seen { IfOk result (GoesOnFromSeen (seat_of helper)) }
+    ensures few { IfOk result (FinishesFew (seat_of helper) posters.items) }
 {
     finish_in::<Brand>(alloc, plan, limits, pool, posters, helper, Blank::new(1))
 }

@@ -20,9 +20,10 @@ use Rattle.actor_cells.specs.Lawful.{IsAmong, noted}
 use Rattle.actor_cells.proofs.CellLemmas.{prefix-refl}
 use Rattle.pool_settling.specs.Standing.{GoesOn, StandsBy, actor_count, arrivals_of, feed_count}
 use Rattle.pool_settling.specs.Ends.{GoOn}
-use Rattle.pool_settling.specs.Rounds.{AreMembers, Brings, BringsPosts, Came, IsMember, OutboxHasNone, StandAs, StandFed, all_work, work_of}
+use Rattle.pool_settling.specs.Rounds.{AreMembers, Brings, BringsPosts, Came, IsMember, OutboxHasNone, StandAs, StandFed}
+use Rattle.pool_settling.specs.Work.{all_weight, all_work, given_of, late_sum, weight_of, work_of}
 use Rattle.pool_settling.proofs.EndLemmas.{go_refl, go_trans, same_or_not, set_get, set_get_other, set_or, set_or_other, some_is}
-use Rattle.pool_settling.proofs.StandLemmas.{Steps, on_refl, stepped, stepped_on}
+use Rattle.pool_settling.proofs.StandLemmas.{Steps, on_refl, stepped, stepped_on, stepped_weight}
 use Rattle.pool_settling.proofs.WorkLemmas.{step_work, sum_set}
 
 -- ---- one actor of a list
@@ -66,6 +67,9 @@ module _ (helds : List Held) (k : ℕ) (before after : Held) (at : slice_get hel
 
   pub work_set : all_work nows + work_of before ≡ all_work helds + work_of after
   work_set = sum_set work_of helds k before after at
+
+  pub weight_set : all_weight nows + weight_of before ≡ all_weight helds + weight_of after
+  weight_set = sum_set weight_of helds k before after at
 
 -- ---- pointwise
 
@@ -145,6 +149,9 @@ module _ (target : ℕ) (post : Stamped) (posts : List Stamped) (before after : 
         let count : length after.state.entries ≡ length before.state.entries = ap (λ (s : State). length s.entries) takes.state in
         omega (arith, sums, boxes, limit, count)
 
+    took_weight : weight_of after + 1 ≡ weight_of before
+    took_weight = let given : given_of after ≡ given_of before = ap (λ (s : State). length s.entries + late_sum s.late) takes.state in let work = took_work in omega (arith, given, work)
+
     module _ (came : Source → List Stamped) (went : ℕ → List Stamped) (stands : StandsBy came went before) where
       abbrev gone : ℕ → List Stamped
       gone other = if target == other then went other ++ post ∷ [] else went other
@@ -159,7 +166,7 @@ module _ (target : ℕ) (post : Stamped) (posts : List Stamped) (before after : 
 
       took_stands : StandsBy came gone after
       took_stands =
-          subst (λ (x : (Setting × State) × List (List Stamped)). StandsBy came gone (record { setting = x.0.0; state = x.0.1; outbox = x.1; lent = after.lent })) (λ i. ((sym takes.setting i, sym takes.state i), sym takes.outbox i)) record {
+          subst (λ (x : (Setting × State) × List (List Stamped)). StandsBy came gone (record { setting = x.0.0; state = x.0.1; trees = after.trees; outbox = x.1; lent = after.lent })) (λ i. ((sym takes.setting i, sym takes.state i), sym takes.outbox i)) record {
             outboxes = length-set before.outbox target posts ∙ stands.outboxes;
             known = stands.known;
             in_order = stands.in_order;
@@ -226,6 +233,15 @@ module _ (helds : List Held) (members : AreMembers helds) (sender target : ℕ) 
         let arrived = step_less (Actor sender) post b c step (mid_members target b here).small in
         omega (arith, first, second, taken, arrived)
 
+    lighter : all_weight last ≤ all_weight helds
+    lighter =
+        let first = weight_set helds sender before after at in
+        let second = weight_set mid target b c here in
+        let box : target < length before.outbox = subst (λ (n : ℕ). target < n) (sym (members sender before at).outboxes) within in
+        let taken = took_weight target post posts before after takes box in
+        let arrived = stepped_weight (Actor sender) post b c step (mid_members target b here).small in
+        omega (arith, first, second, taken, arrived)
+
     module _ (fed : ℕ → ℕ → List Stamped) (s : StandFed fed helds) where
       abbrev now : Came
       now = one_came s.came (Actor sender) target post
@@ -255,7 +271,7 @@ module _ (helds : List Held) (members : AreMembers helds) (sender target : ℕ) 
 
     pub post_brought : Brings true helds last
     post_brought = record {
-      posts = record { fed = stand_fed; members = members_set mid target b c here mid_members step_on (step_boxes (Actor sender) post b c step); on = on; work = omega (arith, less) };
+      posts = record { fed = stand_fed; members = members_set mid target b c here mid_members step_on (step_boxes (Actor sender) post b c step); on = on; work = omega (arith, less); weight = lighter };
       less = λ e. less;
       same = λ e. absurd cc;
     }
@@ -263,13 +279,15 @@ module _ (helds : List Held) (members : AreMembers helds) (sender target : ℕ) 
 -- ---- one after the other
 
 pub posts_refl : (helds : List Held) → AreMembers helds → BringsPosts helds helds
-posts_refl helds members = record { fed = λ fed s. s; members = members; on = go_refl helds; work = omega arith }
+posts_refl helds members = record { fed = λ fed s. s; members = members; on = go_refl helds; work = omega arith; weight = omega arith }
 
 pub posts_trans : (a b c : List Held) → BringsPosts a b → BringsPosts b c → BringsPosts a c
 posts_trans a b c p q =
     let first = p.work in
     let second = q.work in
-    record { fed = λ fed s. q.fed fed (p.fed fed s); members = q.members; on = go_trans a b c p.on q.on; work = omega (arith, first, second) }
+    let third = p.weight in
+    let fourth = q.weight in
+    record { fed = λ fed s. q.fed fed (p.fed fed s); members = q.members; on = go_trans a b c p.on q.on; work = omega (arith, first, second); weight = omega (arith, third, fourth) }
 
 pub brings_none : (helds : List Held) → AreMembers helds → Brings false helds helds
 brings_none helds members = record { posts = posts_refl helds members; less = λ e. absurd cc; same = λ e. refl }

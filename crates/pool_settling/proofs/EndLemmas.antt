@@ -2,10 +2,13 @@
 use Rattle.std.proofs.Common.{◌≡◌, ◌∙◌, ◌⊎◌, inl, inr, ℕ, zero, suc, ◌+◌, ◌<◌, ◌≤◌, List, [], ◌∷◌, length, map, get_or, set, Bool, true, false, Some, slice_get, refl, ap, sym, subst, arith}
 use Rattle.std.specs.Prelude.{if◌then◌else◌, ◌==◌, ◌&&◌, All, slice_index_or, Result, Ok, Err, OnOk}
 use Rattle.join_base.specs.declared.items.NoMemory.{NoMemory}
+use Rattle.std.specs.List.{AllByRecursion}
 use Rattle.std.proofs.lemmas.Bool.{cases_lt}
 use Rattle.std.proofs.lemmas.List.{get_or-map, length-map, length-set}
 use Rattle.join_base.specs.declared.message.Source.{Source}
 use Rattle.join_base.specs.declared.message.Source.TheVariants.{Actor}
+use Rattle.script_types.specs.declared.plan.Rule.{Rule}
+use Rattle.fair_semantics.specs.Step.{Setting}
 use Rattle.fair_semantics.specs.Linked.{same_source}
 use Rattle.run_order.proofs.EventLemmas.{same_number, same_source_is}
 use Rattle.run_order.proofs.SourceLemmas.{is_itself, itself}
@@ -20,8 +23,10 @@ use Rattle.join_base.specs.Late.{HasCount}
 use Rattle.pool_settling.specs.declared.ends.Sender.{Sender}
 use Rattle.pool_settling.specs.declared.ends.Receiver.{Receiver}
 use Rattle.pool_settling.specs.Standing.{Arrives, GoesOn, StandsBy, actor_count, came_with, feed_count}
-use Rattle.pool_settling.specs.Ends.{AreStanding, Entry, GoOn, HasAll, IsDrainedAt, IsKnownTo, IsServed, Serves, entries, entry_of, keys_of, received_in, receiver_key, receiver_keys, sent_in}
+use Rattle.pool_settling.specs.Ends.{AreStanding, Entry, GivenAsCame, GoOn, HasAll, IsDrainedAt, IsKnownTo, IsServed, Serves, entries, entry_of, keys_of, received_in, receiver_key, receiver_keys, sent_in}
+use Rattle.pool_settling.specs.Work.{HaveSmallBodies, weight_of}
 use Rattle.pool_settling.proofs.StandLemmas.{on_refl, on_trans, stands_same}
+use Rattle.pool_settling.proofs.WorkLemmas.{sum_set}
 
 -- ---- lists
 
@@ -249,6 +254,15 @@ module _ (es : List Entry) (rs : List Receiver) (helds : List Held) (standing : 
   pub on_drained : GoOn helds now_helds
   on_drained = go_on
 
+  -- the weight rose at most by what came
+  pub given_drained : GivenAsCame helds now_helds rs nows
+  given_drained small =
+      let weights = sum_set weight_of helds r.target before after at in
+      let place_at : slice_get rs place ≡ Some r = get_here rs place r within here in
+      let counts = sum_set (λ (x : Receiver). length (received x.link)) rs place r (record r { link = l }) place_at in
+      let one = arrives.weight (small r.target before at) in
+      omega (arith, weights, counts, one)
+
   -- what was known stays known
   known_one : (x y : Receiver) → x.source ≡ y.source → x.target ≡ y.target → IsKnownTo helds x → IsKnownTo now_helds y
   known_one x y s t k = (subst (λ (n : ℕ). n < length now_helds) t (subst (λ (n : ℕ). x.target < n) (sym go_on.count) (k.0)), λ held e. known held (ap (slice_get now_helds) t ∙ e))
@@ -290,6 +304,31 @@ go_trans a b c p q = record { count = q.count ∙ p.count; each = λ actor x z e
     within [] n h e = absurd cc
     within (y ∷ hs) zero h e = omega arith
     within (y ∷ hs) (suc n) h e = let x = within hs n h e in omega (arith, x)
+
+-- no body makes more posts
+pub small_on : (olds nows : List Held) → GoOn olds nows → HaveSmallBodies olds → HaveSmallBodies nows
+small_on olds nows on small actor held is =
+    let was = there olds actor (let l = within nows actor held is in let n = on.count in omega (arith, l, n)) in
+    subst (λ (s : Setting). AllByRecursion (λ (rule : Rule). length rule.body ≤ 16) s.rules) (sym (on.each actor was.0 held was.1 is).told) (small actor was.0 was.1)
+  where
+    there : (hs : List Held) (n : ℕ) → n < length hs → (h : Held) × (slice_get hs n ≡ Some h)
+    there [] n m = absurd (omega arith)
+    there (h ∷ hs) zero m = (h, refl)
+    there (h ∷ hs) (suc n) m = there hs n (omega arith)
+
+    within : (hs : List Held) (n : ℕ) (h : Held) → slice_get hs n ≡ Some h → n < length hs
+    within [] n h e = absurd cc
+    within (y ∷ hs) zero h e = omega arith
+    within (y ∷ hs) (suc n) h e = let x = within hs n h e in omega (arith, x)
+
+pub given_refl : (helds : List Held) (rs : List Receiver) → GivenAsCame helds helds rs rs
+given_refl helds rs small = omega arith
+
+pub given_trans : (a b c : List Held) (xs ys zs : List Receiver) → GoOn a b → GivenAsCame a b xs ys → GivenAsCame b c ys zs → GivenAsCame a c xs zs
+given_trans a b c xs ys zs on first second small =
+    let one = first small in
+    let two = second (small_on a b on small) in
+    omega (arith, one, two)
 
 -- a sender of the source and the target serves, and another does not
 pub serves_at : (senders : List Sender) (i : ℕ) (s : Sender) (source : Source) (target : ℕ) → i < length senders → get_or senders i s ≡ s → (s.source ≡ source) × (s.target ≡ target) → (d : Key) → Serves (slice_index_or (keys_of (entries senders)) i d) source target
@@ -360,3 +399,8 @@ module _ (senders : List Sender) (rs : List Receiver) (helds : List Held) (stand
   pub then_on : (result : Result (Unit {0}) NoMemory) → OnOk result Came → OnOk result (Arrives r.source (received r.link) (received l) before after) → OnOk result (GoOn helds (set helds r.target after))
   then_on (Ok u) came arrives = on_drained (entries senders) rs helds standing linked place r l before after within here held_at came.0 (all came.1) arrives
   then_on (Err e) came arrives = tt
+
+  pub then_given : (result : Result (Unit {0}) NoMemory) → OnOk result Came → OnOk result (Arrives r.source (received r.link) (received l) before after)
+      → OnOk result (GivenAsCame helds (set helds r.target after) rs (set rs place (record r { link = l })))
+  then_given (Ok u) came arrives = given_drained (entries senders) rs helds standing linked place r l before after within here held_at came.0 (all came.1) arrives
+  then_given (Err e) came arrives = tt

@@ -1,7 +1,8 @@
 -- What is left of feeds: a post that arrived, and the posts of one list after the other.
 use Rattle.std.proofs.Common.{◌≡◌, ◌∙◌, inr, ℕ, zero, suc, ◌+◌, ◌<◌, ◌≤◌, List, [], ◌∷◌, ◌++◌, length, set, take, Bool, true, false, Option, None, Some, slice_get, refl, ap, sym, subst, arith, append_assoc}
 use Rattle.std.specs.Prelude.{if◌then◌else◌, ◌==◌, ◌&&◌}
-use Rattle.std.specs.List.{cons_option, filter_map}
+use Rattle.std.specs.List.{cons_option, filter_map, sum_by}
+use Rattle.std.proofs.lemmas.List.Sums.{sum_by_push}
 use Rattle.std.proofs.lemmas.List.{append-nil, length-set}
 use Rattle.std.proofs.lemmas.List.Elements.{filter_map-append}
 use Rattle.std.proofs.lemmas.Option.{slice_get_within}
@@ -15,9 +16,10 @@ use Rattle.actor_turn.specs.Held.{Held}
 use Rattle.pool_settling.specs.Standing.{StandsBy, feed_count}
 use Rattle.pool_settling.specs.Ends.{GoOn}
 use Rattle.pool_settling.specs.Rounds.{AreMembers, Came, HaveFeeds, IsFedMore, IsFedRest, StandAs, StandFed, fed_more, fed_rest}
+use Rattle.pool_settling.specs.Work.{all_weight}
 use Rattle.pool_settling.proofs.EndLemmas.{go_trans}
-use Rattle.pool_settling.proofs.StandLemmas.{Steps, stepped, stepped_on}
-use Rattle.pool_settling.proofs.BringLemmas.{came_here, came_other, each_set, go_set, members_set, one_came, other_is, stands_to, step_boxes, there}
+use Rattle.pool_settling.proofs.StandLemmas.{Steps, stepped, stepped_on, stepped_weight}
+use Rattle.pool_settling.proofs.BringLemmas.{came_here, came_other, each_set, go_set, members_set, one_came, other_is, stands_to, step_boxes, there, weight_set}
 
 abbrev Fed : Type 0
 Fed = ℕ → ℕ → List Stamped
@@ -47,6 +49,12 @@ module _ (helds : List Held) (members : AreMembers helds) (target feed : ℕ) (p
 
   pub fed_members : AreMembers last
   fed_members = members_set helds target b c here members (stepped_on (Feed feed) post b c step) (step_boxes (Feed feed) post b c step)
+
+  pub fed_weight : all_weight last ≤ all_weight helds + 1
+  fed_weight =
+      let sums = weight_set helds target b c here in
+      let one = stepped_weight (Feed feed) post b c step (members target b here).small in
+      omega (arith, sums, one)
 
   -- this came from the feed to the target
   abbrev more : Fed → Fed
@@ -117,6 +125,7 @@ pub record Feeds (feed count : ℕ) (posts : List (ℕ × Message)) (olds nows :
   pub have : HaveFeeds feed nows
   pub fed : IsFedMore feed (take count posts) olds nows
   pub on : GoOn olds nows
+  pub weight : all_weight nows ≤ all_weight olds + count
 
 module _ (feed place : ℕ) (posts : List (ℕ × Message)) (x : ℕ × Message) (at : slice_get posts place ≡ Some x) (olds helds : List Held) (before : Feeds feed place posts olds helds) where
   pub feeds_one : (b c : Held) → slice_get helds x.0 ≡ Some b → Steps (Feed feed) record { message = x.1; stamp = 0 } b c → 1 ≤ feed → Feeds feed (place + 1) posts olds (set helds x.0 c)
@@ -127,12 +136,18 @@ module _ (feed place : ℕ) (posts : List (ℕ × Message)) (x : ℕ × Message)
         have = have_on feed helds (set helds x.0 c) before.have on;
         fed = fed_one feed posts place x at olds helds before.fed before.members b c here step some (before.have x.0 b here);
         on = go_trans olds helds (set helds x.0 c) before.on on;
+        weight = (let so_far = before.weight in let one = fed_weight helds before.members x.0 feed record { message = x.1; stamp = 0 } b c here step some (before.have x.0 b here) in omega (arith, so_far, one));
       }
 
   pub feeds_skip : length helds ≤ x.0 → Feeds feed (place + 1) posts olds helds
-  feeds_skip past = record { members = before.members; have = before.have; fed = fed_skip feed posts place x at olds helds before.fed past; on = before.on }
+  feeds_skip past = record { members = before.members; have = before.have; fed = fed_skip feed posts place x at olds helds before.fed past; on = before.on; weight = (let so_far = before.weight in omega (arith, so_far)) }
 
 -- ---- one list after the other
+
+pub more_rest : (rest : List (List (ℕ × Message))) (n : ℕ) (posts : List (ℕ × Message)) (a b c : ℕ) → slice_get rest n ≡ Some posts → b ≤ a + sum_by length (take n rest) → c ≤ b + length posts → c ≤ a + sum_by length (take (n + 1) rest)
+more_rest rest n posts a b c at first later =
+    let whole : sum_by length (take (n + 1) rest) ≡ sum_by length (take n rest) + length posts = ap (λ (ls : List (List (ℕ × Message))). sum_by length ls) (take_next rest n posts at) ∙ sum_by_push length (take n rest) posts in
+    omega (arith, first, later, whole)
 
 take_last : {X : Type 0} (xs : List X) (n : ℕ) (x : X) → slice_get xs n ≡ Some x → slice_get (take (suc n) xs) n ≡ Some x
 take_last [] n x e = absurd cc

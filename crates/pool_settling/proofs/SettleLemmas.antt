@@ -1,13 +1,15 @@
 -- From drained actors to actors that can be given anything, and from actors with no post in an outbox to the run that
 -- they show.
 use Rattle.std.proofs.Common.{◌≡◌, ◌∙◌, ◌⊎◌, inl, inr, ℕ, zero, suc, ◌+◌, ◌<◌, ◌≤◌, List, [], ◌∷◌, ◌++◌, length, map, Bool, true, false, Option, None, Some, slice_get, refl, ap, sym, subst, arith}
-use Rattle.std.specs.Prelude.{if◌then◌else◌, nat_lt}
-use Rattle.std.specs.List.{AllByRecursion, flat_map}
+use Rattle.std.specs.Prelude.{◌==◌, if◌then◌else◌, nat_lt}
+use Rattle.std.specs.List.{AllByRecursion, flat_map, sum_by}
+use Rattle.std.proofs.lemmas.List.Sums.{sum_by-append, sum_by-cons}
 use Rattle.std.proofs.lemmas.Bool.{cases_lt}
 use Rattle.std.proofs.lemmas.Bool.Decides.{nat_tests}
 use Rattle.std.proofs.lemmas.List.{append-nil, length-map}
 use Rattle.std.proofs.lemmas.Option.{slice_get_past, slice_get_within}
 use mathlib.Core.List.{IsPrefix}
+use Rattle.join_base.specs.Late.{late_list}
 use Rattle.join_base.specs.declared.message.Message.{Message}
 use Rattle.join_base.specs.declared.message.Source.{Source}
 use Rattle.join_base.specs.declared.message.Source.TheVariants.{Feed, Actor}
@@ -26,6 +28,7 @@ use Rattle.fair_semantics.specs.Schedule.{System}
 use Rattle.fair_semantics.proofs.ListLemmas.{mapped_at}
 use Rattle.run_fits.specs.FitsLaw.{RulesFit}
 use Rattle.run_order.specs.Order.{shown}
+use Rattle.run_order.proofs.EventLemmas.{same_number}
 use Rattle.run_order.proofs.LawLemmas.{runs_are_schedules}
 use Rattle.schedule_law.specs.Given.{AreFair, IsFairOf, sent_by}
 use Rattle.schedule_law.specs.Reached.{IsServable, NothingWaits}
@@ -43,7 +46,9 @@ use Rattle.pool_settling.specs.Standing.{actor_count, arrivals_of, feed_count}
 use Rattle.pool_settling.specs.Drained.{AreDrained}
 use Rattle.pool_settling.specs.Ends.{GoOn}
 use Rattle.pool_settling.specs.Rounds.{AreMembers, BringsPosts, HaveFeeds, IsFedRest, OutboxIsEmpty, StandFed, fed_rest, run_in}
-use Rattle.pool_settling.specs.Settling.{GoesOnFrom, IsLinkedToAll, IsScheduledOverAll}
+use Rattle.pool_settling.specs.Settling.{GoesOnFrom, IsLinkedToAll, IsScheduledOverAll, TakesFew, given_by_run, given_in}
+use Rattle.pool_settling.specs.Flat.{actors_in}
+use Rattle.pool_settling.specs.Work.{HaveSmallBodies, all_given, all_weight, all_work, given_of, weight_of, work_of}
 use Rattle.pool_settling.proofs.EndLemmas.{go_trans}
 use Rattle.pool_settling.proofs.StartLemmas.{map_get}
 use Rattle.pool_settling.proofs.BringLemmas.{stands_to, there}
@@ -251,6 +256,48 @@ module _ (plan : Plan) (limits : Limits) (feeds : List (List (ℕ × Message))) 
   pub fed_linked : IsServable plan limits feeds → IsLinked plan limits feeds run_here
   fed_linked can = subst (IsLinked plan limits feeds) shown_is (fair_is_linked plan limits feeds came system system [] can are_fair tt refl nothing)
 
+-- ---- what was given
+
+weight_parts : (helds : List Held) → all_weight helds ≡ all_given helds + all_work helds
+weight_parts [] = refl
+weight_parts (h ∷ helds) =
+    let later = weight_parts helds in
+    let a = sum_by-cons weight_of h helds in
+    let b = sum_by-cons given_of h helds in
+    let c = sum_by-cons work_of h helds in
+    omega (arith, later, a, b, c)
+
+-- the late counts that a run shows are those above 0
+shown_late : (source : ℕ → Source) (from : ℕ) (counts : List ℕ) → sum_by (λ (late : Source × ℕ). late.1) (late_list source from counts) ≡ sum_by (λ (n : ℕ). n) counts
+shown_late source from [] = refl
+shown_late source from (n ∷ counts) = by (n == 0) refl (shown_late source (from + 1) counts)
+  where
+    by : (b : Bool) → (n == 0) ≡ b → sum_by (λ (late : Source × ℕ). late.1) (late_list source (from + 1) counts) ≡ sum_by (λ (m : ℕ). m) counts → sum_by (λ (late : Source × ℕ). late.1) (if b then late_list source (from + 1) counts else (source from, n) ∷ late_list source (from + 1) counts) ≡ sum_by (λ (m : ℕ). m) (n ∷ counts)
+    by true e later =
+        let none : n ≡ 0 = same_number n 0 e in
+        let a = sum_by-cons (λ (m : ℕ). m) n counts in
+        omega (arith, none, later, a)
+    by false e later =
+        let a = sum_by-cons (λ (m : ℕ). m) n counts in
+        let b = sum_by-cons (λ (late : Source × ℕ). late.1) (source from, n) (late_list source (from + 1) counts) in
+        omega (arith, later, a, b)
+
+run_given : (held : Held) → given_by_run (run_in held) ≡ given_of held
+run_given held =
+    let feeds = shown_late (λ k. Feed k) 1 held.state.late.feeds in
+    let actors = shown_late (λ a. Actor a) 0 held.state.late.actors in
+    let parts = sum_by-append (λ (late : Source × ℕ). late.1) (late_list (λ k. Feed k) 1 held.state.late.feeds) (late_list (λ a. Actor a) 0 held.state.late.actors) in
+    omega (arith, feeds, actors, parts)
+
+runs_given : (helds : List Held) → sum_by given_by_run (map run_in helds) ≡ all_given helds
+runs_given [] = refl
+runs_given (h ∷ helds) =
+    let here = run_given h in
+    let later = runs_given helds in
+    let a = sum_by-cons given_by_run (run_in h) (map run_in helds) in
+    let b = sum_by-cons given_of h helds in
+    omega (arith, here, later, a, b)
+
 -- ---- from drained actors to the run
 
 module _ (plan : Plan) (limits : Limits) (posters : List Poster) (cells : List Cell) (rest : List (List (ℕ × Message))) (typed : IsTyped plan) (limited : AreLimits limits) (rules : (actor : ℕ) → actor < length plan.actors → RulesFit plan limits actor)
@@ -289,6 +336,22 @@ module _ (plan : Plan) (limits : Limits) (posters : List Poster) (cells : List C
 
   pub run_scheduled : IsScheduledOverAll plan limits posters rest run
   run_scheduled feeds these = runs_are_schedules plan limits feeds run (run_linked feeds these) (ap (λ (r : Run). r.version) is)
+
+  cell_small : HaveSmallBodies (actors_in cells)
+  cell_small actor held is =
+      let m = mapped_at held_in cells actor held is in
+      let tag = tag_of plan limits posters cells first tags drained actor m.0 m.1 in
+      subst (λ (h : Held). AllByRecursion (λ (rule : Rule). length rule.body ≤ 16) h.setting.rules) m.2
+      (subst (λ (rs : List Rule). AllByRecursion (λ (rule : Rule). length rule.body ≤ 16) rs) (sym tag.rules) (small_rules plan limits actor typed))
+
+  pub run_few : all_weight second ≤ all_weight first + sum_by length rest → TakesFew posters cells rest run
+  run_few second_weight =
+      let first_weight = drained.weight cell_small in
+      let third_weight = brought.weight in
+      let start = weight_parts (actors_in cells) in
+      let end = weight_parts third in
+      let given : given_in run ≡ all_given third = ap (λ (r : Run). given_in r) is ∙ runs_given third in
+      omega (arith, first_weight, second_weight, third_weight, start, end, given)
 
   pub run_from : GoesOnFrom cells run
   run_from = record {

@@ -1,10 +1,11 @@
 -- An actor that stands by what came and went, with one message more.
-use Rattle.std.proofs.Common.{◌≡◌, ◌∙◌, ◌⊎◌, inl, inr, ℕ, zero, suc, ◌+◌, ◌<◌, List, [], ◌∷◌, ◌++◌, length, map, drop, Bool, true, false, refl, ap, sym, subst, arith, append_assoc}
+use Rattle.std.proofs.Common.{◌≡◌, ◌∙◌, ◌⊎◌, inl, inr, ℕ, zero, suc, ◌+◌, ◌-◌, ◌*◌, ◌<◌, ◌≤◌, List, [], ◌∷◌, ◌++◌, length, length-append, map, drop, Bool, true, false, refl, ap, sym, subst, arith, append_assoc}
 use Rattle.std.specs.Prelude.{if◌then◌else◌}
-use Rattle.std.specs.List.{flat_map}
+use Rattle.std.specs.List.{AllByRecursion, flat_map, sum_by}
 use Rattle.std.proofs.lemmas.List.{append-nil, map-append}
 use Rattle.join_base.specs.declared.message.Source.{Source}
 use Rattle.join_base.specs.declared.message.Stamped.{Stamped}
+use Rattle.script_types.specs.declared.plan.Rule.{Rule}
 use Rattle.fair_semantics.specs.declared.run.Entry.{Entry}
 use Rattle.fair_semantics.specs.declared.run.Outcome.{Outcome}
 use Rattle.fair_semantics.specs.Step.{Setting, State, fair_step}
@@ -21,6 +22,8 @@ use Rattle.actor_cells.proofs.CellLemmas.{prefix-refl, prefix-trans}
 use Rattle.actor_cells.proofs.LinkLemmas.{among}
 use Rattle.actor_cells.proofs.StateLemmas.{NoOthers, Stands, grows, one_none, one_of, stands_more}
 use Rattle.pool_settling.specs.Standing.{Arrives, GoesOn, StandsBy, actor_count, arrivals_of, came_with, feed_count}
+use Rattle.pool_settling.specs.Work.{HasSmallBodies, late_sum, weight_of}
+use Rattle.pool_settling.proofs.WorkLemmas.{step_weight}
 
 -- ---- posts of entries
 
@@ -67,6 +70,15 @@ module _ (source : Source) (post : Stamped) (before after : Held) (step : Steps 
 
   pub stepped_on : GoesOn before after
   stepped_on = record { told = step.told; feeds = feeds; actors = actors; history = (map noted new, sym (ap (map noted) entries ∙ map-append noted before.state.entries new)) }
+
+  -- at most one more was given, with what is left
+  pub stepped_weight : HasSmallBodies before → weight_of after ≤ weight_of before + 1
+  stepped_weight small =
+      let most = step_weight before.setting small before.outbox before.state source post.message post.stamp in
+      let now = subst (λ (s : State). length s.entries + late_sum s.late + (sum_by length (posts_behind 0 (new_entries before.state s) before.outbox) + 17 * (before.setting.limits.arrivals - length s.entries)) ≤ weight_of before + 1) (sym step.state) most in
+      let outboxes : sum_by length after.outbox ≡ sum_by length (posts_behind 0 (new_entries before.state after.state) before.outbox) = ap (λ (o : List (List Stamped)). sum_by length o) step.outbox in
+      let limit : after.setting.limits.arrivals ≡ before.setting.limits.arrivals = ap (λ (s : Setting). s.limits.arrivals) step.told in
+      omega (arith, now, outboxes, limit)
 
   module _ (came now : Source → List Stamped) (went : ℕ → List Stamped) (stands : StandsBy came went before) (from : IsAmong (feed_count before) (actor_count before) source)
       (more : (other : Source) → now other ≡ (if same_source source other then came other ++ post ∷ [] else came other)) where
@@ -128,7 +140,7 @@ pub stands_same : (came now : Source → List Stamped) (went : ℕ → List Stam
 stands_same came now went held same = subst (λ (c : Source → List Stamped). StandsBy c went held) (λ i other. sym (same other) i)
 
 pub arrives_none : (source : Source) (those : List Stamped) (held : Held) → Arrives source those those held held
-arrives_none source those held = record { stands = λ came went e a s. stands_same came (came_with came source those) went held (came_same came source those e) s; on = on_refl held }
+arrives_none source those held = record { stands = λ came went e a s. stands_same came (came_with came source those) went held (came_same came source those e) s; on = on_refl held; weight = λ small. omega arith }
 
 pub arrives_more : (source : Source) (those these all : List Stamped) (post : Stamped) (a b c : Held) → Arrives source those these a b → Steps source post b c → all ≡ these ++ post ∷ [] → Arrives source those all a c
 arrives_more source those these all post a b c arrives step more =
@@ -138,6 +150,12 @@ arrives_more source those these all post a b c arrives step more =
           let among : IsAmong (feed_count b) (actor_count b) source = subst (λ (x : ℕ × ℕ). IsAmong x.0 x.1 source) (λ i. (sym arrives.on.feeds i, sym arrives.on.actors i)) from in
           stepped source post b c step (came_with came source these) (came_with came source all) went mid among (one came);
       on = on_trans a b c arrives.on (stepped_on source post b c step);
+      weight = λ small.
+          let so_far = arrives.weight small in
+          let one = stepped_weight source post b c step (subst (λ (s : Setting). AllByRecursion (λ (rule : Rule). length rule.body ≤ 16) s.rules) (sym arrives.on.told) small) in
+          let n = ap length more in
+          let m = length-append these (post ∷ []) in
+          omega (arith, so_far, one, n, m);
     }
   where
     one : (came : Source → List Stamped) (other : Source) → came_with came source all other ≡ (if same_source source other then came_with came source these other ++ post ∷ [] else came_with came source these other)

@@ -1,9 +1,10 @@
 -- From lawful and wired cells to actors that stand by their links, and from drained links to drained actors.
 use Rattle.std.proofs.Common.{◌≡◌, ◌∙◌, ◌⊎◌, inl, inr, ℕ, zero, suc, ◌+◌, ◌<◌, List, [], ◌∷◌, ◌++◌, length, map, Bool, true, false, Option, Some, slice_get, refl, ap, sym, subst, arith}
 use Rattle.std.specs.Prelude.{if◌then◌else◌, All}
-use Rattle.std.specs.List.{AllByRecursion}
+use Rattle.std.specs.List.{AllByRecursion, sum_by}
 use Rattle.std.proofs.lemmas.List.{length-map}
-use Rattle.std.proofs.lemmas.List.Elements.{All-nil, All-append, All-cons, All-map, All-weaker}
+use Rattle.std.proofs.lemmas.List.Elements.{All-nil, All-append, All-cons, All-head, All-map, All-tail, All-weaker}
+use Rattle.std.proofs.lemmas.List.Sums.{sum_by-cons}
 use Rattle.join_base.specs.declared.message.Source.{Source}
 use Rattle.join_base.specs.declared.message.Source.TheVariants.{Actor}
 use Rattle.join_base.specs.declared.message.Stamped.{Stamped}
@@ -25,8 +26,8 @@ use Rattle.pool_settling.specs.declared.ends.Receiver.{Receiver}
 use Rattle.pool_settling.specs.declared.ends.Sender.{Sender}
 use Rattle.pool_settling.specs.Standing.{StandsBy, actor_count, feed_count}
 use Rattle.pool_settling.specs.Drained.{AreDrained}
-use Rattle.pool_settling.specs.Flat.{actors_in, fed_from, receiver_of, receivers_from, senders_from}
-use Rattle.pool_settling.specs.Ends.{AreStanding, Entry, GoOn, HasAll, IsKnownTo, entries, keys_of, received_in, receiver_keys, sent_in}
+use Rattle.pool_settling.specs.Flat.{actors_in, fed_from, went_count, receiver_of, receivers_from, senders_from}
+use Rattle.pool_settling.specs.Ends.{AreStanding, Entry, GivenAsCame, GoOn, HasAll, IsKnownTo, came_count, entries, keys_of, received_in, receiver_key, receiver_keys, sent_in}
 use Rattle.pool_settling.proofs.FlatLemmas.{all_came, came_at, keys-receivers, keys-sending, went_is}
 
 -- ---- one cell
@@ -79,6 +80,29 @@ get_within (y ∷ xs) (suc k) x e = let l = get_within xs k x e in omega (arith,
 some_is : {X : Type 0} (x y : X) → Some x ≡ Some y → x ≡ y
 some_is x y h = cc
 
+-- how many messages went over the links with these keys
+abbrev sent_by_keys : List Entry → List Key → ℕ
+sent_by_keys es keys = sum_by (λ (k : Key). length (sent_in es k.0 k.1)) keys
+
+came_by_keys : (es : List Entry) (rs : List Receiver) → All (HasAll es) rs → came_count rs ≡ sent_by_keys es (receiver_keys rs)
+came_by_keys es [] all = refl
+came_by_keys es (r ∷ rs) all =
+    let here : length (received r.link) ≡ length (sent_in es r.source r.target) = ap length (All-head (HasAll es) r rs all) in
+    let later = came_by_keys es rs (All-tail (HasAll es) r rs all) in
+    let a = sum_by-cons (λ (x : Receiver). length (received x.link)) r rs in
+    let b = sum_by-cons (λ (k : Key). length (sent_in es k.0 k.1)) (receiver_key r) (receiver_keys rs) in
+    omega (arith, here, later, a, b)
+
+went_by_keys : (posters : List Poster) (cells : List Cell) (rs : List Receiver) → sent_by_keys (entries (fed_from 1 posters ++ senders_from 0 cells)) (receiver_keys rs) ≡ sum_by (λ (r : Receiver). length (went posters cells r.source r.target)) rs
+went_by_keys posters cells [] = refl
+went_by_keys posters cells (r ∷ rs) =
+    let es : List Entry = entries (fed_from 1 posters ++ senders_from 0 cells) in
+    let here : length (sent_in es r.source r.target) ≡ length (went posters cells r.source r.target) = ap length (went_is posters cells r.source r.target) in
+    let later = went_by_keys posters cells rs in
+    let a = sum_by-cons (λ (x : Receiver). length (went posters cells x.source x.target)) r rs in
+    let b = sum_by-cons (λ (k : Key). length (sent_in es k.0 k.1)) (receiver_key r) (receiver_keys rs) in
+    omega (arith, here, later, a, b)
+
 module _ (posters : List Poster) (cells : List Cell) (wired : AreWired (map cell_tag cells) (map poster_tag posters)) (lawful : AreLawful cells) where
   abbrev es : List Entry
   es = entries (fed_from 1 posters ++ senders_from 0 cells)
@@ -114,14 +138,19 @@ module _ (posters : List Poster) (cells : List Cell) (wired : AreWired (map cell
           (λ w a. subst (λ (j : ℕ). IsKnownTo (actors_in cells) (receiver_of j w)) n (get_within (actors_in cells) k (held_in c) got, λ held e. subst (λ (h : Held). IsAmong (feed_count h) (actor_count h) w.source) (some_is (held_in c) held (sym got ∙ e)) a)) c.inward.items
           (known_all (feed_count (held_in c)) (actor_count (held_in c)) c.inward.items law.tag.known)
 
-  pub are_drained : (nows : List Receiver) (helds : List Held) → receiver_keys nows ≡ receiver_keys rs → All (HasAll es) nows → AreStanding es nows helds → GoOn (actors_in cells) helds → AreDrained posters cells helds
-  are_drained nows helds keys all standing on = record {
+  -- what came is what went
+  came_whole : (nows : List Receiver) → receiver_keys nows ≡ receiver_keys rs → All (HasAll es) nows → came_count nows ≡ went_count posters cells
+  came_whole nows keys all = came_by_keys es nows all ∙ ap (sent_by_keys es) keys ∙ went_by_keys posters cells rs
+
+  pub are_drained : (nows : List Receiver) (helds : List Held) → receiver_keys nows ≡ receiver_keys rs → All (HasAll es) nows → AreStanding es nows helds → GoOn (actors_in cells) helds → GivenAsCame (actors_in cells) helds rs nows → AreDrained posters cells helds
+  are_drained nows helds keys all standing on given = record {
     count = on.count ∙ length-map cells held_in;
     each = λ actor cell held at is. record {
       stands = stands_by (λ source. received_in nows source actor) (λ source. went posters cells source actor) (λ target. sent_in es (Actor actor) target) (sent_to cell.outward.items) held held
           (λ source. sym (all_came es nows (subst (AreLinked (keys_of es)) (sym keys) linked) all source actor ∙ went_is posters cells source actor)) (λ target. sym (cell_went actor cell at target)) refl (standing.each actor held is);
       on = on.each actor (held_in cell) held (map_get held_in cells actor cell at) is;
     };
+    weight = λ small. let most = given small in let whole = came_whole nows keys all in omega (arith, most, whole);
   }
 
   -- ---- the lists as they are built
@@ -143,7 +172,8 @@ module _ (posters : List Poster) (cells : List Cell) (wired : AreWired (map cell
       subst (λ (x : List Sender × List Receiver × List Held). AreStanding (entries x.0) x.1 x.2) (λ i. (sym senders_are i, sym receivers_are i, sym actors_are i)) first_standing,
     )
 
-    pub then_drained : (nows : List Receiver) (helds : List Held) → receiver_keys nows ≡ receiver_keys r1 → All (HasAll (entries s2)) nows → AreStanding (entries s2) nows helds → GoOn a1 helds → AreDrained posters cells helds
-    then_drained nows helds keys all standing on =
+    pub then_drained : (nows : List Receiver) (helds : List Held) → receiver_keys nows ≡ receiver_keys r1 → All (HasAll (entries s2)) nows → AreStanding (entries s2) nows helds → GoOn a1 helds → GivenAsCame a1 helds r1 nows → AreDrained posters cells helds
+    then_drained nows helds keys all standing on given =
         are_drained nows helds (keys ∙ ap receiver_keys receivers_are) (subst (λ (x : List Sender). All (HasAll (entries x)) nows) senders_are all)
         (subst (λ (x : List Sender). AreStanding (entries x) nows helds) senders_are standing) (subst (λ (x : List Held). GoOn x helds) actors_are on)
+        (subst (λ (x : List Held × List Receiver). GivenAsCame x.0 helds x.1 nows) (λ i. (actors_are i, receivers_are i)) given)

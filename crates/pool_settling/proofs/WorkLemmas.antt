@@ -1,14 +1,17 @@
--- An arrival leaves no more work: it records a message only where there is room, and a body makes at most 16 posts.
+-- An arrival leaves no more work: it records a message only where there is room, and a body makes at most 16 posts. With
+-- the messages that were given it is at most one more.
 use Rattle.std.proofs.Common.{◌≡◌, ◌∙◌, ℕ, zero, suc, ◌+◌, ◌-◌, ◌*◌, ◌<◌, ◌≤◌, List, [], ◌∷◌, ◌++◌, length, length-append, set, drop, Bool, true, false, Option, None, Some, slice_get, refl, ap, subst, sym, arith}
-use Rattle.std.specs.Prelude.{if◌then◌else◌, nat_le, nat_lt}
+use Rattle.std.specs.Prelude.{◌^◌, if◌then◌else◌, nat_le, nat_lt}
 use Rattle.std.specs.List.{sum_by}
 use Rattle.std.proofs.lemmas.Bool.Decides.{nat_tests}
 use Rattle.std.proofs.lemmas.List.Elements.{filter_map-append}
 use Rattle.std.proofs.lemmas.List.Sums.{sum_by-cons}
 use Rattle.std.proofs.Math.Seq.{drop-append_seam}
+use Rattle.join_base.specs.Late.{Late, late_more, raised, raised_at}
 use Rattle.join_base.specs.Taken.{without}
 use Rattle.join_base.specs.declared.message.Message.{Message}
 use Rattle.join_base.specs.declared.message.Source.{Source}
+use Rattle.join_base.specs.declared.message.Source.TheVariants.{Feed, Actor}
 use Rattle.join_base.specs.declared.message.Stamped.{Stamped}
 use Rattle.pattern_core.specs.declared.candidate.Candidate.{Candidate}
 use Rattle.pattern_core.specs.Matches.{partial_count}
@@ -28,6 +31,7 @@ use Rattle.schedule_law.proofs.WorkLemmas.{AreSmall}
 use Rattle.actor_turn.specs.Held.{new_entries, posts_behind, posts_for}
 use Rattle.actor_turn.specs.Sent.{delivered, post_of, sent_by}
 use Rattle.actor_turn.proofs.PostsLemmas.{fired_posts, no_posts, unfired_posts}
+use Rattle.pool_settling.specs.Work.{late_sum}
 
 -- ---- a body makes a post at most with each statement
 
@@ -86,6 +90,29 @@ all_more (s ∷ sent) outbox =
     let later = all_more sent (set outbox s.0 (posts_for outbox s.0 ++ s.1 ∷ [])) in
     omega (arith, here, later)
 
+-- ---- a late message
+
+raised_most : (b : Bool) (n : ℕ) → (if b then n + 1 else n) ≤ n + 1
+raised_most true n = omega arith
+raised_most false n = omega arith
+
+raised_sum : (counts : List ℕ) (place : ℕ) → sum_by (λ (n : ℕ). n) (raised_at counts place) ≤ sum_by (λ (n : ℕ). n) counts + 1
+raised_sum [] place = omega arith
+raised_sum (n ∷ counts) zero =
+    let one = raised_most (nat_lt n (2 ^ 64 - 1)) n in
+    let a = sum_by-cons (λ (m : ℕ). m) (raised n) counts in
+    let b = sum_by-cons (λ (m : ℕ). m) n counts in
+    omega (arith, one, a, b)
+raised_sum (n ∷ counts) (suc place) =
+    let later = raised_sum counts place in
+    let a = sum_by-cons (λ (m : ℕ). m) n (raised_at counts place) in
+    let b = sum_by-cons (λ (m : ℕ). m) n counts in
+    omega (arith, later, a, b)
+
+late_one_more : (late : Late) (source : Source) → late_sum (late_more late source) ≤ late_sum late + 1
+late_one_more late (Feed k) = let more = raised_sum late.feeds (k - 1) in omega (arith, more)
+late_one_more late (Actor a) = let more = raised_sum late.actors a in omega (arith, more)
+
 -- ---- a step
 
 small_body : (rules : List Rule) (rule : ℕ) → AreSmall rules → length (body_at rules rule) ≤ 16
@@ -103,23 +130,45 @@ module _ (setting : Setting) (small : AreSmall setting.rules) (outbox : List (Li
   abbrev AddsNoWork : State → State → Type 0
   AddsNoWork before after = count_of (posts_behind 0 (new_entries before after) outbox) + 17 * (most - length after.entries) ≤ count_of outbox + 17 * (most - length before.entries)
 
-  none_new : (before after : State) → after.entries ≡ before.entries → AddsNoWork before after
-  none_new before after e =
-      let none : new_entries before after ≡ [] = ap (drop (length before.entries)) e ∙ nothing before.entries in
+  -- and with the messages that were given, at most one more
+  abbrev AddsOne : State → State → Type 0
+  AddsOne before after =
+      length after.entries + late_sum after.late + (count_of (posts_behind 0 (new_entries before after) outbox) + 17 * (most - length after.entries))
+      ≤ length before.entries + late_sum before.late + (count_of outbox + 17 * (most - length before.entries)) + 1
+
+  -- a message was late, or was recorded, where there was room, with 16 posts at most
+  pub record IsLate (before after : State) : Type 0 where
+    pub entries : after.entries ≡ before.entries
+    pub late : late_sum after.late ≤ late_sum before.late + 1
+
+  pub record IsRecorded (before after : State) : Type 0 where
+    pub entry : Entry
+    pub entries : after.entries ≡ before.entries ++ entry ∷ []
+    pub late : after.late ≡ before.late
+    pub room : length before.entries < most
+    pub few : count_of (posts_behind 0 (entry ∷ []) outbox) ≤ count_of outbox + 16
+
+  none_new : (before after : State) → IsLate before after → AddsNoWork before after × AddsOne before after
+  none_new before after is =
+      let none : new_entries before after ≡ [] = ap (drop (length before.entries)) is.entries ∙ nothing before.entries in
       let boxes : count_of (posts_behind 0 (new_entries before after) outbox) ≡ count_of outbox = ap (λ (es : List Entry). count_of (posts_behind 0 es outbox)) none ∙ ap count_of (sym (no_posts 0 outbox)) in
-      let n : length after.entries ≡ length before.entries = ap length e in
-      omega (arith, boxes, n)
+      let n : length after.entries ≡ length before.entries = ap length is.entries in
+      let late = is.late in
+      (omega (arith, boxes, n), omega (arith, boxes, n, late))
     where
       nothing : (xs : List Entry) → drop (length xs) xs ≡ []
       nothing [] = refl
       nothing (x ∷ xs) = nothing xs
 
-  one_new : (before after : State) (entry : Entry) → after.entries ≡ before.entries ++ entry ∷ [] → length before.entries < most → count_of (posts_behind 0 (entry ∷ []) outbox) ≤ count_of outbox + 16 → AddsNoWork before after
-  one_new before after entry e room few =
-      let one : new_entries before after ≡ entry ∷ [] = ap (drop (length before.entries)) e ∙ drop-append_seam before.entries (entry ∷ []) in
-      let boxes : count_of (posts_behind 0 (new_entries before after) outbox) ≡ count_of (posts_behind 0 (entry ∷ []) outbox) = ap (λ (es : List Entry). count_of (posts_behind 0 es outbox)) one in
-      let n : length after.entries ≡ length before.entries + 1 = ap length e ∙ length-append before.entries (entry ∷ []) in
-      omega (arith, boxes, n, room, few)
+  one_new : (before after : State) → IsRecorded before after → AddsNoWork before after × AddsOne before after
+  one_new before after is =
+      let one : new_entries before after ≡ is.entry ∷ [] = ap (drop (length before.entries)) is.entries ∙ drop-append_seam before.entries (is.entry ∷ []) in
+      let boxes : count_of (posts_behind 0 (new_entries before after) outbox) ≡ count_of (posts_behind 0 (is.entry ∷ []) outbox) = ap (λ (es : List Entry). count_of (posts_behind 0 es outbox)) one in
+      let n : length after.entries ≡ length before.entries + 1 = ap length is.entries ∙ length-append before.entries (is.entry ∷ []) in
+      let late : late_sum after.late ≡ late_sum before.late = ap late_sum is.late in
+      let room = is.room in
+      let few = is.few in
+      (omega (arith, boxes, n, room, few), omega (arith, boxes, n, late, room, few))
 
   fired_few : (arrival : Arrival) (c : Candidate) → count_of (posts_behind 0 (entry_with arrival (firing_of setting.rules (letters_with arrival) (Some c)) ∷ []) outbox) ≤ count_of outbox + 16
   fired_few arrival c =
@@ -134,32 +183,39 @@ module _ (setting : Setting) (small : AreSmall setting.rules) (outbox : List (Li
   unfired_few : (arrival : Arrival) → count_of (posts_behind 0 (entry_with arrival None ∷ []) outbox) ≤ count_of outbox + 16
   unfired_few arrival = let is : count_of outbox ≡ count_of (posts_behind 0 (entry_with arrival None ∷ []) outbox) = ap count_of (unfired_posts 0 (entry_with arrival None) outbox refl) in omega (arith, is)
 
-  recorded_work : (arrival : Arrival) (o : Option Candidate) → length arrival.state.entries < most → AddsNoWork arrival.state (by_choice setting arrival o).0
-  recorded_work arrival None room = by (nat_lt setting.limits.partials (partial_count (letters_with arrival) (live_with arrival) (definitions_of setting.rules)))
+  recorded_one : (arrival : Arrival) (o : Option Candidate) → length arrival.state.entries < most → IsRecorded arrival.state (by_choice setting arrival o).0
+  recorded_one arrival None room = by (nat_lt setting.limits.partials (partial_count (letters_with arrival) (live_with arrival) (definitions_of setting.rules)))
     where
-      by : (b : Bool) → let stepped : Stepped = if b then (recorded arrival None [] ending.Jammed, outcome.Jammed) else (recorded arrival None (live_with arrival) ending.Running, outcome.Kept) in AddsNoWork arrival.state stepped.0
-      by true = one_new arrival.state (recorded arrival None [] ending.Jammed) (entry_with arrival None) refl room (unfired_few arrival)
-      by false = one_new arrival.state (recorded arrival None (live_with arrival) ending.Running) (entry_with arrival None) refl room (unfired_few arrival)
-  recorded_work arrival (Some c) room = by (stops (body_at setting.rules c.rule))
+      by : (b : Bool) → let stepped : Stepped = if b then (recorded arrival None [] ending.Jammed, outcome.Jammed) else (recorded arrival None (live_with arrival) ending.Running, outcome.Kept) in IsRecorded arrival.state stepped.0
+      by true = record { entry = entry_with arrival None; entries = refl; late = refl; room = room; few = unfired_few arrival }
+      by false = record { entry = entry_with arrival None; entries = refl; late = refl; room = room; few = unfired_few arrival }
+  recorded_one arrival (Some c) room = by (stops (body_at setting.rules c.rule))
     where
       firing : Option Firing
       firing = firing_of setting.rules (letters_with arrival) (Some c)
 
-      by : (b : Bool) → AddsNoWork arrival.state (if b then recorded arrival firing [] ending.Stopped else recorded arrival firing (without (live_with arrival) c.taken) ending.Running)
-      by true = one_new arrival.state (recorded arrival firing [] ending.Stopped) (entry_with arrival firing) refl room (fired_few arrival c)
-      by false = one_new arrival.state (recorded arrival firing (without (live_with arrival) c.taken) ending.Running) (entry_with arrival firing) refl room (fired_few arrival c)
+      by : (b : Bool) → IsRecorded arrival.state (if b then recorded arrival firing [] ending.Stopped else recorded arrival firing (without (live_with arrival) c.taken) ending.Running)
+      by true = record { entry = entry_with arrival firing; entries = refl; late = refl; room = room; few = fired_few arrival c }
+      by false = record { entry = entry_with arrival firing; entries = refl; late = refl; room = room; few = fired_few arrival c }
 
-  pub step_work : (state : State) (source : Source) (message : Message) (stamp : ℕ) → AddsNoWork state (fair_step setting state source message stamp).0
-  step_work state source message stamp = by (is_running state.ending)
+  adds : (state : State) (source : Source) (message : Message) (stamp : ℕ) → AddsNoWork state (fair_step setting state source message stamp).0 × AddsOne state (fair_step setting state source message stamp).0
+  adds state source message stamp = by (is_running state.ending)
     where
-      running : (b : Bool) → is_refused setting state message stamp ≡ b → AddsNoWork state (running_step b setting state source message stamp).0
-      running true e = none_new state (running_step true setting state source message stamp).0 refl
+      running : (b : Bool) → is_refused setting state message stamp ≡ b → AddsNoWork state (running_step b setting state source message stamp).0 × AddsOne state (running_step b setting state source message stamp).0
+      running true e = none_new state (running_step true setting state source message stamp).0 record { entries = refl; late = late_one_more state.late source }
       running false e =
           let arrival : Arrival = record { state = state; source = source; message = message; stamp = stamp } in
           let full : nat_le setting.limits.arrivals (length state.entries) ≡ false = (or_parts _ _ e).0 in
           let room : length state.entries < setting.limits.arrivals = grind (arith, nat_tests) in
-          recorded_work arrival (choice (letters_with arrival) (live_with arrival) (definitions_of setting.rules)) room
+          let chosen : Option Candidate = choice (letters_with arrival) (live_with arrival) (definitions_of setting.rules) in
+          one_new state (by_choice setting arrival chosen).0 (recorded_one arrival chosen room)
 
-      by : (b : Bool) → AddsNoWork state (step_by b setting state source message stamp).0
-      by false = none_new state (step_by false setting state source message stamp).0 refl
+      by : (b : Bool) → AddsNoWork state (step_by b setting state source message stamp).0 × AddsOne state (step_by b setting state source message stamp).0
+      by false = none_new state (step_by false setting state source message stamp).0 record { entries = refl; late = late_one_more state.late source }
       by true = running (is_refused setting state message stamp) refl
+
+  pub step_work : (state : State) (source : Source) (message : Message) (stamp : ℕ) → AddsNoWork state (fair_step setting state source message stamp).0
+  step_work state source message stamp = (adds state source message stamp).0
+
+  pub step_weight : (state : State) (source : Source) (message : Message) (stamp : ℕ) → AddsOne state (fair_step setting state source message stamp).0
+  step_weight state source message stamp = (adds state source message stamp).1

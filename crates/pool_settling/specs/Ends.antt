@@ -1,5 +1,6 @@
 -- The ends of links, and what they carried.
-use Rattle.std.specs.Prelude.{◌≡◌, ◌==◌, ◌&&◌, ℕ, ◌<◌, List, [], ◌∷◌, length, All, Some, map, slice_get, slice_index_or, if◌then◌else◌}
+use Rattle.std.specs.Prelude.{◌≡◌, ◌==◌, ◌&&◌, ℕ, ◌+◌, ◌<◌, ◌≤◌, List, [], ◌∷◌, length, All, Some, map, slice_get, slice_index_or, if◌then◌else◌}
+use Rattle.std.specs.List.{sum_by}
 use Rattle.join_base.specs.declared.message.Source.{Source}
 use Rattle.join_base.specs.declared.message.Source.TheVariants.{Actor}
 use Rattle.join_base.specs.declared.message.Stamped.{Stamped}
@@ -11,6 +12,7 @@ use Rattle.actor_cells.specs.Lawful.{IsAmong}
 use Rattle.pool_settling.specs.declared.ends.Sender.{Sender}
 use Rattle.pool_settling.specs.declared.ends.Receiver.{Receiver}
 use Rattle.pool_settling.specs.Standing.{GoesOn, StandsBy, actor_count, feed_count}
+use Rattle.pool_settling.specs.Work.{HaveSmallBodies, all_weight}
 
 abbrev pub receiver_key : Receiver → Key
 receiver_key r = (r.source, r.target, identity_out r.link)
@@ -65,6 +67,14 @@ pub record AreStanding (es : List Entry) (receivers : List Receiver) (helds : Li
 pub record GoOn (olds nows : List Held) : Type 0 where
   pub count : length nows ≡ length olds
   pub each : (actor : ℕ) (before after : Held) → slice_get olds actor ≡ Some before → slice_get nows actor ≡ Some after → GoesOn before after
+
+-- how many messages came to the receivers
+abbrev pub came_count : List Receiver → ℕ
+came_count receivers = sum_by (λ (r : Receiver). length (received r.link)) receivers
+
+-- where no body makes more than 16 posts, the weight rose at most by what came meanwhile
+abbrev pub GivenAsCame : List Held → List Held → List Receiver → List Receiver → Type 0
+GivenAsCame olds nows before after = HaveSmallBodies olds → all_weight nows + came_count before ≤ all_weight olds + came_count after
 
 -- all that was sent to the receiver came
 abbrev pub HasAll : List Entry → Receiver → Type 0

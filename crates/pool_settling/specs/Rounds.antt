@@ -1,6 +1,6 @@
 -- Bringing what waits in outboxes, and what is left of feeds.
-use Rattle.std.specs.Prelude.{◌≡◌, ℕ, zero, suc, ◌+◌, ◌-◌, ◌*◌, ◌<◌, ◌≤◌, List, [], ◌++◌, ◌==◌, Bool, false, true, Some, length, slice_get, if◌then◌else◌}
-use Rattle.std.specs.List.{AllByRecursion, filter_map, sum_by}
+use Rattle.std.specs.Prelude.{◌≡◌, ℕ, zero, suc, ◌+◌, ◌<◌, ◌≤◌, List, [], ◌++◌, ◌==◌, Bool, false, true, Some, length, slice_get, if◌then◌else◌}
+use Rattle.std.specs.List.{AllByRecursion, filter_map}
 use Rattle.join_base.specs.declared.message.Message.{Message}
 use Rattle.join_base.specs.declared.message.Source.{Source}
 use Rattle.join_base.specs.declared.message.Source.TheVariants.{Feed, Actor}
@@ -12,6 +12,7 @@ use Rattle.script_types.specs.declared.plan.Rule.{Rule}
 use Rattle.actor_turn.specs.Held.{Held, posts_for}
 use Rattle.pool_settling.specs.Standing.{StandsBy, actor_count, feed_count}
 use Rattle.pool_settling.specs.Ends.{GoOn}
+use Rattle.pool_settling.specs.Work.{all_weight, all_work}
 
 -- ---- what came and went
 
@@ -49,15 +50,6 @@ AreMembers helds = (actor : ℕ) (held : Held) → slice_get helds actor ≡ Som
 abbrev pub HaveFeeds : ℕ → List Held → Type 0
 HaveFeeds feeds helds = (actor : ℕ) (held : Held) → slice_get helds actor ≡ Some held → feeds ≤ feed_count held
 
--- ---- the work that is left
-
--- the posts that wait in outboxes, and 17 for each arrival that may still be recorded
-abbrev pub work_of : Held → ℕ
-work_of held = sum_by length held.outbox + 17 * (held.setting.limits.arrivals - length held.state.entries)
-
-abbrev pub all_work : List Held → ℕ
-all_work helds = sum_by work_of helds
-
 -- ---- what is brought
 
 -- each stands as before of the same feeds, and goes on from what it was; no more work is left
@@ -66,6 +58,7 @@ pub record BringsPosts (olds nows : List Held) : Type 0 where
   pub members : AreMembers nows
   pub on : GoOn olds nows
   pub work : all_work nows ≤ all_work olds
+  pub weight : all_weight nows ≤ all_weight olds
 
 -- where a post was found less work is left, and where none was nothing changed
 pub record Brings (found : Bool) (olds nows : List Held) : Type 0 where

@@ -1,5 +1,5 @@
 -- When an actor stands by what came to it and what went from it.
-use Rattle.std.specs.Prelude.{◌≡◌, ◌⊎◌, ℕ, ◌<◌, ◌-◌, ◌^◌, min, List, [], ◌++◌, length, map, take, Contains, if◌then◌else◌}
+use Rattle.std.specs.Prelude.{◌≡◌, ◌⊎◌, ℕ, ◌+◌, ◌<◌, ◌≤◌, ◌-◌, ◌^◌, min, List, [], ◌++◌, length, map, take, Contains, if◌then◌else◌}
 use Rattle.std.specs.List.{flat_map}
 use mathlib.Core.List.{IsPrefix}
 use Rattle.join_base.specs.Late.{late_count}
@@ -11,6 +11,7 @@ use Rattle.fair_semantics.specs.Fair.{after_all}
 use Rattle.fair_semantics.specs.Linked.{entry_posts, given_by, messages_of, rest_of, same_source, sources, taken_from}
 use Rattle.actor_turn.specs.Held.{Held, posts_for}
 use Rattle.actor_cells.specs.Lawful.{IsAmong, noted}
+use Rattle.pool_settling.specs.Work.{HasSmallBodies, weight_of}
 
 abbrev pub feed_count : Held → ℕ
 feed_count held = length held.state.late.feeds
@@ -51,3 +52,4 @@ came_with came source posts other = if same_source source other then posts else 
 pub record Arrives (source : Source) (those these : List Stamped) (before after : Held) : Type 0 where
   pub stands : (came : Source → List Stamped) (went : ℕ → List Stamped) → came source ≡ those → IsAmong (feed_count before) (actor_count before) source → StandsBy came went before → StandsBy (came_with came source these) went after
   pub on : GoesOn before after
+  pub weight : HasSmallBodies before → weight_of after + length those ≤ weight_of before + length these

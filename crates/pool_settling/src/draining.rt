@@ -9,7 +9,7 @@ ghost use Rattle.actor_cells.specs.Lawful.{cell_tag};
 ghost use Rattle.actor_cells.specs.Prepared.{AreWired};
 ghost use Rattle.pool_settling.specs.Standing.{Arrives};
 ghost use Rattle.pool_settling.specs.Drained.{AreDrained};
-ghost use Rattle.pool_settling.specs.Ends.{AreStanding, GoOn, HasAll, IsDrainedAt, IsServed, Serves, entries, keys_of, receiver_keys};
+ghost use Rattle.pool_settling.specs.Ends.{AreStanding, GivenAsCame, GoOn, HasAll, IsDrainedAt, IsServed, Serves, entries, keys_of, receiver_keys};
 
 use crate::apart::{take_cells, take_posters};
 use crate::ends::{Receiver, Sender};
@@ -86,6 +86,7 @@ fn drain_at<L: Ledger>(
     ensures drained { OnOk result (IsDrainedAt (entries senders.old.items) place receivers.old.items receivers.new.items) }
     ensures standing { OnOk result (AreStanding (entries senders.old.items) receivers.new.items actors.new.items) }
     ensures on { OnOk result (GoOn actors.old.items actors.new.items) }
+    ensures given { OnOk result (GivenAsCame actors.old.items actors.new.items receivers.old.items receivers.new.items) }
 {
     let receiver = &mut receivers[place];
     let source = receiver.source;
@@ -118,6 +119,7 @@ fn drain_all<L: Ledger>(
     ensures drained { OnOk result (All (HasAll (entries senders.old.items)) receivers.new.items) }
     ensures standing { OnOk result (AreStanding (entries senders.old.items) receivers.new.items actors.new.items) }
     ensures on { OnOk result (GoOn actors.old.items actors.new.items) }
+    ensures given { OnOk result (GivenAsCame actors.old.items actors.new.items receivers.old.items receivers.new.items) }
 {
     for place in 0..receivers.len() {
         drain_at(alloc, senders, receivers, place, actors, steps)?;

@@ -1,9 +1,11 @@
 //! Bringing what is left of feeds, and what waits in outboxes.
 ghost use Rattle.std.specs.Prelude.{◌≡◌, ℕ, ◌+◌, ◌<◌, ◌≤◌, [], length, map, false, true, IfOk, OnOk, slice_get, vec_capacity};
+ghost use Rattle.std.specs.List.{sum_by};
 ghost use Rattle.join_base.specs.Late.{HasCount};
 ghost use Rattle.join_base.specs.declared.message.Source.TheVariants as source;
 ghost use Rattle.pool_settling.specs.Ends.{GoOn};
 ghost use Rattle.pool_settling.specs.Rounds.{AreMembers, Brings, BringsPosts, HaveFeeds, IsFedMore, IsFedRest, OutboxIsEmpty, OutboxHasNone, run_in};
+ghost use Rattle.pool_settling.specs.Work.{all_weight};
 
 use actor_turn::Actor;
 use fair_semantics::ActorRun;
@@ -23,6 +25,7 @@ fn bring_feed<L: Ledger>(
     requires exists { (1 ≤ feed) × HaveFeeds feed actors.old.items }
     ensures members { OnOk result (AreMembers actors.new.items) }
     ensures fed { OnOk result (IsFedMore feed posts.now actors.old.items actors.new.items) }
+    ensures weight { OnOk result (all_weight actors.new.items ≤ all_weight actors.old.items + length posts.now) }
     ensures on { OnOk result (GoOn actors.old.items actors.new.items) }
 {
     for place in 0..posts.len() {
@@ -47,6 +50,7 @@ pub fn bring_rest<L: Ledger>(
     requires few { length rest.now ≤ 16 }
     ensures members { OnOk result (AreMembers actors.new.items) }
     ensures fed { OnOk result (IsFedRest rest.now actors.old.items actors.new.items) }
+    ensures weight { OnOk result (all_weight actors.new.items ≤ all_weight actors.old.items + sum_by length rest.now) }
     ensures on { OnOk result (GoOn actors.old.items actors.new.items) }
 {
     for place in 0..rest.len() {

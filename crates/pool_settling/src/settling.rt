@@ -9,7 +9,7 @@ ghost use Rattle.actor_cells.specs.AllLawful.{AreLawful};
 ghost use Rattle.actor_cells.specs.Lawful.{cell_tag};
 ghost use Rattle.actor_cells.specs.Prepared.{AreWired};
 ghost use Rattle.actor_cells.specs.Tags.{AreTagsOf};
-ghost use Rattle.pool_settling.specs.Settling.{GoesOnFrom, IsLinkedToAll, IsScheduledOverAll};
+ghost use Rattle.pool_settling.specs.Settling.{GoesOnFrom, IsLinkedToAll, IsScheduledOverAll, TakesFew};
 
 use crate::draining::drain_links;
 use crate::rounds::{bring_posts, bring_rest, into_runs};
@@ -26,7 +26,8 @@ use std::sync::ledger::Ledger;
 ///
 /// `rest` has, for the first feeds in order, the posts that their posters did not send. Those for no actor of the plan
 /// are passed over. The run is linked to the feeds whose posts to each actor are what the poster sent there, and then
-/// those of its list in `rest`. `NoMemory` comes only where there was none: for the lists of ends and runs, or for an
+/// those of its list in `rest`. The actors are given at most what waits in links, in `rest` and in outboxes, and 17 messages
+/// for each arrival that they may still record. `NoMemory` comes only where there was none: for the lists of ends and runs, or for an
 /// arrival.
 pub fn settle_with<L: Ledger>(
     alloc: Global,
@@ -49,6 +50,7 @@ pub fn settle_with<L: Ledger>(
     ensures scheduled { IfOk result (λ run. IsScheduledOverAll plan.now limits posters.items rest run) }
     ensures version { IfOk result (λ run. run.version ≡ 2) }
     ensures history { IfOk result (λ run. GoesOnFrom cells.items run) }
+    ensures few { IfOk result (λ run. TakesFew posters.items cells.items rest run) }
 {
     let runs = Vec::with_capacity(alloc, plan.actors.len())?;
     let feeds = posters.len() as u32;
@@ -83,6 +85,7 @@ pub fn settle<L: Ledger>(
     ensures scheduled { IfOk result (λ run. IsScheduledOverAll plan.now limits posters.items [] run) }
     ensures version { IfOk result (λ run. run.version ≡ 2) }
     ensures history { IfOk result (λ run. GoesOnFrom cells.items run) }
+    ensures few { IfOk result (λ run. TakesFew posters.items cells.items [] run) }
 {
     settle_with(
         alloc,

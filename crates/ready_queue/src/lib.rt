@@ -4,10 +4,11 @@
 //! `take` takes the one in front, or finds none. `split_pass` makes a pass for another thread, and `join_pass` takes it
 //! back. `put` and `take` may wait for other threads, and after `new` no call takes memory.
 //!
-//! A contract sees of a pass its view (`view_of`): the tickets that it put and those that it took, in order, and how often it
-//! was refused. Whatever the threads do, what all passes put is what they took and what waits (`TicketRule`). A refusal, and
-//! the ticket that is taken, are told of a moment of the call. `ticket_law` says of a queue as a list what first in, first
-//! out comes to.
+//! A contract sees of a pass its view (`view_of`): its role, the tickets that it put and those that it took, in order, and how
+//! often it was refused. Whatever the threads do, what all passes put is what they took and what waits (`TicketRule`). As long
+//! as no other pass was made, the queue is first in, first out by its clauses, and refuses a put only where it is full and a
+//! take only where it is empty. With others, a refusal and the ticket that is taken are told of a moment of the call alone.
+//! `ticket_law` says of a queue as a list what first in, first out comes to.
 //!
 //! Only tested: that `new` and `split_pass` answer `Ok` where memory is ample, and that between two threads no ticket is lost.
 //! Not said: that `put` and `take` return, or that a ticket is ever taken.
@@ -24,4 +25,4 @@ mod view;
 pub use pass::TicketPass;
 pub use queue::{Full, ticket_law};
 pub use tickets::Tickets;
-pub use view::PassView;
+pub use view::{PassRole, PassView};

@@ -43,7 +43,7 @@ returns-clause-lawful c =
     let posters = c.in_ok-links.posters.items in
     let all = map numbers_of c.in_ok-targets.targets.items in
     let slice : length c.as_slice.result.now ≡ length a.plan.now.actors = ap length c.as_slice.ensures.value ∙ c.in_ok-targets.ensures.count in
-    all-lawful a.plan.now a.limits a.feeds a.ring cells links (map poster_tag posters) all made.actors made.inward made.outward linked.fresh (linked.actors ∙ slice) (length-map posters poster_tag ∙ linked.posters) linked.wired
+    all-lawful a.plan.now a.limits a.feeds a.ring cells links (map poster_tag posters) all made.actors made.inward made.outward linked.fresh c.requires.typed c.requires.limits (linked.actors ∙ slice) (length-map posters poster_tag ∙ linked.posters) linked.wired
     (linked.targets ∙ ap (map numbers_of) c.as_slice.ensures.value) c.in_ok-targets.ensures.targets
 
 pub returns-clause-wired : goal.returns-clause-wired

@@ -1,6 +1,6 @@
-use Rattle.std.proofs.Common.{sym, subst, ◌∙◌, ◌<◌, ℕ}
+use Rattle.std.proofs.Common.{sym, subst, ◌∙◌, ◌<◌, ℕ, inl, inr}
 use Rattle.actor_cells.specs.Steps.{Moves}
-use Rattle.actor_cells.proofs.SendLemmas.{count-out, fewer, moves-back, moves-none, moves-pushed, small-out, takes-none, takes-out}
+use Rattle.actor_cells.proofs.SendLemmas.{count-out, fewer, moves-back, moves-none, moves-pushed, small-out, none-waits, takes-none, takes-out}
 use Rattle.actor_cells.proofs.sending.send_over.Goals as goal
 
 pub loop-post-init : goal.loop-post-init
@@ -40,8 +40,11 @@ return_post-requires-clause-exists c =
     let count = count-out t c.args.actor.now c.loop-post.actor c.take_post.new.self c.args.link.now c.loop-post.link c.in-Some.post before.moves before.exists out in
     subst (λ (n : ℕ). t < n) (sym count) before.exists
 
-pub returns-in-Err : goal.returns-in-Err
-returns-in-Err c =
+pub returns-in-Err-clause-sent : goal.returns-in-Err-clause-sent
+returns-in-Err-clause-sent c = inr c.in-Err.ensures.none
+
+pub returns-in-Err-clause-moves : goal.returns-in-Err-clause-moves
+returns-in-Err-clause-moves c =
     let before = c.loop-post.invariant in
     let t = c.args.target in
     let out = takes-out t c.loop-post.actor c.take_post.new.self c.in-Some.post (sym c.in-Some.is ∙ c.take_post.ensures.first) c.take_post.ensures.taken in
@@ -49,7 +52,12 @@ returns-in-Err c =
     moves-back t c.args.actor.now c.loop-post.actor c.take_post.new.self c.args.link.now c.loop-post.link c.in-Some.post before.moves before.exists out c.return_post.new.self c.push.new.self _
     (λ i. record { message = full.0 i; stamp = c.in-Some.post.stamp }) c.return_post.ensures.returned c.in-Err.ensures.identity full.1
 
-pub returns : goal.returns
-returns c =
+pub returns-clause-sent : goal.returns-clause-sent
+returns-clause-sent c =
+    let first = sym c.in_default.is ∙ c.take_post.ensures.first in
+    inl (none-waits c.args.target c.loop-post.actor c.take_post.new.self first (takes-none c.args.target c.loop-post.actor c.take_post.new.self first c.take_post.ensures.taken))
+
+pub returns-clause-moves : goal.returns-clause-moves
+returns-clause-moves c =
     let none = takes-none c.args.target c.loop-post.actor c.take_post.new.self (sym c.in_default.is ∙ c.take_post.ensures.first) c.take_post.ensures.taken in
     subst (λ a. Moves c.args.target c.args.actor.now a c.args.link.now c.loop-post.link) (sym none) c.loop-post.invariant.moves

@@ -4,7 +4,7 @@ use Rattle.actor_cells.specs.declared.cell.Cell.{Cell}
 use Rattle.actor_cells.specs.Lawful.{tally_of}
 use Rattle.actor_cells.specs.Served.{Turns}
 use Rattle.actor_pool.specs.Helpers.{seat_of}
-use Rattle.actor_pool.proofs.HelperLemmas.{turn-went, went-goes}
+use Rattle.actor_pool.proofs.HelperLemmas.{turn-taken, turn-went, went-goes}
 use Rattle.actor_pool.proofs.turning.turn.Goals as goal
 
 pub returns-in-Ok-served-clause-goes_on : goal.returns-in-Ok-served-clause-goes_on
@@ -24,22 +24,22 @@ returns-in-Err-served-clause-goes_on g c =
 pub returns-in-Ok-served-clause-served : goal.returns-in-Ok-served-clause-served
 returns-in-Ok-served-clause-served g c =
     let back = c.release-asked.ensures.back in
-    let went = turn-went c.args.actor c.in-Ok.held.index (seat_of c.args.helper.now) (view_of c.try_turn.new.seat) (view_of c.release-asked.new.seat)
-    c.in-Ok.held.cell c.cell.result.now c.serve_noted-served.new.cell back.0 c.in-Ok.ensures.place c.cell.ensures.value c.in-Ok.ensures.got c.in-Ok-served.ensures.kept back.2 in
     record {
-      turn = went.had;
-      tallies = (
-        tally_of c.in-Ok.held.cell,
-        tally_of c.serve_noted-served.new.cell,
-        went.found_is,
-        went.left_is,
-        subst (λ (x : Cell). Turns (tally_of x) (tally_of c.serve_noted-served.new.cell) c.in-Ok-served.turned) c.cell.ensures.value c.in-Ok-served.ensures.turned,
-      );
+      found = c.in-Ok.held.cell;
+      left = c.serve_noted-served.new.cell;
+      turn = turn-taken c.args.actor c.in-Ok.held.index (seat_of c.args.helper.now) (view_of c.try_turn.new.seat) (view_of c.release-asked.new.seat)
+          c.in-Ok.held.cell c.cell.result.now c.serve_noted-served.new.cell back.0 c.in-Ok.ensures.place c.cell.ensures.value c.in-Ok.ensures.got c.in-Ok-served.ensures.kept back.2;
+      tallies = subst (λ (x : Cell). Turns (tally_of x) (tally_of c.serve_noted-served.new.cell) c.in-Ok-served.turned) c.cell.ensures.value c.in-Ok-served.ensures.turned;
+      sent = c.in-Ok-served.ensures.sent;
     }
 
 pub returns-in-Err-served-clause-fault : goal.returns-in-Err-served-clause-fault
 returns-in-Err-served-clause-fault g c =
     let back = c.release-asked.ensures.back in
-    let went = turn-went c.args.actor c.in-Ok.held.index (seat_of c.args.helper.now) (view_of c.try_turn.new.seat) (view_of c.release-asked.new.seat)
-    c.in-Ok.held.cell c.cell.result.now c.serve_noted-served.new.cell back.0 c.in-Ok.ensures.place c.cell.ensures.value c.in-Ok.ensures.got c.in-Err-served.ensures.kept back.2 in
-    went.had
+    record {
+      found = c.in-Ok.held.cell;
+      left = c.serve_noted-served.new.cell;
+      turn = turn-taken c.args.actor c.in-Ok.held.index (seat_of c.args.helper.now) (view_of c.try_turn.new.seat) (view_of c.release-asked.new.seat)
+          c.in-Ok.held.cell c.cell.result.now c.serve_noted-served.new.cell back.0 c.in-Ok.ensures.place c.cell.ensures.value c.in-Ok.ensures.got c.in-Err-served.ensures.kept back.2;
+      refused = c.in-Err-served.ensures.refused;
+    }

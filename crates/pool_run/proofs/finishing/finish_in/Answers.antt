@@ -1,5 +1,5 @@
 use Rattle.actor_pool.specs.Helpers.{seat_of}
-use Rattle.pool_run.proofs.FinishLemmas.{linked-sent, own-wired, scheduled-sent, seen-on}
+use Rattle.pool_run.proofs.FinishLemmas.{few-taken, linked-sent, own-wired, scheduled-sent, seen-on}
 use Rattle.std.proofs.lemmas.Result.{IfOk-weaker}
 use Rattle.pool_run.proofs.finishing.finish_in.Goals as goal
 
@@ -14,3 +14,6 @@ returns-clause-scheduled g c = IfOk-weaker c.settle.result _ _ (λ run. schedule
 
 pub returns-clause-seen : goal.returns-clause-seen
 returns-clause-seen g c = IfOk-weaker c.settle.result _ _ (λ run. seen-on (seat_of c.args.helper) c.in_ok-cells.cells.items run c.in_ok-cells.ensures.seen) c.settle.ensures.history
+
+pub returns-clause-few : goal.returns-clause-few
+returns-clause-few g c = IfOk-weaker c.settle.result _ _ (λ run. few-taken (seat_of c.args.helper) c.args.posters.items _ c.in_ok-cells.cells.items run c.in_ok-cells.ensures.ends c.in_ok-cells.ensures.lawful c.in_ok-cells.ensures.seen) c.settle.ensures.few

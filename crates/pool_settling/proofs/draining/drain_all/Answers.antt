@@ -1,7 +1,7 @@
 use Rattle.std.proofs.Common.{◌∙◌, sym, subst, refl, arith, List}
 use Rattle.cell_links.specs.Wiring.{AreLinked, Key}
 use Rattle.pool_settling.specs.Ends.{AreStanding, Entry, IsDrainedAt, entries, keys_of}
-use Rattle.pool_settling.proofs.EndLemmas.{drained_more, drained_whole, go_refl, go_trans, keys_count}
+use Rattle.pool_settling.proofs.EndLemmas.{drained_more, drained_whole, given_refl, given_trans, go_refl, go_trans, keys_count}
 use Rattle.pool_settling.proofs.draining.drain_all.Goals as goal
 
 pub loop-place-init : goal.loop-place-init
@@ -11,6 +11,7 @@ loop-place-init g c = record {
   drained = λ k d l. absurd (omega (arith, l));
   standing = c.requires.standing;
   on = go_refl c.args.actors.now.items;
+  given = given_refl c.args.actors.now.items c.args.receivers.now.items;
 }
 
 pub drain_at-requires : goal.drain_at-requires
@@ -33,6 +34,7 @@ loop-place-preserved g c =
       drained = drained_more _ _ _ _ drained before.drained;
       standing = subst (λ (es : List Entry). AreStanding es c.drain_at.new.receivers.items c.drain_at.new.actors.items) before.senders step.standing;
       on = go_trans _ _ _ before.on step.on;
+      given = given_trans c.args.actors.now.items c.loop-place.actors.items c.drain_at.new.actors.items c.args.receivers.now.items c.loop-place.receivers.items c.drain_at.new.receivers.items before.on before.given step.given;
     }
 
 pub returns-clause-drained : goal.returns-clause-drained

@@ -2,7 +2,7 @@ use Rattle.std.proofs.Common.{arith, rules, sym, subst, List, get_or}
 use Rattle.cell_links.specs.Wiring.{Key}
 use Rattle.pool_settling.specs.declared.ends.Sender.{Sender}
 use Rattle.pool_settling.specs.Ends.{IsServed, Serves, entries, keys_of}
-use Rattle.pool_settling.proofs.EndLemmas.{then_drained, then_on, then_stand, ends_meet, entries_set, has_count_of, served_at, target_there}
+use Rattle.pool_settling.proofs.EndLemmas.{then_drained, then_given, then_on, then_stand, ends_meet, entries_set, has_count_of, served_at, target_there}
 use Rattle.pool_settling.proofs.draining.drain_at.Goals as goal
 
 pub place_of-from-requires : goal.place_of-from-requires
@@ -46,5 +46,11 @@ returns-clause-standing g c =
 pub returns-clause-on : goal.returns-clause-on
 returns-clause-on g c =
     then_on c.args.senders.now.items c.args.receivers.now.items c.args.actors.now.items c.requires.standing c.requires.wired c.args.place c.index_mut-receiver.result.now _ c.place_of-from.result c.index_mut-sender.result.now
+    c.index_mut-actor.result.now _ c.requires.within (sym c.index_mut-receiver.ensures.value) (search rules) (sym c.index_mut-sender.ensures.value) (subst (λ (l : List Sender). (d : Key) → Serves (get_or (keys_of (entries l)) c.place_of-from.result d) c.index_mut-receiver.result.now.source c.index_mut-receiver.result.now.target) c.as_slice.ensures.value c.place_of-from.ensures.serves)
+    (sym c.index_mut-actor.ensures.value) c.drain.result c.drain.ensures.second c.drain.ensures.arrived
+
+pub returns-clause-given : goal.returns-clause-given
+returns-clause-given g c =
+    then_given c.args.senders.now.items c.args.receivers.now.items c.args.actors.now.items c.requires.standing c.requires.wired c.args.place c.index_mut-receiver.result.now _ c.place_of-from.result c.index_mut-sender.result.now
     c.index_mut-actor.result.now _ c.requires.within (sym c.index_mut-receiver.ensures.value) (search rules) (sym c.index_mut-sender.ensures.value) (subst (λ (l : List Sender). (d : Key) → Serves (get_or (keys_of (entries l)) c.place_of-from.result d) c.index_mut-receiver.result.now.source c.index_mut-receiver.result.now.target) c.as_slice.ensures.value c.place_of-from.ensures.serves)
     (sym c.index_mut-actor.ensures.value) c.drain.result c.drain.ensures.second c.drain.ensures.arrived

@@ -15,5 +15,5 @@ returns g c =
     let all = c.in_ok-drain_all.ensures in
     record {
       drained = then_drained c.args.posters.items c.args.cells.items c.requires.wired c.requires.lawful _ _ _ _ _ _ _ c.new-senders.ensures.items feeds ends.senders c.new-receivers.ensures.items ends.receivers c.new-actors.ensures.items ends.actors _ _
-          all.keys all.drained all.standing all.on;
+          all.keys all.drained all.standing all.on all.given;
     }

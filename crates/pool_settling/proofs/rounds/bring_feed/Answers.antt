@@ -11,7 +11,7 @@ loop-place-preserved g c =
     let helds : List Held = c.loop-place.actors.items in
     let x = c.index-posts-place.result in
     let i = c.loop-place.invariant in
-    let before : Feeds c.args.feed c.loop-place.place c.args.posts.now c.args.actors.now.items helds = record { members = i.members; have = i.have; fed = i.fed; on = i.on } in
+    let before : Feeds c.args.feed c.loop-place.place c.args.posts.now c.args.actors.now.items helds = record { members = i.members; have = i.have; fed = i.fed; on = i.on; weight = i.weight } in
     let at = get_here c.args.posts.now c.loop-place.place x (search rules) (sym c.index-posts-place.is) in
     let after : Feeds c.args.feed (c.loop-place.place + 1) c.args.posts.now c.args.actors.now.items c.if-target-len.actors.items =
     elim c.if-target-len.branch [
@@ -24,4 +24,4 @@ loop-place-preserved g c =
           subst (λ (nows : List Held). Feeds c.args.feed (c.loop-place.place + 1) c.args.posts.now c.args.actors.now.items nows) (sym (ap (λ v. v.items) w.actors-is))
           (feeds_skip c.args.feed c.loop-place.place c.args.posts.now x at c.args.actors.now.items helds before (omega (arith, w.if-target-len.false, c.len.ensures, c.loop-place.actors.ok.0)))
     ] in
-    record { members = after.members; have = after.have; fed = after.fed; on = after.on }
+    record { members = after.members; have = after.have; fed = after.fed; on = after.on; weight = after.weight }

@@ -1,4 +1,5 @@
-use Rattle.pool_settling.specs.Rounds.{BringsPosts, all_work}
+use Rattle.pool_settling.specs.Rounds.{BringsPosts}
+use Rattle.pool_settling.specs.Work.{all_work}
 use Rattle.pool_settling.proofs.rounds.bring_posts.Given as goal
 
 abbrev pub invariant-loop : goal.invariant-loop

@@ -1,6 +1,8 @@
-use Rattle.std.proofs.Common.{take, length}
+use Rattle.std.proofs.Common.{◌+◌, ◌≤◌, take, length}
+use Rattle.std.specs.List.{sum_by}
 use Rattle.pool_settling.specs.Ends.{GoOn}
 use Rattle.pool_settling.specs.Rounds.{AreMembers, HaveFeeds, IsFedRest}
+use Rattle.pool_settling.specs.Work.{all_weight}
 use Rattle.pool_settling.proofs.rounds.bring_rest.Given as goal
 
 -- the first lists came
@@ -10,4 +12,5 @@ invariant-loop-place g l = record {
   have : HaveFeeds (length l.rest) l.actors.items;
   fed : IsFedRest (take l.place l.rest) l.initial.actors.items l.actors.items;
   on : GoOn l.initial.actors.items l.actors.items;
+  weight : all_weight l.actors.items ≤ all_weight l.initial.actors.items + sum_by length (take l.place l.rest);
 }

@@ -15,6 +15,7 @@ returns-clause-served g c =
       only = refl;
       kept = c.serve.ensures.kept;
       turned = c.serve.ensures.turned;
+      sent = c.serve.ensures.sent;
       refused = c.serve.ensures.refused;
     }
 

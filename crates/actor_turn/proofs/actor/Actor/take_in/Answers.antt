@@ -19,7 +19,7 @@ use Rattle.fair_semantics.specs.Linked.{firing_effects}
 use Rattle.fair_semantics.specs.Step.{Arrival, body_at, entry_with, fair_step, is_refused}
 use Rattle.actor_turn.specs.Held.{Held, is_taken, new_entries, posts_behind, tries_for}
 use Rattle.actor_turn.specs.Ready.{BodyReady}
-use Rattle.actor_turn.specs.Inside.{IsTold, held_of, setting_in}
+use Rattle.actor_turn.specs.Inside.{IsAtRest, IsTold, held_of, setting_in}
 use Rattle.actor_turn.specs.declared.actor.Actor.TheInside.{Inside}
 use Rattle.actor_turn.specs.Outbox.{Queue}
 use Rattle.actor_turn.specs.Sent.{delivered, sent_by}
@@ -28,8 +28,9 @@ use Rattle.actor_turn.proofs.RestLemmas.{taken_fits, taken_runs}
 use Rattle.actor_turn.proofs.ToldLemmas.{MayFire}
 use Rattle.actor_turn.specs.Parts.{Keeps, fired_at, state_of}
 use Rattle.actor_turn.proofs.ArriveLemmas.{IsDone, can_record, fires_done, have, keeps_done, may_fire, recorded_all, rest_is, stamp_same, steps_few, taken_in}
+use Rattle.actor_turn.proofs.HeldLemmas.{none_waits, partial_held}
 use Rattle.actor_turn.proofs.PostsLemmas.{fired_posts, unfired_posts}
-use Rattle.actor_turn.proofs.actor.Actor.take_in.Goals.{After-keep, After-record, After-unwrap-in-Ok-fire, In-Some, In_ok-number}
+use Rattle.actor_turn.proofs.actor.Actor.take_in.Goals.{After-keep, After-record, After-retract_last, After-unwrap-in-Ok-fire, In-Some, In_err-number, In_ok-number}
 use Rattle.actor_turn.proofs.actor.Actor.take_in.Goals as goal
 
 -- ---- what the answers share
@@ -157,6 +158,43 @@ pub returns-in-Err-clause-steps : goal.returns-in-Err-clause-steps
 returns-in-Err-clause-steps g c =
     subst (λ (h : Held). c.record.new.steps ≤ c.args.steps.now + tries_for h.setting.rules h.state c.args.message) c.self.view_is (steps g (goal.at.returns-in-Err-clause-steps g c).After-record)
 
+-- ---- no memory for an entry, or for recording
+
+pub returns-in_default-clause-partial : goal.returns-in_default-clause-partial
+returns-in_default-clause-partial g c =
+    let a = c.self.inside in
+    partial_held (setting_in a) a.mail.mail c.reserve_entry.new.firings.items a.ending a.trees.items _ _ (rest_is (setting_in a) _ a.mail.mail _ c.reserve_entry.new.firings.items _ a.ending _ a.trees.items refl c.reserve_entry.ensures.firings refl refl c.self.invariant.rest)
+
+pub returns-in_default-clause-waits : goal.returns-in_default-clause-waits
+returns-in_default-clause-waits g c =
+    let a = c.self.inside in
+    none_waits (setting_in a) a.mail.mail c.reserve_entry.new.firings.items a.ending a.trees.items _ _ (rest_is (setting_in a) _ a.mail.mail _ c.reserve_entry.new.firings.items _ a.ending _ a.trees.items refl c.reserve_entry.ensures.firings refl refl c.self.invariant.rest)
+
+unrecorded_inside : (g : _) (c : In_err-number g) → IsAtRest (setting_in c.self.inside) c.record.new.mail.mail c.reserve_entry.new.firings.items c.self.inside.ending (with_items c.self.inside.trees c.record.new.trees).items
+unrecorded_inside g c =
+    let a = c.self.inside in
+    let e = c.in_err-number.ensures in
+    let long : length c.record.new.trees ≡ a.trees.len = omega (arith, c.record.auto.trees, c.deref_mut.ensures.len) in
+    let left = take_at c.record.new.trees (drop (length c.record.new.trees) a.trees.items) a.trees.len long in
+    rest_is (setting_in a) _ c.record.new.mail.mail _ c.reserve_entry.new.firings.items _ a.ending _ (with_items a.trees c.record.new.trees).items e.mail c.reserve_entry.ensures.firings refl (left ∙ e.trees ∙ c.deref_mut.ensures.value) c.self.invariant.rest
+
+pub invariant_of-self-in_err-number : goal.invariant_of-self-in_err-number
+invariant_of-self-in_err-number g c =
+    let i = c.self.invariant in
+    let count = ap (λ (m : Mail). length m.arrivals) c.in_err-number.ensures.mail in
+    let capacity = c.reserve_entry.ensures.kept in
+    record { told = i.told; rest = unrecorded_inside g (goal.at.invariant_of-self-in_err-number g c).In_err-number; none = c.reserve_entry.ensures.entries; room = omega (arith, i.room) }
+
+pub returns-in_err-number-clause-partial : goal.returns-in_err-number-clause-partial
+returns-in_err-number-clause-partial g c =
+    let a = c.self.inside in
+    partial_held (setting_in a) c.record.new.mail.mail c.reserve_entry.new.firings.items a.ending (with_items a.trees c.record.new.trees).items _ _ (unrecorded_inside g (goal.at.returns-in_err-number-clause-partial g c).In_err-number)
+
+pub returns-in_err-number-clause-waits : goal.returns-in_err-number-clause-waits
+returns-in_err-number-clause-waits g c =
+    let a = c.self.inside in
+    none_waits (setting_in a) c.record.new.mail.mail c.reserve_entry.new.firings.items a.ending (with_items a.trees c.record.new.trees).items _ _ (unrecorded_inside g (goal.at.returns-in_err-number-clause-waits g c).In_err-number)
+
 -- ---- keeping
 
 pub keep-requires-clause-reserved : goal.keep-requires-clause-reserved
@@ -167,24 +205,32 @@ keep-requires-clause-reserved g c =
     let again = take_at offered (drop (length offered) a.trees.items) a.trees.len long in
     subst (λ (ts : List Tree). AllByRecursion (HasReserve c.in_ok-number.number) ts) (sym (c.deref_mut-in_default-best_of.ensures.value ∙ again)) (reserved g (goal.at.keep-requires-clause-reserved g c).In_ok-number)
 
+kept_inside : (g : _) (c : After-keep g) → IsAtRest (setting_in c.self.inside) c.keep.new.mail.mail c.push.new.self.items c.keep.new.ending (with_items (with_items c.self.inside.trees c.record.new.trees) c.keep.new.trees).items
+kept_inside g c =
+    let a = c.self.inside in
+    let long : length c.keep.new.trees ≡ a.trees.len = omega (arith, c.keep.auto.trees, c.deref_mut-in_default-best_of.ensures.len) in
+    let left = take_at c.keep.new.trees (drop (length c.keep.new.trees) (with_items a.trees c.record.new.trees).items) a.trees.len long in
+    rest_is (setting_in a) _ c.keep.new.mail.mail _ c.push.new.self.items _ c.keep.new.ending _ (with_items (with_items a.trees c.record.new.trees) c.keep.new.trees).items refl refl refl left (kept g c).at_rest
+
 pub invariant_of-self-in_default-best_of : goal.invariant_of-self-in_default-best_of
 invariant_of-self-in_default-best_of g c =
     let a = c.self.inside in
     let i = c.self.invariant in
-    let done = kept g (goal.at.invariant_of-self-in_default-best_of g c).After-keep in
-    let long : length c.keep.new.trees ≡ a.trees.len = omega (arith, c.keep.auto.trees, c.deref_mut-in_default-best_of.ensures.len) in
-    let left = take_at c.keep.new.trees (drop (length c.keep.new.trees) (with_items a.trees c.record.new.trees).items) a.trees.len long in
+    let rest = kept_inside g (goal.at.invariant_of-self-in_default-best_of g c).After-keep in
     let letters = ap length c.letters-arrivals.ensures.letters ∙ length-map a.mail.mail.arrivals (λ (r : Received). r.message) in
     let place = c.in-Ok.ensures.room in
     let firings : c.push.new.self.items ≡ a.firings.items ++ None ∷ [] = rw (c.push.ensures.items, c.unwrap.ensures, c.none.ensures.none) (ap (λ (fs : List (Option Firing)). fs ++ None ∷ []) c.reserve_entry.ensures.firings) in
     let more = ap length firings ∙ length-append a.firings.items (None ∷ []) in
-    let room : length c.keep.new.mail.mail.arrivals ≤ vec_capacity c.reserve_entry.new.entries = omega (arith, done.at_rest.fired, i.rest.fired) in
-    record {
-      told = i.told;
-      rest = rest_is (setting_in a) _ c.keep.new.mail.mail _ c.push.new.self.items _ c.keep.new.ending _ (with_items (with_items a.trees c.record.new.trees) c.keep.new.trees).items refl refl refl left done.at_rest;
-      none = c.reserve_entry.ensures.entries;
-      room = room;
-    }
+    let room : length c.keep.new.mail.mail.arrivals ≤ vec_capacity c.reserve_entry.new.entries = omega (arith, rest.fired, i.rest.fired) in
+    record { told = i.told; rest = rest; none = c.reserve_entry.ensures.entries; room = room }
+
+pub returns-in_default-best_of-clause-partial : goal.returns-in_default-best_of-clause-partial
+returns-in_default-best_of-clause-partial g c =
+    partial_held (setting_in c.self.inside) c.keep.new.mail.mail c.push.new.self.items c.keep.new.ending (with_items (with_items c.self.inside.trees c.record.new.trees) c.keep.new.trees).items _ _ (kept_inside g (goal.at.returns-in_default-best_of-clause-partial g c).After-keep)
+
+pub returns-in_default-best_of-clause-waits : goal.returns-in_default-best_of-clause-waits
+returns-in_default-best_of-clause-waits g c =
+    none_waits (setting_in c.self.inside) c.keep.new.mail.mail c.push.new.self.items c.keep.new.ending (with_items (with_items c.self.inside.trees c.record.new.trees) c.keep.new.trees).items _ _ (kept_inside g (goal.at.returns-in_default-best_of-clause-waits g c).After-keep)
 
 pub returns-in_default-best_of-clause-step : goal.returns-in_default-best_of-clause-step
 returns-in_default-best_of-clause-step g c =
@@ -227,56 +273,74 @@ fire-requires-clause-reserved g c =
     let again = take_at offered (drop (length offered) a.trees.items) a.trees.len long in
     subst (λ (ts : List Tree). AllByRecursion (HasReserve c.in_ok-number.number) ts) (sym (c.deref_mut-2.ensures.value ∙ again)) (reserved g (goal.at.fire-requires-clause-reserved g c).In_ok-number)
 
+fired_inside : (g : _) (c : After-unwrap-in-Ok-fire g) → IsAtRest (setting_in c.self.inside) c.fire.new.mail.mail c.push-in-Ok-fire.new.self.items c.fire.new.ending (with_items (with_items c.self.inside.trees c.record.new.trees) c.fire.new.trees).items
+fired_inside g c =
+    let a = c.self.inside in
+    let long : length c.fire.new.trees ≡ a.trees.len = omega (arith, c.fire.auto.trees, c.deref_mut-2.ensures.len) in
+    let left = take_at c.fire.new.trees (drop (length c.fire.new.trees) (with_items a.trees c.record.new.trees).items) a.trees.len long in
+    rest_is (setting_in a) _ c.fire.new.mail.mail _ c.push-in-Ok-fire.new.self.items _ c.fire.new.ending _ (with_items (with_items a.trees c.record.new.trees) c.fire.new.trees).items refl refl refl left (fired g c).at_rest
+
 pub invariant_of-self-in-Ok-fire : goal.invariant_of-self-in-Ok-fire
 invariant_of-self-in-Ok-fire g c =
     let a = c.self.inside in
     let i = c.self.invariant in
-    let done = fired g (goal.at.invariant_of-self-in-Ok-fire g c).After-unwrap-in-Ok-fire in
-    let long-3 : length c.fire.new.outboxes ≡ a.outboxes.len = omega (arith, c.fire.auto.outboxes, c.deref_mut-3.ensures.len) in
-    let boxes = take_at c.fire.new.outboxes (drop (length c.fire.new.outboxes) a.outboxes.items) a.outboxes.len long-3 in
+    let rest = fired_inside g (goal.at.invariant_of-self-in-Ok-fire g c).After-unwrap-in-Ok-fire in
+    let long : length c.fire.new.outboxes ≡ a.outboxes.len = omega (arith, c.fire.auto.outboxes, c.deref_mut-3.ensures.len) in
+    let boxes = take_at c.fire.new.outboxes (drop (length c.fire.new.outboxes) a.outboxes.items) a.outboxes.len long in
     let same_count : length a.outboxes.items ≡ length (with_items a.outboxes c.fire.new.outboxes).items = omega (arith, ap length boxes, a.outboxes.ok.0) in
-    let long-2 : length c.fire.new.trees ≡ a.trees.len = omega (arith, c.fire.auto.trees, c.deref_mut-2.ensures.len) in
-    let left = take_at c.fire.new.trees (drop (length c.fire.new.trees) (with_items a.trees c.record.new.trees).items) a.trees.len long-2 in
     let letters = ap length c.letters-arrivals.ensures.letters ∙ length-map a.mail.mail.arrivals (λ (r : Received). r.message) in
     let place = c.in-Ok.ensures.room in
     let firings : c.push-in-Ok-fire.new.self.items ≡ a.firings.items ++ Some c.in-Ok-fire.firing.value ∷ [] = rw (c.push-in-Ok-fire.ensures.items, c.unwrap-in-Ok-fire.ensures, c.from_box.ensures.firing) (ap (λ (fs : List (Option Firing)). fs ++ Some c.in-Ok-fire.firing.value ∷ []) c.reserve_entry.ensures.firings) in
     let more = ap length firings ∙ length-append a.firings.items (Some c.in-Ok-fire.firing.value ∷ []) in
-    let room : length c.fire.new.mail.mail.arrivals ≤ vec_capacity c.reserve_entry.new.entries = omega (arith, done.at_rest.fired, i.rest.fired) in
-    record {
-      told = subst (λ (n : ℕ). IsTold n (setting_in a)) same_count i.told;
-      rest = rest_is (setting_in a) _ c.fire.new.mail.mail _ c.push-in-Ok-fire.new.self.items _ c.fire.new.ending _ (with_items (with_items a.trees c.record.new.trees) c.fire.new.trees).items refl refl refl left done.at_rest;
-      none = c.reserve_entry.ensures.entries;
-      room = room;
-    }
+    let room : length c.fire.new.mail.mail.arrivals ≤ vec_capacity c.reserve_entry.new.entries = omega (arith, rest.fired, i.rest.fired) in
+    record { told = subst (λ (n : ℕ). IsTold n (setting_in a)) same_count i.told; rest = rest; none = c.reserve_entry.ensures.entries; room = room }
+
+pub returns-in-Ok-fire-clause-partial : goal.returns-in-Ok-fire-clause-partial
+returns-in-Ok-fire-clause-partial g c =
+    partial_held (setting_in c.self.inside) c.fire.new.mail.mail c.push-in-Ok-fire.new.self.items c.fire.new.ending (with_items (with_items c.self.inside.trees c.record.new.trees) c.fire.new.trees).items _ _ (fired_inside g (goal.at.returns-in-Ok-fire-clause-partial g c).After-unwrap-in-Ok-fire)
+
+pub returns-in-Ok-fire-clause-waits : goal.returns-in-Ok-fire-clause-waits
+returns-in-Ok-fire-clause-waits g c =
+    none_waits (setting_in c.self.inside) c.fire.new.mail.mail c.push-in-Ok-fire.new.self.items c.fire.new.ending (with_items (with_items c.self.inside.trees c.record.new.trees) c.fire.new.trees).items _ _ (fired_inside g (goal.at.returns-in-Ok-fire-clause-waits g c).After-unwrap-in-Ok-fire)
+
+unfired_inside : (g : _) (c : After-retract_last g)
+    → IsAtRest (setting_in c.self.inside) c.retract_last.new.self.mail c.reserve_entry.new.firings.items c.fire.new.ending (with_items (with_items (with_items c.self.inside.trees c.record.new.trees) c.fire.new.trees) c.forget_all.new.trees).items
+unfired_inside g c =
+    let a = c.self.inside in
+    let e = c.in_ok-number.ensures in
+    let f = c.in-Err.ensures in
+    let offered : List Tree = c.record.new.trees in
+    let long : length offered ≡ a.trees.len = omega (arith, c.record.auto.trees, c.deref_mut.ensures.len) in
+    let again = take_at offered (drop (length offered) a.trees.items) a.trees.len long in
+    let long-2 : length c.fire.new.trees ≡ a.trees.len = omega (arith, c.fire.auto.trees, c.deref_mut-2.ensures.len) in
+    let long-4 : length c.forget_all.new.trees ≡ a.trees.len = omega (arith, c.forget_all.auto.trees, c.deref_mut-in-Err.ensures.len) in
+    let left = take_at c.fire.new.trees (drop (length c.fire.new.trees) (with_items a.trees offered).items) a.trees.len long-2 in
+    let last = take_at c.forget_all.new.trees (drop (length c.forget_all.new.trees) (with_items (with_items a.trees offered) c.fire.new.trees).items) a.trees.len long-4 in
+    let same = e.same ∙ c.deref_mut.ensures.value in
+    let trees : c.forget_all.new.trees ≡ a.trees.items = c.forget_all.ensures ∙ ap (map settled_tree) (c.deref_mut-in-Err.ensures.value ∙ left ∙ f.same_trees ∙ c.deref_mut-2.ensures.value ∙ again) ∙ same in
+    let mail = c.retract_last.ensures.retracted ∙ ap without_last (f.same_mail ∙ e.recorded) ∙ retracted_again a.mail.mail c.args.source c.args.message c.args.stamp in
+    rest_is (setting_in a) _ c.retract_last.new.self.mail _ c.reserve_entry.new.firings.items _ c.fire.new.ending _ (with_items (with_items (with_items a.trees offered) c.fire.new.trees) c.forget_all.new.trees).items mail c.reserve_entry.ensures.firings f.same_ending (last ∙ trees) c.self.invariant.rest
 
 pub invariant_of-self-in-Err : goal.invariant_of-self-in-Err
 invariant_of-self-in-Err g c =
     let a = c.self.inside in
     let i = c.self.invariant in
-    let e = c.in_ok-number.ensures in
-    let offered : List Tree = c.record.new.trees in
-    let same = e.same ∙ c.deref_mut.ensures.value in
-    let long : length offered ≡ a.trees.len = omega (arith, c.record.auto.trees, c.deref_mut.ensures.len) in
-    let again = take_at offered (drop (length offered) a.trees.items) a.trees.len long in
-    let long-3 : length c.fire.new.outboxes ≡ a.outboxes.len = omega (arith, c.fire.auto.outboxes, c.deref_mut-3.ensures.len) in
-    let boxes = take_at c.fire.new.outboxes (drop (length c.fire.new.outboxes) a.outboxes.items) a.outboxes.len long-3 in
+    let long : length c.fire.new.outboxes ≡ a.outboxes.len = omega (arith, c.fire.auto.outboxes, c.deref_mut-3.ensures.len) in
+    let boxes = take_at c.fire.new.outboxes (drop (length c.fire.new.outboxes) a.outboxes.items) a.outboxes.len long in
     let same_count : length a.outboxes.items ≡ length (with_items a.outboxes c.fire.new.outboxes).items = omega (arith, ap length boxes, a.outboxes.ok.0) in
-    let f = c.in-Err.ensures in
-    let long-2 : length c.fire.new.trees ≡ a.trees.len = omega (arith, c.fire.auto.trees, c.deref_mut-2.ensures.len) in
-    let long-4 : length c.forget_all.new.trees ≡ a.trees.len = omega (arith, c.forget_all.auto.trees, c.deref_mut-in-Err.ensures.len) in
-    let left = take_at c.fire.new.trees (drop (length c.fire.new.trees) (with_items a.trees offered).items) a.trees.len long-2 in
-    let last = take_at c.forget_all.new.trees (drop (length c.forget_all.new.trees) (with_items (with_items a.trees offered) c.fire.new.trees).items) a.trees.len long-4 in
-    let trees : c.forget_all.new.trees ≡ a.trees.items = c.forget_all.ensures ∙ ap (map settled_tree) (c.deref_mut-in-Err.ensures.value ∙ left ∙ f.same_trees ∙ c.deref_mut-2.ensures.value ∙ again) ∙ same in
-    let mail : c.retract_last.new.self.mail ≡ a.mail.mail = c.retract_last.ensures.retracted ∙ ap without_last (f.same_mail ∙ e.recorded) ∙ retracted_again a.mail.mail c.args.source c.args.message c.args.stamp in
+    let mail : c.retract_last.new.self.mail ≡ a.mail.mail = c.retract_last.ensures.retracted ∙ ap without_last (c.in-Err.ensures.same_mail ∙ c.in_ok-number.ensures.recorded) ∙ retracted_again a.mail.mail c.args.source c.args.message c.args.stamp in
     let capacity = c.reserve_entry.ensures.kept in
     let count = ap (λ (m : Mail). length m.arrivals) mail in
     let room : length c.retract_last.new.self.mail.arrivals ≤ vec_capacity c.reserve_entry.new.entries = omega (arith, i.room) in
-    record {
-      told = subst (λ (n : ℕ). IsTold n (setting_in a)) same_count i.told;
-      rest = rest_is (setting_in a) _ c.retract_last.new.self.mail _ c.reserve_entry.new.firings.items _ c.fire.new.ending _ (with_items (with_items (with_items a.trees offered) c.fire.new.trees) c.forget_all.new.trees).items mail c.reserve_entry.ensures.firings f.same_ending (last ∙ trees) i.rest;
-      none = c.reserve_entry.ensures.entries;
-      room = room;
-    }
+    record { told = subst (λ (n : ℕ). IsTold n (setting_in a)) same_count i.told; rest = unfired_inside g (goal.at.invariant_of-self-in-Err g c).After-retract_last; none = c.reserve_entry.ensures.entries; room = room }
+
+pub returns-in-Err-clause-partial : goal.returns-in-Err-clause-partial
+returns-in-Err-clause-partial g c =
+    partial_held (setting_in c.self.inside) c.retract_last.new.self.mail c.reserve_entry.new.firings.items c.fire.new.ending (with_items (with_items (with_items c.self.inside.trees c.record.new.trees) c.fire.new.trees) c.forget_all.new.trees).items _ _ (unfired_inside g (goal.at.returns-in-Err-clause-partial g c).After-retract_last)
+
+pub returns-in-Err-clause-waits : goal.returns-in-Err-clause-waits
+returns-in-Err-clause-waits g c =
+    none_waits (setting_in c.self.inside) c.retract_last.new.self.mail c.reserve_entry.new.firings.items c.fire.new.ending (with_items (with_items (with_items c.self.inside.trees c.record.new.trees) c.fire.new.trees) c.forget_all.new.trees).items _ _ (unfired_inside g (goal.at.returns-in-Err-clause-waits g c).After-retract_last)
 
 pub returns-in-Ok-fire-clause-step : goal.returns-in-Ok-fire-clause-step
 returns-in-Ok-fire-clause-step g c =

@@ -1,5 +1,6 @@
 use Rattle.std.proofs.Common.{rules, true, false, ◌≡◌, ◌∙◌, List, drop, length, map, ap, sym, subst, arith}
 use Rattle.std.proofs.lemmas.List.{take_at}
+use Rattle.std.specs.Vec.{with_items}
 use Rattle.join_base.specs.Late.{late_more}
 use Rattle.mailbox_core.specs.Mail.{Mail}
 use Rattle.tree_law.specs.Trees.{cleared_tree}
@@ -7,24 +8,45 @@ use Rattle.fair_semantics.specs.declared.run.Entry.{Entry}
 use Rattle.fair_semantics.specs.declared.run.Outcome.TheVariants.{Late, Spent}
 use Rattle.fair_semantics.specs.Step.{fair_step, is_running}
 use Rattle.actor_turn.specs.Held.{Held, is_taken, new_entries, posts_behind}
-use Rattle.actor_turn.specs.Inside.{held_of, setting_in}
+use Rattle.actor_turn.specs.Inside.{IsAtRest, held_of, setting_in}
 use Rattle.actor_turn.specs.Parts.{entries_of, state_of}
+use Rattle.actor_turn.proofs.HeldLemmas.{none_waits, partial_held}
 use Rattle.actor_turn.proofs.PostsLemmas.{no_posts}
 use Rattle.actor_turn.proofs.RestLemmas.{late_is, late_rest, none_new, spent_is, spent_rest}
+use Rattle.actor_turn.proofs.actor.Actor.turn_away.Goals.{After-add_late, After-spend}
 use Rattle.actor_turn.proofs.actor.Actor.turn_away.Goals as goal
+
+-- what is kept inside of an actor that had ended, and of one that ends
+late_inside : (c : After-add_late) → IsAtRest (setting_in c.self.inside) c.add_late.new.self.mail c.self.inside.firings.items c.self.inside.ending c.self.inside.trees.items
+late_inside c =
+    let a = c.self.inside in
+    late_rest (setting_in a) a.mail.mail c.add_late.new.self.mail (late_more a.mail.mail.late c.args.source) a.firings.items a.ending a.trees.items c.add_late.ensures.late c.self.invariant.rest
+
+spent_inside : (c : After-spend) → IsAtRest (setting_in c.self.inside) c.spend.new.mail.mail c.self.inside.firings.items c.spend.new.ending (with_items c.self.inside.trees c.spend.new.trees).items
+spent_inside c =
+    let a = c.self.inside in
+    let i = c.self.invariant in
+    let e = c.spend.ensures in
+    let long : length c.spend.new.trees ≡ a.trees.len = omega (arith, c.spend.auto.trees, c.deref_mut.ensures.len) in
+    let left = take_at c.spend.new.trees (drop (length c.spend.new.trees) a.trees.items) a.trees.len long in
+    let trees = left ∙ e.trees ∙ ap (map cleared_tree) c.deref_mut.ensures.value in
+    spent_rest (length a.outboxes.items) (setting_in a) a.mail.mail c.spend.new.mail.mail (late_more a.mail.mail.late c.args.source) c.args.source a.firings.items a.ending c.spend.new.ending a.trees.items _ e.mail e.ending trees i.told i.rest
 
 pub invariant_of-self : goal.invariant_of-self
 invariant_of-self c =
-    let a = c.self.inside in
     let i = c.self.invariant in
-    let mail = c.add_late.ensures.late in
-    let count = ap (λ (m : Mail). length m.arrivals) mail in
-    record {
-      told = i.told;
-      rest = late_rest (setting_in a) a.mail.mail c.add_late.new.self.mail (late_more a.mail.mail.late c.args.source) a.firings.items a.ending a.trees.items mail i.rest;
-      none = i.none;
-      room = omega (arith, i.room);
-    }
+    let count = ap (λ (m : Mail). length m.arrivals) c.add_late.ensures.late in
+    record { told = i.told; rest = late_inside (goal.at.invariant_of-self c).After-add_late; none = i.none; room = omega (arith, i.room) }
+
+pub returns-then-not-runs-clause-partial : goal.returns-then-not-runs-clause-partial
+returns-then-not-runs-clause-partial c =
+    let a = c.self.inside in
+    partial_held (setting_in a) c.add_late.new.self.mail a.firings.items a.ending a.trees.items _ _ (late_inside (goal.at.returns-then-not-runs-clause-partial c).After-add_late)
+
+pub returns-then-not-runs-clause-waits : goal.returns-then-not-runs-clause-waits
+returns-then-not-runs-clause-waits c =
+    let a = c.self.inside in
+    none_waits (setting_in a) c.add_late.new.self.mail a.firings.items a.ending a.trees.items _ _ (late_inside (goal.at.returns-then-not-runs-clause-waits c).After-add_late)
 
 pub returns-then-not-runs-clause-outbox : goal.returns-then-not-runs-clause-outbox
 returns-then-not-runs-clause-outbox c =
@@ -36,19 +58,19 @@ returns-then-not-runs-clause-outbox c =
 
 pub invariant_of-self-2 : goal.invariant_of-self-2
 invariant_of-self-2 c =
-    let a = c.self.inside in
     let i = c.self.invariant in
-    let e = c.spend.ensures in
-    let count = ap (λ (m : Mail). length m.arrivals) e.mail in
-    let long : length c.spend.new.trees ≡ a.trees.len = omega (arith, c.spend.auto.trees, c.deref_mut.ensures.len) in
-    let left = take_at c.spend.new.trees (drop (length c.spend.new.trees) a.trees.items) a.trees.len long in
-    let trees = left ∙ e.trees ∙ ap (map cleared_tree) c.deref_mut.ensures.value in
-    record {
-      told = i.told;
-      rest = spent_rest (length a.outboxes.items) (setting_in a) a.mail.mail c.spend.new.mail.mail (late_more a.mail.mail.late c.args.source) c.args.source a.firings.items a.ending c.spend.new.ending a.trees.items _ e.mail e.ending trees i.told i.rest;
-      none = i.none;
-      room = omega (arith, i.room);
-    }
+    let count = ap (λ (m : Mail). length m.arrivals) c.spend.ensures.mail in
+    record { told = i.told; rest = spent_inside (goal.at.invariant_of-self-2 c).After-spend; none = i.none; room = omega (arith, i.room) }
+
+pub returns-clause-partial : goal.returns-clause-partial
+returns-clause-partial c =
+    let a = c.self.inside in
+    partial_held (setting_in a) c.spend.new.mail.mail a.firings.items c.spend.new.ending (with_items a.trees c.spend.new.trees).items _ _ (spent_inside (goal.at.returns-clause-partial c).After-spend)
+
+pub returns-clause-waits : goal.returns-clause-waits
+returns-clause-waits c =
+    let a = c.self.inside in
+    none_waits (setting_in a) c.spend.new.mail.mail a.firings.items c.spend.new.ending (with_items a.trees c.spend.new.trees).items _ _ (spent_inside (goal.at.returns-clause-waits c).After-spend)
 
 pub returns-clause-outbox : goal.returns-clause-outbox
 returns-clause-outbox c =
