@@ -13,6 +13,7 @@ use Rattle.cell_links.specs.Ends.{PosterTag, poster_links, poster_tag, sent_to}
 use Rattle.actor_cells.specs.declared.cell.Cell.{Cell}
 use Rattle.actor_cells.specs.declared.cell.CellTag.{CellTag}
 use Rattle.actor_cells.specs.AllLawful.{AreLawful}
+use Rattle.actor_cells.specs.Lawful.{cell_tag}
 use Rattle.actor_cells.specs.Prepared.{AreWired}
 use Rattle.actor_cells.specs.Tags.{AreTagsOf}
 use Rattle.pool_settling.specs.Settling.{AreFeedsWith, GoesOnFrom, IsLinkedToAll, IsScheduledOverAll, TakesFew}
@@ -72,5 +73,5 @@ seen-on v cells run hold on actor own at =
     let found = cell-at cells actor (omega (arith, within, long)) in
     prefix-trans _ _ _ (hold actor found.0 found.1) (on.history actor found.0 own found.1 at)
 
-pub few-taken : (v : SeatView) (posters : List Poster) (own : List ends.Poster) (cells : List Cell) (run : Run) → own ≡ map feed_ends posters → AreLawful cells → HoldSeen v cells → TakesFew own cells [] run → FinishesFew v posters run
-few-taken v posters own cells run same lawful seen few = record { cells = cells; lawful = lawful; seen = seen; few = subst (λ (l : List ends.Poster). TakesFew l cells [] run) same few }
+pub few-taken : (v : SeatView) (posters : List Poster) (own : List ends.Poster) (cells : List Cell) (run : Run) → own ≡ map feed_ends posters → AreLawful cells → map cell_tag cells ≡ v.tags → HoldSeen v cells → TakesFew own cells [] run → FinishesFew v posters run
+few-taken v posters own cells run same lawful tags seen few = record { cells = cells; lawful = lawful; tags = tags; seen = seen; few = subst (λ (l : List ends.Poster). TakesFew l cells [] run) same few }

@@ -13,7 +13,7 @@ use Rattle.turn_lock.specs.View.{seen_of}
 use Rattle.cell_links.specs.Ends.{sent_to}
 use Rattle.actor_cells.specs.declared.cell.Cell.{Cell}
 use Rattle.actor_cells.specs.AllLawful.{AreLawful}
-use Rattle.actor_cells.specs.Lawful.{noted}
+use Rattle.actor_cells.specs.Lawful.{cell_tag, noted}
 use Rattle.pool_settling.specs.Settling.{TakesFew}
 use Rattle.actor_pool.specs.declared.poster.Poster.{Poster}
 use Rattle.actor_pool.specs.Helpers.{SeatView}
@@ -39,11 +39,12 @@ IsScheduledOverSent plan limits posters run = (feeds : List (List (ℕ × Messag
 abbrev pub GoesOnFromSeen : SeatView → Run → Type 0
 GoesOnFromSeen v run = (actor : ℕ) (own : ActorRun) → slice_get run.actors actor ≡ Some own → IsPrefix (seen_of v actor) (map noted own.entries)
 
--- the actors were given at most what waited: of the cells that the pool had, which are lawful and go on from what was
--- seen, what had gone over links and not come and what waited in outboxes, and 17 messages for each arrival that could
--- still be recorded
+-- there are lawful cells, one with each tag of the view, in order, that go on from what was seen. Beyond what these
+-- were given, the actors of the run were given at most what had gone over links and not come, what waited in outboxes,
+-- and 17 messages for each arrival that could still be recorded
 pub record FinishesFew (v : SeatView) (posters : List Poster) (run : Run) : Type 0 where
   pub cells : List Cell
   pub lawful : AreLawful cells
+  pub tags : map cell_tag cells ≡ v.tags
   pub seen : HoldSeen v cells
   pub few : TakesFew (map feed_ends posters) cells [] run

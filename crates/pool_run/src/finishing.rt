@@ -48,8 +48,11 @@ fn finish_in<L: Ledger>(
 
 /// Closes a pool that has all its parts, brings what still waits to the actors, and gives the run that they show. The
 /// run is linked to the feeds whose posts to each actor are what the posters sent, and it is that of one schedule of
-/// single steps. The arrivals of each actor go on from what the helper had seen of it. The actors are given at most what
-/// waits in links and in outboxes, and 17 messages for each arrival that they may still record.
+/// single steps. The arrivals of each actor go on from what the helper had seen of it.
+///
+/// There are lawful cells, one with each tag that the helper knows, in order, that go on from what it had seen. Beyond
+/// what these were given, the actors are given at most what waits in links and in outboxes, and 17 messages for each
+/// arrival that they may still record.
 ///
 /// It does not wait. `NoMemory` comes where there was none, for an arrival or for the lists that it needs.
 pub fn finish(

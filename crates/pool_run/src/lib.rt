@@ -5,20 +5,18 @@
 //! (`pool_settling`), and gives the run that they show. It does not wait.
 //!
 //! A contract sees of `run_pool` what `actor_system` says of a run on one thread: the run is linked to the feeds, and
-//! it is that of one schedule of single steps. That it is the run of these threads is said by `finish`: the run is
-//! linked to whatever the posters sent, and each actor's arrivals go on from what the helper had seen of it.
+//! it is that of one schedule of single steps. `finish` says of its run that it is linked to whatever the posters sent,
+//! and that each actor's arrivals go on from what the helper had seen of it.
 //!
-//! Only tested: that the calls answer `Ok` where memory is ample, with no worker and with several, and that two workers
-//! are at their turns at once. Not said: that `run_pool` returns, that a thread is ever started, or that a worker gets
-//! a turn.
+//! Only tested, by `thread_tests`: that the calls answer `Ok` where memory is ample, with no worker and with several,
+//! and that two workers are at their turns at once. Not said: that `run_pool` returns, that a thread is ever started,
+//! or that a worker gets a turn.
 #![tactic(auto)]
 
 mod finishing;
 mod handing;
 mod parts;
 mod running;
-#[cfg(test)]
-mod tests;
 mod threads;
 
 pub use finishing::finish;

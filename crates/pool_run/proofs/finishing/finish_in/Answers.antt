@@ -16,4 +16,4 @@ pub returns-clause-seen : goal.returns-clause-seen
 returns-clause-seen g c = IfOk-weaker c.settle.result _ _ (λ run. seen-on (seat_of c.args.helper) c.in_ok-cells.cells.items run c.in_ok-cells.ensures.seen) c.settle.ensures.history
 
 pub returns-clause-few : goal.returns-clause-few
-returns-clause-few g c = IfOk-weaker c.settle.result _ _ (λ run. few-taken (seat_of c.args.helper) c.args.posters.items _ c.in_ok-cells.cells.items run c.in_ok-cells.ensures.ends c.in_ok-cells.ensures.lawful c.in_ok-cells.ensures.seen) c.settle.ensures.few
+returns-clause-few g c = IfOk-weaker c.settle.result _ _ (λ run. few-taken (seat_of c.args.helper) c.args.posters.items _ c.in_ok-cells.cells.items run c.in_ok-cells.ensures.ends c.in_ok-cells.ensures.lawful c.in_ok-cells.ensures.tags c.in_ok-cells.ensures.seen) c.settle.ensures.few
