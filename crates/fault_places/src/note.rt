@@ -1,15 +1,20 @@
 //! What a person is told.
+use crate::field::push_row_cause;
 use crate::place::{begins_character, line_around, line_start, place_of};
 use crate::refusal::{Refused, read_refusal};
-use crate::row::row_at;
-use crate::sentence::{feed_sentence, log_sentence, script_sentence};
+use crate::row::{Row, row_at};
+use crate::sentence::{feed_sentence, log_sentence};
 use join_base::{Bytes, NoMemory, byte_at, write_number};
+use script_hints::{hint_of, plain_sentence, script_of};
 use std::alloc::Global;
 
 // The most bytes that are shown of a row or a line, and of what a line has in front of a place.
 const MAX_SHOWN: usize = 200;
 
 const MAX_FRONT: usize = 120;
+
+// Each message of the program itself begins so. One on a place in a file begins with that.
+const PROGRAM: &[u8] = b"joinactors: ";
 
 // The front of the bytes, with whole characters alone.
 fn front_of(bytes: &[u8], max: usize) -> &[u8] {
@@ -47,8 +52,8 @@ fn shown(before: u8, b: u8, behind: u8) -> Option<u8> {
     }
 }
 
-// Appends the bytes as they are shown.
-fn push_shown(out: &mut Bytes, bytes: &[u8]) -> Result<(), NoMemory> {
+/// Appends the bytes as they are shown.
+pub fn push_shown(out: &mut Bytes, bytes: &[u8]) -> Result<(), NoMemory> {
     let mut before = 0;
     for place in 0..bytes.len() {
         let b = bytes[place];
@@ -60,8 +65,8 @@ fn push_shown(out: &mut Bytes, bytes: &[u8]) -> Result<(), NoMemory> {
     Ok(())
 }
 
-// Appends the name of a file. One without a sign would not be seen.
-fn push_name(out: &mut Bytes, name: &str) -> Result<(), NoMemory> {
+/// Appends the name of a file. One without a sign would not be seen.
+pub fn push_name(out: &mut Bytes, name: &str) -> Result<(), NoMemory> {
     if name.is_empty() {
         out.push_all(b"\"\"")
     } else {
@@ -93,31 +98,7 @@ fn push_mark(out: &mut Bytes, front: &[u8]) -> Result<(), NoMemory> {
 fn push_cause(out: &mut Bytes, cause: &[u8], sentence: &[u8]) -> Result<(), NoMemory> {
     out.push_all(cause)?;
     out.push_all(b": ")?;
-    out.push_all(sentence)
-}
-
-// The word in front.
-fn word_in(text: &[u8]) -> &[u8] {
-    let count = text
-        .iter()
-        .take_while(|b| b.is_ascii_alphanumeric() || **b == b'_')
-        .count();
-    let (word, _) = text.split_at(count);
-    word
-}
-
-// Appends the sentence of a cause at a place, with the text from there on.
-fn push_script_cause(out: &mut Bytes, cause: &[u8], rest: &[u8]) -> Result<(), NoMemory> {
-    let (sentence, names) = script_sentence(cause, rest);
-    if rest.is_empty() && cause == b"BadSyntax".as_slice() {
-        return push_cause(out, cause, b"the script ends too early");
-    }
-    push_cause(out, cause, sentence)?;
-    if names {
-        out.push_all(b" ")?;
-        out.push_all(front_of(word_in(rest), MAX_SHOWN))?;
-    }
-    Ok(())
+    push_shown(out, sentence)
 }
 
 // What is told of a script with a fault at this place: file, line, column, cause, and the line with a mark.
@@ -129,9 +110,9 @@ fn script_note(
     cause: &[u8],
 ) -> Result<Bytes, NoMemory> {
     let at = place.min(text.len() as u64) as usize;
-    let (_, rest) = text.split_at(at);
-    let found = place_of(text, at);
-    let (front, back) = line_around(text, at);
+    let hint = hint_of(alloc, text, at, cause)?;
+    let found = place_of(text, hint.place);
+    let (front, back) = line_around(text, hint.place);
     let front = end_of(front, MAX_FRONT);
     let mut out = Bytes::new(alloc);
     push_name(&mut out, name)?;
@@ -140,7 +121,7 @@ fn script_note(
     out.push_all(b":")?;
     write_number(&mut out, found.column as i128)?;
     out.push_all(b": ")?;
-    push_script_cause(&mut out, cause, rest)?;
+    push_cause(&mut out, cause, hint.sentence.bytes())?;
     out.push_all(b"\n    ")?;
     push_shown(&mut out, front)?;
     push_shown(&mut out, front_of(back, MAX_SHOWN - MAX_FRONT))?;
@@ -159,25 +140,42 @@ fn part_note(alloc: Global, name: &str, part: &[u8], number: u64) -> Result<Byte
     Ok(out)
 }
 
+// Appends why a row is refused, by the script where that is at hand.
+fn push_row(
+    alloc: Global,
+    out: &mut Bytes,
+    script: Option<&[u8]>,
+    row: &Row<'_>,
+    cause: &[u8],
+) -> Result<(), NoMemory> {
+    let mut sentence = Bytes::new(alloc);
+    match script {
+        Some(text) => push_row_cause(&mut sentence, &script_of(alloc, text)?, &row.fields, cause)?,
+        None => sentence.push_all(feed_sentence(cause))?,
+    }
+    push_cause(out, cause, sentence.bytes())
+}
+
 // What is told of a feed with a row in fault: file, line, row, cause, and the row.
 fn feed_note(
     alloc: Global,
     name: &str,
     text: &[u8],
-    row: u64,
+    script: Option<&[u8]>,
+    number: u64,
     cause: &[u8],
 ) -> Result<Bytes, NoMemory> {
-    let (place, bytes) = row_at(alloc, text, row)?;
+    let row = row_at(alloc, text, number)?;
     let mut out = Bytes::new(alloc);
     push_name(&mut out, name)?;
     out.push_all(b":")?;
-    write_number(&mut out, place_of(text, place).line as i128)?;
+    write_number(&mut out, place_of(text, row.place).line as i128)?;
     out.push_all(b": row ")?;
-    write_number(&mut out, i128::from(row))?;
+    write_number(&mut out, i128::from(number))?;
     out.push_all(b": ")?;
-    push_cause(&mut out, cause, feed_sentence(cause))?;
+    push_row(alloc, &mut out, script, &row, cause)?;
     out.push_all(b"\n")?;
-    push_line(&mut out, bytes)?;
+    push_line(&mut out, row.bytes)?;
     Ok(out)
 }
 
@@ -194,7 +192,7 @@ fn log_note(
         Some(start) if start < text.len() => {
             let (_, back) = line_around(text, start);
             let is_ended = back.len() < text.len() - start;
-            push_cause(&mut out, cause, log_sentence(cause, back, is_ended))?;
+            push_cause(&mut out, cause, log_sentence(cause, back, line, is_ended))?;
             out.push_all(b"\n")?;
             push_line(&mut out, back)?;
         }
@@ -216,9 +214,25 @@ pub fn refusal_note(
 ) -> Result<Bytes, NoMemory> {
     match read_refusal(line) {
         Some(Refused::Script { place, cause }) => script_note(alloc, name, text, place, cause),
-        Some(Refused::Feed { row, cause }) => feed_note(alloc, name, text, row, cause),
+        Some(Refused::Feed { row, cause }) => feed_note(alloc, name, text, None, row, cause),
         Some(Refused::Log { line, cause }) => log_note(alloc, name, text, line, cause),
         None => Ok(Bytes::new(alloc)),
+    }
+}
+
+/// The same, where the script is at hand, by which a row of a feed is told in full.
+pub fn refusal_note_by(
+    alloc: Global,
+    name: &str,
+    text: &[u8],
+    script: &[u8],
+    line: &[u8],
+) -> Result<Bytes, NoMemory> {
+    match read_refusal(line) {
+        Some(Refused::Feed { row, cause }) => {
+            feed_note(alloc, name, text, Some(script), row, cause)
+        }
+        _ => refusal_note(alloc, name, text, line),
     }
 }
 
@@ -241,8 +255,7 @@ fn blind_note(
 pub fn unseen_note(alloc: Global, name: &str, line: &[u8]) -> Result<Bytes, NoMemory> {
     match read_refusal(line) {
         Some(Refused::Script { place, cause }) => {
-            let (sentence, _) = script_sentence(cause, &[]);
-            blind_note(alloc, name, b": byte ", place, cause, sentence)
+            blind_note(alloc, name, b": byte ", place, cause, plain_sentence(cause))
         }
         Some(Refused::Feed { row, cause }) => {
             blind_note(alloc, name, b": row ", row, cause, feed_sentence(cause))
@@ -254,7 +267,7 @@ pub fn unseen_note(alloc: Global, name: &str, line: &[u8]) -> Result<Bytes, NoMe
                 b":",
                 line,
                 cause,
-                log_sentence(cause, &[], true),
+                log_sentence(cause, &[], 0, true),
             )
         }
         None => Ok(Bytes::new(alloc)),
@@ -264,6 +277,7 @@ pub fn unseen_note(alloc: Global, name: &str, line: &[u8]) -> Result<Bytes, NoMe
 /// What is told of a file that could not be read, with the words of the system.
 pub fn read_note(alloc: Global, name: &str, why: &str) -> Result<Bytes, NoMemory> {
     let mut out = Bytes::new(alloc);
+    out.push_all(PROGRAM)?;
     push_name(&mut out, name)?;
     out.push_all(b": ")?;
     out.push_all(why.as_bytes())?;
@@ -274,6 +288,7 @@ pub fn read_note(alloc: Global, name: &str, why: &str) -> Result<Bytes, NoMemory
 /// What is told of a file that has more bytes than are read.
 pub fn long_note(alloc: Global, name: &str, max: u64) -> Result<Bytes, NoMemory> {
     let mut out = Bytes::new(alloc);
+    out.push_all(PROGRAM)?;
     push_name(&mut out, name)?;
     out.push_all(b": more than ")?;
     write_number(&mut out, i128::from(max))?;
@@ -283,5 +298,5 @@ pub fn long_note(alloc: Global, name: &str, max: u64) -> Result<Bytes, NoMemory>
 
 /// What is told of output that could not be written, with the words of the system.
 pub fn write_note(alloc: Global, why: &str) -> Result<Bytes, NoMemory> {
-    read_note(alloc, "joinactors: the output could not be written", why)
+    read_note(alloc, "the output could not be written", why)
 }

@@ -42,24 +42,41 @@ fn row_between(bytes: &[u8], start: u64, end: u64) -> (usize, &[u8]) {
     (start + skipped, without_line_ends(&piece[skipped..]))
 }
 
-/// Where the record of this number, counted from 1, begins, and its bytes; the end and none where there is no such record.
-pub fn row_at(alloc: Global, bytes: &[u8], row: u64) -> Result<(usize, &[u8]), NoMemory> {
+/// A row of a feed: where it begins, its bytes, and its fields.
+#[derive(Drop)]
+pub struct Row<'a> {
+    pub place: usize,
+    pub bytes: &'a [u8],
+    pub fields: ByteRecord,
+}
+
+/// The record of this number, counted from 1. Where there is no such record, it has no fields, and its place is the end.
+pub fn row_at(alloc: Global, bytes: &[u8], row: u64) -> Result<Row<'_>, NoMemory> {
     let mut reader = ReaderBuilder::new()
         .has_headers(false)
         .flexible(true)
         .from_reader(alloc, bytes);
-    let mut record = ByteRecord::new(alloc);
+    let mut fields = ByteRecord::new(alloc);
     for number in 1..u64::MAX {
         let start = reader.position().byte();
-        match reader.read_byte_record(&mut record) {
+        match reader.read_byte_record(&mut fields) {
             Ok(true) => {
                 if number == row {
-                    return Ok(row_between(bytes, start, reader.position().byte()));
+                    let (place, bytes) = row_between(bytes, start, reader.position().byte());
+                    return Ok(Row {
+                        place,
+                        bytes,
+                        fields,
+                    });
                 }
             }
-            Ok(false) => return Ok((bytes.len(), &[])),
+            Ok(false) => break,
             Err(_) => return Err(NoMemory),
         }
     }
-    Ok((bytes.len(), &[]))
+    Ok(Row {
+        place: bytes.len(),
+        bytes: &[],
+        fields: ByteRecord::new(alloc),
+    })
 }

@@ -22,50 +22,6 @@ pub const LIMITS: &[u8] =
   end jammed: at --partials, end spent: at --arrivals
 ";
 
-// Why no token begins where these bytes stand.
-fn token_sentence(rest: &[u8]) -> &'static [u8] {
-    match rest {
-        [b'"', ..] => {
-            b"no text begins here: it does not end, an escape is wrong or missing, or it has more than 120 bytes"
-        }
-        [b'=', ..] => b"this is no sign (equal is ==)",
-        [b'|', ..] => b"this is no sign (or is ||)",
-        [b'0'..=b'9', ..] => b"the number is greater than 9223372036854775807",
-        [b'A'..=b'Z' | b'a'..=b'z' | b'_', ..] => b"the name has more than 64 bytes",
-        [0xEF, 0xBB, 0xBF, ..] => b"a byte order mark stands here; save the file without one",
-        _ => b"no word, number, text or sign begins here, or it is too long",
-    }
-}
-
-/// Why a script is refused where these bytes stand, and whether the word there belongs behind it.
-pub fn script_sentence(cause: &[u8], rest: &[u8]) -> (&'static [u8], bool) {
-    match cause {
-        b"NotText" => (b"from here on the file is not UTF-8", false),
-        b"BadToken" => (token_sentence(rest), false),
-        b"BadSyntax" => (b"a script doesn't go on like this", false),
-        b"TooMany" => (
-            b"this is one more than the limit (docs/LANGUAGE.md, Limits)",
-            false,
-        ),
-        b"TwiceDeclared" => (b"there is an earlier declaration of the name", true),
-        b"UnknownMessage" => (b"no message has the name", true),
-        b"UnknownActor" => (b"no actor has the name", true),
-        b"UnknownName" => (b"no variable of this definition has the name", true),
-        b"WrongCount" => (b"the number of fields is not that of the message", true),
-        b"WrongType" => (
-            b"an int stands where a text is wanted, or a text where an int is",
-            false,
-        ),
-        b"StopNotLast" => (b"stop has to be the last statement of its body", false),
-        b"BadWindow" => (b"the number of a window is from 1 to 1000000", false),
-        b"BadReply" => (
-            b"no pattern has this number, or the body has replied to it before",
-            false,
-        ),
-        _ => (b"refused", false),
-    }
-}
-
 /// Why a row is refused.
 pub fn feed_sentence(cause: &[u8]) -> &'static [u8] {
     match cause {
@@ -81,19 +37,29 @@ pub fn feed_sentence(cause: &[u8]) -> &'static [u8] {
     }
 }
 
+// Why this is no head of a log.
+fn head_sentence(line: &[u8]) -> &'static [u8] {
+    match line.strip_prefix(b"joinlog ".as_slice()) {
+        None => b"a log begins with its head: joinlog 2 arrivals N partials N feeds N",
+        Some([b'1' | b'2', b' ', ..]) => b"no log of this script goes on like this",
+        Some(_) => b"logs of versions 1 and 2 are read",
+    }
+}
+
 // Why this is no line of a log.
-fn line_sentence(line: &[u8], is_ended: bool) -> &'static [u8] {
+fn line_sentence(line: &[u8], number: u64, is_ended: bool) -> &'static [u8] {
     match line {
         _ if !is_ended => b"the log ends within this line",
         [.., b'\r'] => b"the line ends in a carriage return, and a log has none",
+        _ if number == 1 => head_sentence(line),
         _ => b"no log of this script goes on like this",
     }
 }
 
 /// Why a line of a log is refused, and whether a line feed ends it.
-pub fn log_sentence(cause: &[u8], line: &[u8], is_ended: bool) -> &'static [u8] {
+pub fn log_sentence(cause: &[u8], line: &[u8], number: u64, is_ended: bool) -> &'static [u8] {
     match cause {
-        b"LogFault" => line_sentence(line, is_ended),
+        b"LogFault" => line_sentence(line, number, is_ended),
         b"Differs" => b"the actors of this script do something else with these arrivals",
         _ => b"refused",
     }

@@ -3,9 +3,13 @@
 //! or runs a building of its own and prints a summary.
 #![tactic(auto)]
 
+mod again;
 mod note;
+mod remark;
+mod watched;
 
 use crate::note::{tell, tell_no_memory};
+use crate::watched::WatchedSink;
 use join_base::{NoMemory, Word, WordList};
 use join_command::{FreeGate, Status, join_main};
 use std::alloc::Global;
@@ -42,7 +46,7 @@ fn main(rt: HostRuntime) -> ExitCode {
     let status = match command_line(&rt) {
         Ok(words) => {
             let mut inputs = FileInputs::new(&rt);
-            let mut out = OutSink::new(rt.stdout());
+            let mut out = WatchedSink::new(rt.alloc(), OutSink::new(rt.stdout()));
             let status = join_main(&rt, rt.alloc(), &words, &mut inputs, &mut out, &FreeGate);
             tell(&rt, &words, status, &inputs, &out);
             status

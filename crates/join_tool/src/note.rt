@@ -1,12 +1,15 @@
 //! What a person is told on standard error. Nothing rests on it: the output and the status stand before.
+use crate::again::read_again;
+use crate::remark::{feeds_remark, script_remark, script_to_remark};
+use crate::watched::WatchedSink;
 use command_words::Request;
 use fault_places::{
-    LIMITS, NO_MEMORY, USAGE, long_note, read_note, refusal_note, unseen_note, write_note,
+    NO_MEMORY, long_note, read_note, refusal_note, refusal_note_by, unseen_note, words_note,
+    write_note,
 };
-use join_base::{Bytes, Inputs, NoMemory, Word, WordList};
+use join_base::{Bytes, NoMemory, Word, WordList};
 use join_command::{MAX_FILE, MAX_LOG, Status, command_of, write_all};
 use std::alloc::Global;
-use std::fs;
 use std::io::{self, Write};
 use system_files::{FileInputs, OutSink};
 
@@ -32,12 +35,6 @@ fn most_of(command: &Request<'_>, number: u64) -> u64 {
     }
 }
 
-fn text_of(alloc: Global, text: &[u8]) -> Result<Bytes, NoMemory> {
-    let mut bytes = Bytes::new(alloc);
-    bytes.push_all(text)?;
-    Ok(bytes)
-}
-
 fn words_of(alloc: Global, error: io::Error) -> Result<String, NoMemory> {
     let words = format!(in alloc; "{error}")?;
     Ok(words)
@@ -50,22 +47,27 @@ fn read_fault_note(alloc: Global, name: &str, error: Option<io::Error>) -> Resul
     }
 }
 
-// The bytes of a file that can be read twice, and else none.
-fn read_again(rt: &HostRuntime, name: &str) -> Option<Bytes> {
-    match fs::metadata(rt, name) {
-        Ok(known) if known.is_file() => {
-            let mut inputs = FileInputs::new(rt);
-            inputs.fetch(rt.alloc(), name, MAX_LOG).ok()
-        }
+// The bytes of the script of a run, where it can be read again.
+fn script_again(rt: &HostRuntime, command: &Request<'_>) -> Option<Bytes> {
+    match command {
+        Request::Run(run) => read_again(rt, run.script.as_str()),
         _ => None,
     }
 }
 
 // What is told of the file whose refusal was written.
-fn refused_note(rt: &HostRuntime, name: &str, line: &[u8]) -> Result<Bytes, NoMemory> {
-    match read_again(rt, name) {
-        Some(text) => refusal_note(rt.alloc(), name, text.bytes(), line),
-        None => unseen_note(rt.alloc(), name, line),
+fn refused_note(
+    rt: &HostRuntime,
+    command: &Request<'_>,
+    name: &str,
+    line: &[u8],
+) -> Result<Bytes, NoMemory> {
+    let Some(text) = read_again(rt, name) else {
+        return unseen_note(rt.alloc(), name, line);
+    };
+    match script_again(rt, command) {
+        Some(script) => refusal_note_by(rt.alloc(), name, text.bytes(), script.bytes(), line),
+        None => refusal_note(rt.alloc(), name, text.bytes(), line),
     }
 }
 
@@ -88,7 +90,7 @@ fn file_note(
     match status {
         Status::ReadFault => read_fault_note(alloc, name.as_str(), inputs.error()),
         Status::TooLong => long_note(alloc, name.as_str(), most_of(&command, fetches)),
-        _ => refused_note(rt, name.as_str(), line),
+        _ => refused_note(rt, &command, name.as_str(), line),
     }
 }
 
@@ -104,20 +106,20 @@ fn note_of<W: Write + Drop>(
     words: &WordList,
     status: Status,
     inputs: &FileInputs<'_, HostRuntime>,
-    out: &OutSink<W>,
+    out: &WatchedSink<OutSink<W>>,
 ) -> Result<Bytes, NoMemory> {
     let alloc = rt.alloc();
     match status {
         Status::Done => Ok(Bytes::new(alloc)),
-        Status::Limits => text_of(alloc, LIMITS),
-        Status::Usage => text_of(alloc, USAGE),
+        Status::Limits => out.note(),
+        Status::Usage => words_note(alloc, words),
         Status::NoMemory => Err(NoMemory),
-        Status::WriteFault => write_fault_note(alloc, out.error()),
+        Status::WriteFault => write_fault_note(alloc, out.sink.error()),
         Status::ScriptRefused
         | Status::FeedRefused
         | Status::LogRefused
         | Status::ReadFault
-        | Status::TooLong => file_note(rt, words, status, inputs, out.front()),
+        | Status::TooLong => file_note(rt, words, status, inputs, out.sink.front()),
     }
 }
 
@@ -130,16 +132,42 @@ pub fn tell_no_memory(rt: &HostRuntime) {
     tell_bytes(rt, NO_MEMORY);
 }
 
-/// Tells why a call came to nothing, or that an actor met a limit.
+// What is remarked besides, where the script has no fault.
+fn remark_of(
+    rt: &HostRuntime,
+    words: &WordList,
+    status: Status,
+    has_jammed: bool,
+) -> Result<Bytes, NoMemory> {
+    let alloc = rt.alloc();
+    let mut out = Bytes::new(alloc);
+    match (status, command_of(alloc, words)?) {
+        (Status::Done | Status::Limits | Status::FeedRefused, Some(command)) => {
+            if let Some(script) = script_to_remark(&command, has_jammed) {
+                out.push_all(script_remark(rt, script)?.bytes())?;
+            }
+            out.push_all(feeds_remark(rt, &command)?.bytes())?;
+        }
+        _ => {}
+    }
+    Ok(out)
+}
+
+fn tell_all(rt: &HostRuntime, note: Result<Bytes, NoMemory>) {
+    match note {
+        Ok(note) => tell_bytes(rt, note.bytes()),
+        Err(NoMemory) => tell_no_memory(rt),
+    }
+}
+
+/// Tells why a call came to nothing, or that an actor met a limit, and what else is to be remarked.
 pub fn tell<W: Write + Drop>(
     rt: &HostRuntime,
     words: &WordList,
     status: Status,
     inputs: &FileInputs<'_, HostRuntime>,
-    out: &OutSink<W>,
+    out: &WatchedSink<OutSink<W>>,
 ) {
-    match note_of(rt, words, status, inputs, out) {
-        Ok(note) => tell_bytes(rt, note.bytes()),
-        Err(NoMemory) => tell_no_memory(rt),
-    }
+    tell_all(rt, note_of(rt, words, status, inputs, out));
+    tell_all(rt, remark_of(rt, words, status, out.has_jammed()));
 }

@@ -1,0 +1,279 @@
+//! Which word of the command line is at fault, and why.
+use crate::note::push_shown;
+use crate::sentence::USAGE;
+use join_base::{Bytes, NoMemory, Word, WordList, read_integer, write_number};
+use std::alloc::Global;
+
+// A command: its name, how many words it wants besides its options, what these are, and whether it has options.
+type Command = (&'static [u8], usize, usize, &'static [u8], bool);
+
+const COMMANDS: &[Command] = &[
+    (
+        b"run",
+        2,
+        17,
+        b"a script and 1 to 16 feeds are wanted",
+        true,
+    ),
+    (b"check", 1, 1, b"one script is wanted", false),
+    (b"lint", 1, 1, b"one script is wanted", false),
+    (b"replay", 2, 2, b"a script and a log are wanted", false),
+    (b"load", 1, 1, b"a number from 1 to 20000 is wanted", false),
+];
+
+const MOST_ROWS: i64 = 20_000;
+
+// The name of an option, and the greatest number that it may have.
+type Choice = (&'static [u8], i64);
+
+const OPTIONS: &[Choice] = &[
+    (b"workers", 64),
+    (b"ring", 4_096),
+    (b"arrivals", 1_000_000),
+    (b"partials", 1_000_000),
+];
+
+/// What is wrong with the words.
+#[derive(Clone, Copy)]
+enum Wrong<'a> {
+    /// There are none.
+    NoWords,
+    /// They ask for help.
+    Help,
+    NoCommand(&'a [u8]),
+    /// The command has no options.
+    NoOptions(&'a [u8]),
+    NoOption(&'a [u8]),
+    /// An option begins with two dashes.
+    OneDash(&'a [u8]),
+    NoNumber(Choice),
+    BadNumber(Choice, &'a [u8]),
+    Twice(&'a [u8]),
+    Count(usize),
+    BadRows(&'a [u8]),
+}
+
+fn command_named(name: &[u8]) -> Option<Command> {
+    COMMANDS.iter().find(|command| command.0 == name).copied()
+}
+
+fn option_named(name: &[u8]) -> Option<Choice> {
+    OPTIONS.iter().find(|option| option.0 == name).copied()
+}
+
+// What stands in front of the first `=`, and behind it, where there is one.
+fn cut(text: &[u8]) -> (&[u8], Option<&[u8]>) {
+    let count = text.iter().take_while(|b| **b != b'=').count();
+    let (name, rest) = text.split_at(count.min(text.len()));
+    match rest {
+        [_, value @ ..] => (name, Some(value)),
+        [] => (name, None),
+    }
+}
+
+fn is_in_range(value: &[u8], most: i64) -> bool {
+    match read_integer(value) {
+        Some(number) => 1 <= number && number <= most,
+        None => false,
+    }
+}
+
+// What is wrong with an option that has this value, or the word behind it.
+fn wrong_value<'a>(
+    option: Choice,
+    value: Option<&'a [u8]>,
+    behind: Option<&'a [u8]>,
+) -> Option<Wrong<'a>> {
+    match value.or(behind) {
+        None => Some(Wrong::NoNumber(option)),
+        Some(value) if is_in_range(value, option.1) => None,
+        Some(value) => Some(Wrong::BadNumber(option, value)),
+    }
+}
+
+// What is wrong with a word that begins with a dash, in front of another one; and whether that one is its value.
+fn wrong_option<'a>(
+    command: Command,
+    word: &'a [u8],
+    behind: Option<&'a [u8]>,
+) -> (Option<Wrong<'a>>, bool) {
+    let Some(text) = word.strip_prefix(b"--".as_slice()) else {
+        return (Some(Wrong::OneDash(word)), false);
+    };
+    if !command.4 {
+        return (Some(Wrong::NoOptions(word)), false);
+    }
+    let (name, value) = cut(text);
+    match option_named(name) {
+        None => (Some(Wrong::NoOption(word)), false),
+        Some(option) => (wrong_value(option, value, behind), value.is_none()),
+    }
+}
+
+// Whether an earlier word gives the same option.
+fn is_given_before(words: &[Word], word: &[u8]) -> bool {
+    let (name, _) = cut(word);
+    words
+        .iter()
+        .any(|other| cut(other.as_str().as_bytes()).0 == name)
+}
+
+fn word_at(words: &[Word], place: usize) -> Option<&[u8]> {
+    Some(words.get(place)?.as_str().as_bytes())
+}
+
+fn is_option(word: &[u8]) -> bool {
+    word != b"-".as_slice() && word.starts_with(b"-")
+}
+
+// The first of the words behind a command that is at fault, and how many stand for themselves in front of it.
+fn wrong_word<'a>(command: Command, words: &'a [Word]) -> (Option<Wrong<'a>>, usize) {
+    let mut files = 0usize;
+    let mut is_value = false;
+    for place in 0..words.len() {
+        let word = words[place].as_str().as_bytes();
+        if is_value {
+            is_value = false;
+        } else if word == b"--".as_slice() {
+            return (None, files.saturating_add(words.len() - place - 1));
+        } else if is_option(word) {
+            let (wrong, takes_next) = wrong_option(command, word, word_at(words, place + 1));
+            if wrong.is_some() {
+                return (wrong, files);
+            }
+            let (front, _) = words.split_at(place);
+            if is_given_before(front, word) {
+                return (Some(Wrong::Twice(word)), files);
+            }
+            is_value = takes_next;
+        } else {
+            files = files.saturating_add(1);
+        }
+    }
+    (None, files)
+}
+
+// What is wrong with the number of `load`.
+fn wrong_rows<'a>(command: Command, words: &'a [Word]) -> Option<Wrong<'a>> {
+    match words {
+        [word] if command.0 == b"load".as_slice() => {
+            let word = word.as_str().as_bytes();
+            if is_in_range(word, MOST_ROWS) {
+                None
+            } else {
+                Some(Wrong::BadRows(word))
+            }
+        }
+        _ => None,
+    }
+}
+
+fn wrong_of<'a>(command: Command, words: &'a [Word]) -> Option<Wrong<'a>> {
+    let (wrong, files) = wrong_word(command, words);
+    if wrong.is_some() {
+        return wrong;
+    }
+    if files < command.1 || files > command.2 {
+        return Some(Wrong::Count(files));
+    }
+    wrong_rows(command, words)
+}
+
+fn is_help(word: &[u8]) -> bool {
+    let asked: [&[u8]; 3] = [b"help", b"--help", b"-h"];
+    asked.contains(&word)
+}
+
+fn push_pieces(out: &mut Bytes, pieces: &[&[u8]]) -> Result<(), NoMemory> {
+    for piece in pieces {
+        out.push_all(piece)?;
+    }
+    Ok(())
+}
+
+fn push_range(out: &mut Bytes, option: Choice) -> Result<(), NoMemory> {
+    out.push_all(b"--")?;
+    out.push_all(option.0)?;
+    out.push_all(b": a number from 1 to ")?;
+    write_number(out, i128::from(option.1))
+}
+
+// Appends what is wrong with the words of a command.
+fn push_wrong(
+    out: &mut Bytes,
+    command: &[u8],
+    wanted: &[u8],
+    wrong: Wrong<'_>,
+) -> Result<(), NoMemory> {
+    match wrong {
+        Wrong::NoWords => out.push_all(b"no command is given, or a word of it is not UTF-8"),
+        Wrong::Help => out.push_all(b"these are the commands"),
+        Wrong::NoCommand(word) => push_pieces(out, &[word, b" is no command"]),
+        Wrong::NoOptions(word) => push_pieces(
+            out,
+            &[command, b" has no options, and ", word, b" begins like one"],
+        ),
+        Wrong::NoOption(word) => push_pieces(out, &[word, b" is no option of ", command]),
+        Wrong::OneDash(word) => push_pieces(
+            out,
+            &[
+                word,
+                b" is no option of ",
+                command,
+                b", and behind -- a word is a file",
+            ],
+        ),
+        Wrong::NoNumber(option) => {
+            push_range(out, option)?;
+            out.push_all(b" is wanted behind it")
+        }
+        Wrong::BadNumber(option, value) => {
+            push_range(out, option)?;
+            push_pieces(out, &[b" is wanted, and not ", value])
+        }
+        Wrong::Twice(word) => {
+            let (name, _) = cut(word);
+            push_pieces(out, &[name, b" is given twice"])
+        }
+        Wrong::Count(count) => {
+            push_pieces(out, &[command, b": ", wanted, b", and there "])?;
+            if count == 1 {
+                return out.push_all(b"is 1 word");
+            }
+            out.push_all(b"are ")?;
+            write_number(out, count as i128)?;
+            out.push_all(b" words")
+        }
+        Wrong::BadRows(word) => push_pieces(out, &[command, b": ", wanted, b", and not ", word]),
+    }
+}
+
+// Appends which of the words is at fault, and why.
+fn push_word_fault(out: &mut Bytes, words: &[Word]) -> Result<(), NoMemory> {
+    let [name, behind @ ..] = words else {
+        return push_wrong(out, &[], &[], Wrong::NoWords);
+    };
+    let name = name.as_str().as_bytes();
+    if is_help(name) {
+        return push_wrong(out, &[], &[], Wrong::Help);
+    }
+    let Some(command) = command_named(name) else {
+        return push_wrong(out, &[], &[], Wrong::NoCommand(name));
+    };
+    match wrong_of(command, behind) {
+        Some(wrong) => push_wrong(out, name, command.3, wrong),
+        None => push_wrong(out, &[], &[], Wrong::Help),
+    }
+}
+
+/// What is told of words that are no command: the word at fault and why, and then the commands.
+pub fn words_note(alloc: Global, words: &WordList) -> Result<Bytes, NoMemory> {
+    let mut out = Bytes::new(alloc);
+    out.push_all(b"joinactors: ")?;
+    let mut fault = Bytes::new(alloc);
+    push_word_fault(&mut fault, words.as_slice())?;
+    push_shown(&mut out, fault.bytes())?;
+    out.push_all(b"\n")?;
+    out.push_all(USAGE)?;
+    Ok(out)
+}
