@@ -30,6 +30,3 @@ pub use cell::{Cell, CellTag, LinkTally};
 pub use cells::Cells;
 pub use preparing::prepare;
 pub use serving::Turned;
-
-#[cfg(test)]
-mod tests;

@@ -204,8 +204,8 @@ impl Cell {
     /// Moves posts from the outboxes to their links as far as room is known, brings messages of the inward links to the
     /// actor in rounds, and moves the posts that each of them made. What the actor posts to itself comes before the
     /// next message of another link, at least the first `OWN` in a row. `More` exactly where `MOST` messages were
-    /// taken. A post that is left in its outbox then waits for a link that is known to have no room. After `NoMemory` the message that was refused still waits first on its link, and the earlier ones have
-    /// arrived.
+    /// taken. A post that is left in its outbox then waits for a link that is known to have no room. After `NoMemory`
+    /// the message that was refused still waits first on its link, and the earlier ones have arrived.
     pub fn serve<L: Ledger>(
         &mut self,
         alloc: Global,

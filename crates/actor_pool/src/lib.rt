@@ -8,12 +8,12 @@
 //!
 //! A contract sees of a helper the view of its seat (`seat_of`) and of its pass (`pass_of`), and of a poster its links,
 //! their tag and the view of its seat. A helper goes on (`GoesOn`): it sees no less, and its tries, claims and empty
-//! takes don't fall. A turn shows by the tallies that were found and left what it answers; a worker made a claim for
-//! each ticket of an actor that it took. Between any two atomic steps, in every schedule, a cell that nobody has the
-//! turn of is lawful, by the rule of the lock.
+//! takes don't fall. A turn shows by the tallies that were found and left what it answers; a worker made at least as
+//! many claims as it took tickets of actors. Between any two atomic steps, in every schedule, a cell that nobody has
+//! the turn of is lawful, by the rule of the lock.
 //!
 //! Not said: that the calls answer `Ok` where memory is ample, that a turn is ever got, who announces whom, or that
-//! `feed`, `work` and `announce` return. Its tests are those of `pool_run`.
+//! `feed`, `work` and `announce` return. Its tests are those of `thread_tests`.
 #![tactic(auto)]
 
 mod announcing;

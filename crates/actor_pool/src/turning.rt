@@ -47,9 +47,9 @@ fn serve_noted<L: Ledger>(
 ///
 /// `More` comes exactly where 256 messages were taken, and `Dry` only where each inward link was looked at and showed
 /// none: the tallies that the seat keeps, as found and as left, show it. `Busy` comes exactly where the one claim found
-/// another seat at the actor: at each other answer it found none, and the cell that the lock held came back lawful, with
-/// a history that goes on. At `NoMemory` the earlier messages of this turn have arrived, and the one that was refused
-/// waits first on its link. It does not wait.
+/// another seat at the actor: at each other answer it found none, and the cell that the lock held came back lawful,
+/// with a history that goes on. At `NoMemory` the earlier messages of this turn have arrived, and the one that was
+/// refused waits first on its link. It does not wait.
 pub fn turn<L: Ledger>(
     alloc: Global,
     pool: &Pool,

@@ -20,6 +20,3 @@ mod source;
 mod system;
 
 pub use system::System;
-
-#[cfg(test)]
-mod tests;

@@ -23,6 +23,3 @@ mod texts;
 pub use actor::Actor;
 pub use refused::Refused;
 pub use room::give_room_back;
-
-#[cfg(test)]
-mod tests;

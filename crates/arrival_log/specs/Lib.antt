@@ -2,5 +2,3 @@
 pub mod LogText
 -- what private functions append
 pub mod Commas
--- the runs that tests print
-pub mod Samples

@@ -8,8 +8,9 @@
 //! - `needs_no_escape` says whether a text is its own quoted form but for the quotes.
 //!
 //! A contract sees the text as a function of the plan and the run, `log_text` (specs/LogText), and its pieces as
-//! `head_line`, `actor_lines` and the parts of these. That it reads back as that run is a matter of `log_reader`. Only
-//! tested: that `print_log` answers `Ok` where memory is ample, on two whole logs.
+//! `head_line`, `actor_lines` and the parts of these. That it reads back as that run is a matter of `log_reader`. Whole
+//! log texts stand in proofs/Examples, computed by `log_text`. Only tested: that `print_log` answers `Ok` where memory
+//! is ample (`reading_tests`).
 #![tactic(auto)]
 
 mod lines;
@@ -21,6 +22,3 @@ mod whole;
 pub use lines::{write_actor, write_entry, write_head, write_heading, write_last_lines};
 pub use print::print_log;
 pub use room::needs_no_escape;
-
-#[cfg(test)]
-mod tests;

@@ -1,5 +1,5 @@
-//! The parts of a line. Each function appends one part. Without memory what stood before stays, and some of the part may
-//! stay appended.
+//! The parts of a line. Each function appends one part. Without memory what stood before stays, and some of the part
+//! may stay appended.
 ghost use Rattle.std.specs.Prelude.{◌≡◌, ◌++◌, ◌∷◌, [], map, OnOk, OnErr, length, take};
 ghost use Rattle.std.specs.Fmt.{decimal};
 ghost use Rattle.join_base.specs.Fields.{value_seen};

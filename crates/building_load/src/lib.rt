@@ -9,7 +9,7 @@
 //! A contract sees all three as values of specs/: `load_plan` writes the kinds, the actors and the rules out,
 //! `load_feed` each row by its place, and `summary_text` the lines.
 //!
-//! Only tested: that the plan is that of its script as text (in `join_command`, which reads scripts).
+//! That the plan is that of its script as text is neither proved nor tested.
 #![tactic(auto)]
 
 mod feed;
@@ -20,6 +20,3 @@ mod totals;
 pub use feed::{load_feed, load_feeds};
 pub use plan::load_plan;
 pub use totals::summary;
-
-#[cfg(test)]
-mod tests;

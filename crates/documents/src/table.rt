@@ -20,6 +20,7 @@ pub const PRINTED: &[(&str, &[&str])] = &[
         "bounded_buffer.log",
         &["run", "bounded_buffer.join", "bounded_buffer.feed"],
     ),
+    ("boxes.log", &["run", "boxes.join", "boxes.feed"]),
     (
         "dark_room.log",
         &["run", "dark_room.join", "dark_room.feed"],
@@ -44,6 +45,7 @@ pub const PRINTED: &[(&str, &[&str])] = &[
         "older_first.log",
         &["run", "older_first.join", "older_first.feed"],
     ),
+    ("pallets.log", &["run", "pallets.join", "pallets.feed"]),
     (
         "rate_alarm.log",
         &["run", "rate_alarm.join", "rate_alarm.feed"],
@@ -93,10 +95,12 @@ pub const ACCEPTED: &[(&str, &str)] = &[
     ("guide/10.join", "guide/10.log"),
     ("guide/11.join", "guide/11.log"),
     ("alarm.join", "alarm.log"),
+    ("boxes.join", "boxes.log"),
     ("disagreement.join", "disagreement.log"),
     ("door_alarm.join", "door_alarm.log"),
     ("hand_over.join", "hand_over.log"),
     ("older_first.join", "older_first.log"),
+    ("pallets.join", "pallets.log"),
     ("rate_alarm.join", "rate_alarm.log"),
     ("ticket_desk.join", "ticket_desk.log"),
     ("two_persons.join", "two_persons.log"),

@@ -12,8 +12,6 @@
 
 mod bound;
 mod same;
-#[cfg(test)]
-mod tests;
 
 pub use bound::{Bound, Bounds, bound_of, int_at, meets_all};
 pub use same::{Same, is_same, same_of};

@@ -22,6 +22,3 @@ pub use standing::decided;
 pub use sums::{integer, sum};
 pub use term::{Leaf, Operand, Place, Signed, Term, WordsLeaf};
 pub use truth::{holds, words};
-
-#[cfg(test)]
-mod tests;

@@ -25,8 +25,6 @@ mod quoted;
 mod slots;
 mod steps;
 mod stored;
-#[cfg(test)]
-mod tests;
 mod text;
 
 pub use fields::{Fields, PushFault, ValueRef};

@@ -18,20 +18,12 @@ mod count;
 mod law;
 mod lint_text;
 mod load;
-#[cfg(test)]
-mod load_tests;
 mod output;
 mod replay;
 mod reply;
 mod run;
-#[cfg(test)]
-mod run_tests;
 mod status;
 mod stop;
-#[cfg(test)]
-mod tests;
-#[cfg(test)]
-mod thread_tests;
 mod top;
 
 pub use actor_pool::{FreeGate, Gate};

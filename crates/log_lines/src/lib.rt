@@ -5,8 +5,8 @@
 //! - `one_line` says that no text is two lines.
 //!
 //! A contract says by `IsHead` and `IsLine` (specs/Forms) which line a text is: the line is within its bounds, and the
-//! text is its text. Where a line may stand in a log is a matter of `log_reader`. There are no tests here; those of
-//! `log_reader` read lines of each form.
+//! text is its text. Where a line may stand in a log is a matter of `log_reader`. The tests of
+//! logs in `reading_tests` read lines of each form.
 #![tactic(auto)]
 
 mod fault;

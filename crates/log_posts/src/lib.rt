@@ -7,8 +7,8 @@
 //!   it. `with_stamps` puts stamps in place of those of entries.
 //!
 //! A contract sees each answer as a function of entries and links (specs/Same, Posts, Lates and Stamps). Where memory
-//! is wanted, `NoMemory` is the one refusal. There are no tests here: those of `join_command` replay whole logs, and
-//! the program `log_tests` changed ones.
+//! is wanted, `NoMemory` is the one refusal. The program `worked_examples` replays whole logs, and `check_logs`
+//! changed ones.
 #![tactic(auto)]
 
 mod lates;

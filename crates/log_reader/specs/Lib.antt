@@ -4,5 +4,3 @@ pub mod Places
 -- what private functions compute
 pub mod Draft
 pub mod Advance
--- the plan of the tests
-pub mod Samples

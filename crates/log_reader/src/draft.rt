@@ -212,8 +212,8 @@ fn entry_with(arrival: Arrival, firing: Fired) -> Entry
     }
 }
 
-// Adds an effect to a firing, whose list has room for no more than it holds: a log has many. Room that a longer list gave
-// back would stay unused between them.
+// Adds an effect to a firing, whose list has room for no more than it holds: a log has many. Room that a longer list
+// gave back would stay unused between them.
 fn add_effect(alloc: Global, firing: &mut Firing, effect: Effect) -> Result<(), LineFault>
     ensures { Becomes result firing.new (Some (with_effect firing.old effect)) }
 {

@@ -6,7 +6,7 @@
 //!
 //! A contract says by `Answers` (specs/Log) what an answer means: a run that fits the plan and has the bytes as its log
 //! text, the exact line at fault, or want of memory. Whether actors would run so is a matter of `log_replay`. Only
-//! tested: that `read_log` answers where memory is ample, and the text of a fault.
+//! tested: that `read_log` answers where memory is ample, and the text of a fault (`reading_tests`).
 #![tactic(auto)]
 
 mod draft;
@@ -15,6 +15,3 @@ mod read;
 
 pub use fault::LogFault;
 pub use read::{one_fault, one_run, read_log};
-
-#[cfg(test)]
-mod tests;

@@ -12,9 +12,8 @@
 //! `actor_turn`, and no clause bounds them here. Beside the bytes and the run that was read, the memory of `check_log`
 //! is that of one actor at a time, of what differs, and, as text, of one entry or of the lines behind an actor's
 //! entries. Where each actor records its arrivals as they were read, an actor and its section share their messages and
-//! effects. Beside the run that was read, the memory of `replay` is that of the run that it gives. There are no tests
-//! here: those of `join_command` replay whole logs, and the program `log_tests` replays changed ones and compares
-//! expected runs.
+//! effects. Beside the run that was read, the memory of `replay` is that of the run that it gives. The program
+//! `worked_examples` replays whole logs, and `check_logs` replays changed ones and compares expected runs.
 #![tactic(auto)]
 
 mod apart;

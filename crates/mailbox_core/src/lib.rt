@@ -13,7 +13,5 @@
 mod late;
 mod live;
 mod mailbox;
-#[cfg(test)]
-mod tests;
 
 pub use mailbox::{Mailbox, Mark, Parts};

@@ -1,3 +1,25 @@
+-- The lemmas by topic:
+-- - from the routes of a tree's nodes to its paths (`kept_..` keep the invariant, `.._tree` say what is shown):
+--   KeptLemmas, ReserveLemmas, ExpireLemmas, OnceLemmas
+-- - one path and a number: SlotsLemmas, TakeLemmas, MatchLemmas
+-- - the nodes of a row: VisitLemmas, WalkLemmas
+-- - the rows: RowsLemmas
+-- - what is left, and how many routes went: PruneLemmas, CountLemmas
+-- - a row weighs more than its nodes, and a node more than the rows behind it, so that a walk down a tree ends:
+--   FallLemmas
+-- - routes that grow, are in order and leave a pattern free: GrowLemmas, OrderLemmas, OpenLemmas
+-- - the tries behind a path: TriesLemmas
+-- - rows of leaves alone, as lists of numbers (`leaf_at`, `leaf_routes`, `leaves_remove`): LeafLemmas
+-- - numbers that have not the key's value are not worth a visit (`lacking_on`): KeyLemmas
+-- - nodes that are added at a path once nothing behind it has a match (`Begins`): BeginLemmas; row by row
+--   (`begins_on`) RowsLemmas
+-- - what is known of the node that a walk has come to (`reach`), behind which it goes on or stops (`go_on`,
+--   `stop_at`): SkipLemmas
+-- - the number behind may be offered to the paths that an arrival leaves: NextLemmas
+-- - a node that fails its row's screen has no takers behind it (`lacks_key`, `fails_one`, `is_another`, `disagrees`),
+--   and is passed as it is (`passed_quiet`), many in one step too (`walk_to`): ScreenLemmas, VisitLemmas, SkipLemmas
+-- - which conjuncts are decided is the same for all numbers of a row (`tests_alike`): ScreenLemmas
+-- - a fact of each item of a list, by membership (`all_in`, `all_members`): FirstLemmas
 pub mod Examples
 pub mod SlotsLemmas
 pub mod TakeLemmas
@@ -26,4 +48,3 @@ pub mod OnceLemmas
 pub mod ExpireLemmas
 pub mod FallLemmas
 pub mod NextLemmas
-pub mod SampleLemmas

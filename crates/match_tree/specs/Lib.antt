@@ -17,5 +17,3 @@ pub mod Behind
 pub mod Pruned
 pub mod Kept
 pub mod Screen
--- What the joins and messages of tests are like.
-pub mod Samples

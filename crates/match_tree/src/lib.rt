@@ -25,8 +25,6 @@ mod reserve;
 mod row;
 mod row_numbers;
 mod screen;
-#[cfg(test)]
-mod tests;
 mod tree;
 mod visit;
 

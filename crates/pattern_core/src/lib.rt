@@ -23,6 +23,3 @@ pub use extend::{complete, has_kind, is_full, try_extend};
 pub use key::{better, fair_cmp};
 pub use law::choice_law;
 pub use window::oldest_seen;
-
-#[cfg(test)]
-mod tests;

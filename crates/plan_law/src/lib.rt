@@ -2,12 +2,9 @@
 //!
 //! - `print_law` is a law on a function without a body, over the plan of any script without a fault.
 //!
-//! There is no code here; the tests print, read and check a script.
+//! There is no code here. The crate `script_tests` prints, reads and checks scripts.
 #![tactic(auto)]
 
 mod law;
 
 pub use law::print_law;
-
-#[cfg(test)]
-mod tests;

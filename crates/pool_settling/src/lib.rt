@@ -7,7 +7,7 @@
 //! - `drain_links` is the first part of both: all that went over the links has arrived.
 //!
 //! No call waits, and each returns: a round that finds a post leaves less work, which is the posts in outboxes and 17
-//! for each arrival that an actor may still record (`all_work`). `NoMemory` comes only where there was none.
+//! for each arrival that an actor may still record (`all_work`).
 //!
 //! A contract sees of the run that it is linked to each list of feeds that are what the posters sent and then the rest
 //! (`AreFeedsWith`), that it is that of one schedule over them, and that each actor's arrivals begin with the history
@@ -22,8 +22,6 @@ mod draining;
 mod ends;
 mod rounds;
 mod settling;
-#[cfg(test)]
-mod tests;
 
 pub use draining::drain_links;
 pub use settling::{settle, settle_with};

@@ -26,9 +26,9 @@ use std::sync::ledger::Ledger;
 ///
 /// `rest` has, for the first feeds in order, the posts that their posters did not send. Those for no actor of the plan
 /// are passed over. The run is linked to the feeds whose posts to each actor are what the poster sent there, and then
-/// those of its list in `rest`. The actors are given at most what waits in links, in `rest` and in outboxes, and 17 messages
-/// for each arrival that they may still record. `NoMemory` comes only where there was none: for the lists of ends and runs, or for an
-/// arrival.
+/// those of its list in `rest`. The actors are given at most what waits in links, in `rest` and in outboxes, and 17
+/// messages for each arrival that they may still record. `NoMemory` is that of the lists of ends and runs,
+/// or of an arrival.
 pub fn settle_with<L: Ledger>(
     alloc: Global,
     plan: &Plan,

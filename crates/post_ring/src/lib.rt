@@ -8,7 +8,7 @@
 //! that it knows to wait, how many looks found nothing, and its identity. Ends of one identity are the ends of one link
 //! (`identity_law`), and once they have met, what was received and what waits is all that was sent.
 //!
-//! Only tested: that `link` answers `Ok` where memory is ample, and that between two threads no message is lost. Not said:
+//! Only tested, by `thread_tests`: that `link` answers `Ok` where memory is ample, and that between two threads no message is lost. Not said:
 //! that a message is ever seen at the other end.
 #![tactic(auto)]
 
@@ -17,8 +17,6 @@ mod link_in;
 mod link_out;
 mod links;
 mod sealed;
-#[cfg(test)]
-mod tests;
 
 pub use identity::LinkIdentity;
 pub use link_in::{Full, LinkIn};

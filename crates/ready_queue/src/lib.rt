@@ -10,15 +10,13 @@
 //! take only where it is empty. With others, a refusal and the ticket that is taken are told of a moment of the call alone.
 //! `ticket_law` says of a queue as a list what first in, first out comes to.
 //!
-//! Only tested: that `new` and `split_pass` answer `Ok` where memory is ample, and that between two threads no ticket is lost.
+//! Only tested, by `thread_tests`: that `new` and `split_pass` answer `Ok` where memory is ample, and that between two threads no ticket is lost.
 //! Not said: that `put` and `take` return, or that a ticket is ever taken.
 #![tactic(auto)]
 
 mod pass;
 mod plays;
 mod queue;
-#[cfg(test)]
-mod tests;
 mod tickets;
 mod view;
 

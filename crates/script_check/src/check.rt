@@ -10,8 +10,9 @@ use script_plan::plan_of;
 use script_types::Plan;
 use std::alloc::Global;
 
-/// The plan of a tree, in which each name is replaced by the number of its declaration; it is well typed. Otherwise the fault of its names
-/// and types at the least place, and of several at that place the first in the order of `ScriptCause`.
+/// The plan of a tree, in which each name is replaced by the number of its declaration; it is well typed. Otherwise the
+/// fault of its names and types at the least place, and of several at that place the first in the order of
+/// `ScriptCause`.
 pub fn check_script(alloc: Global, tree: &Tree) -> Result<Plan, ScriptFault>
     requires filled { IsFilled tree.now }
     ensures checks { Checks tree.now result }

@@ -1,8 +1,10 @@
 //! The faults of a script's names and types.
 //!
-//! - `first_fault` gives the fault of a tree at the least place, and of those at one place the first cause; or none, where there is none.
+//! - `first_fault` gives the fault of a tree at the least place, and of those at one place the first cause; or none,
+//!   where there is none.
 //!
-//! A contract sees all faults of a tree as one list, `faults_of`, and the one reported as the first of it, `first_fault`.
+//! A contract sees all faults of a tree as one list, `faults_of`, and the one reported as the first of it,
+//! `first_fault`.
 #![tactic(auto)]
 
 mod body;

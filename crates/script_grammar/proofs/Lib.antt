@@ -1,3 +1,11 @@
+-- The lemmas by topic:
+-- - a reader against its rule: sound, complete, and exact where it stops: ReaderLemmas, RepeatLemmas, ParseLemmas
+-- - each rule of the grammar has its reader, from the parts to the whole: AtomLemmas, StatementLemmas, RuleLemmas,
+--   DeclarationLemmas, ScriptLemmas
+-- - a loop that reads a list, turn by turn, whatever its reader (`IsLeft`: `begun`, `goes_on`, `stops`, `ends`,
+--   `turns_end`): LoopLemmas
+-- - from a rule of the grammar to a fact of each value of its list (`each_all`, `separated_all`, `listed_all`), and
+--   that a tree has no gaps: FilledLemmas
 pub mod ReaderLemmas
 pub mod RepeatLemmas
 pub mod ParseLemmas

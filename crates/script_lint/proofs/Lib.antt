@@ -1,3 +1,8 @@
+-- The lemmas by topic:
+-- - each firing of the fair semantics is the choice among the messages recorded until then (`all_sound`): FiredLemmas
+-- - what a bound says of its value, and that the value of a place is in its interval: BoundLemmas
+-- - a match has as many numbers as a window sees at least: NarrowLemmas
+-- - what implies a guard: ShadowLemmas
 pub mod Examples
 pub mod AtomLemmas
 pub mod ListLemmas

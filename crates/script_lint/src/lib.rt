@@ -24,8 +24,3 @@ mod shadow;
 pub use finding::Finding;
 pub use law::lint_law;
 pub use report::lint;
-
-#[cfg(test)]
-mod random_tests;
-#[cfg(test)]
-mod tests;

@@ -2,8 +2,8 @@
 //!
 //! - `NameTable` is a list of names, each with an item: `number_of` and `item_of` find the first of a name at once.
 //! - `Messages::fields_of` gives the fields of the message of a name.
-//! - `actor_names`, `field_names` and `variables_of` make the tables of actors, of the fields of a message, and of the variables of a
-//!   definition.
+//! - `actor_names`, `field_names` and `variables_of` make the tables of actors, of the fields of a message, and of the
+//!   variables of a definition.
 //!
 //! A contract sees a table as the list of its rows, a name and an item each.
 #![tactic(auto)]
@@ -13,6 +13,3 @@ mod table;
 
 pub use scope::{Messages, Slot, actor_names, field_names, variables_of};
 pub use table::NameTable;
-
-#[cfg(test)]
-mod tests;

@@ -2,7 +2,8 @@
 //!
 //! - `plan_of` gives the plan of a tree that is small enough for one (`IsSmall`), and its names are names (`HasNames`).
 //!
-//! A contract sees the plan as a function of the tree (specs/PlanOf). It stands for something only where the tree has no fault.
+//! A contract sees the plan as a function of the tree (specs/PlanOf). It stands for something only where the tree has
+//! no fault.
 #![tactic(auto)]
 
 mod body;

@@ -79,10 +79,10 @@ fn front_fault(
     }
 }
 
-// The tree of a text, or its fault. The tokens are cut off front by front, and each declaration is read as soon as all its
-// tokens are there. So a text that is refused early takes no memory for its other tokens. A declaration that a front cuts
-// short is read anew when there are four times as many tokens behind the last whole one, so less than 7/3 of its tokens
-// are read in all.
+// The tree of a text, or its fault. The tokens are cut off front by front, and each declaration is read as soon as all
+// its tokens are there. So a text that is refused early takes no memory for its other tokens. A declaration that a
+// front cuts short is read anew when there are four times as many tokens behind the last whole one, so less than 7/3 of
+// its tokens are read in all.
 fn read_text(alloc: Global, bytes: &[u8]) -> Result<Tree, ScriptFault>
     requires { IsUtf8 bytes.now }
     ensures { Reads bytes.now result }
@@ -103,9 +103,9 @@ fn read_text(alloc: Global, bytes: &[u8]) -> Result<Tree, ScriptFault>
     }
 }
 
-/// The tree that the bytes spell. Otherwise `NotText` behind the longest UTF-8 front where they are no text, and else the
-/// first token at which no continuation is a script: `BadToken` where no token begins there, and `BadSyntax` otherwise.
-/// The tree has no gaps.
+/// The tree that the bytes spell. Otherwise `NotText` behind the longest UTF-8 front where they are no text, and else
+/// the first token at which no continuation is a script: `BadToken` where no token begins there, and `BadSyntax`
+/// otherwise. The tree has no gaps.
 pub fn read_script(alloc: Global, bytes: &[u8]) -> Result<Tree, ScriptFault>
     ensures reads { Reads bytes.now result }
     ensures filled { IfOk result IsFilled }

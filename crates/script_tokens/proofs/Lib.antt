@@ -1,3 +1,6 @@
+-- The lemmas by topic:
+-- - how long the token in front is: WordLemmas
+-- - that a text has one list of tokens: ListLemmas
 pub mod ListLemmas
 pub mod TokenLemmas
 pub mod WordLemmas

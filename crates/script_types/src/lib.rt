@@ -16,6 +16,3 @@ mod plan;
 pub use copy::copy_variable;
 pub use names::{write_actor_name, write_kind_name};
 pub use plan::{ActorPlan, Item, Kind, Plan, Rule, Statement};
-
-#[cfg(test)]
-mod tests;

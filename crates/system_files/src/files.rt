@@ -107,8 +107,8 @@ impl<'a, R: Files> Inputs for FileInputs<'a, R> {
 
     ghost faults = { λ s. s.faults };
 
-    /// A file that is missing, a folder, or one that can't be read is `Failed`, and so is one whose reads are interrupted again
-    /// and again. Reading ends soon behind `max` bytes, so a device that never ends is `TooLong`.
+    /// A file that is missing, a folder, or one that can't be read is `Failed`, and so is one whose reads are
+    /// interrupted again and again. Reading ends soon behind `max` bytes, so a device that never ends is `TooLong`.
     fn fetch(&mut self, alloc: Global, name: &str, max: u64) -> Result<Bytes, FetchFault> {
         self.fetches = self.fetches.saturating_add(1);
         match read_file(self.rt, alloc, name, max) {

@@ -88,8 +88,8 @@ pub fn prune_all(trees: &mut [MatchTree], numbers: &Numbers)
     }
 }
 
-/// Each tree keeps what its reserve for the number has set aside, and the paths that its definition still sees once the number
-/// is recorded. No reserve may have found a match.
+/// Each tree keeps what its reserve for the number has set aside, and the paths that its definition still sees once the
+/// number is recorded. No reserve may have found a match.
 pub fn keep_all(trees: &mut [MatchTree], number: u32)
     requires few { number < 2 ^ 32 - 1 }
     requires reserved { AllByRecursion (HasReserve number) trees.old }
@@ -104,8 +104,8 @@ pub fn keep_all(trees: &mut [MatchTree], number: u32)
     }
 }
 
-/// The paths that are still seen once the number is recorded stay in each tree, and the others go. There is a reserve for the
-/// number, which stays.
+/// The paths that are still seen once the number is recorded stay in each tree, and the others go. There is a reserve
+/// for the number, which stays.
 pub fn expire_all(trees: &mut [MatchTree], number: u32)
     requires few { number < 2 ^ 32 - 1 }
     requires reserved { AllByRecursion (HasReserve number) trees.old }

@@ -10,7 +10,7 @@
 //! as the turn rule says (`TurnRule`). So a cell that is handed out is lawful, has its tag, and has a history that goes on
 //! from what the seat had seen.
 //!
-//! Only tested: that calls answer `Ok` where memory is ample, and that two threads that append lose nothing. Not said: that
+//! Only tested, by `thread_tests`: that calls answer `Ok` where memory is ample, and that two threads that append lose nothing. Not said: that
 //! a turn is ever got, or that a flag or a mark is ever looked at.
 #![tactic(auto)]
 
@@ -19,8 +19,6 @@ mod held;
 mod lock;
 mod plays;
 mod seat;
-#[cfg(test)]
-mod tests;
 mod turns;
 mod view;
 

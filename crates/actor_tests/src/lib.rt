@@ -1,0 +1,16 @@
+//! Tests of the crates on actors, from the load of a building to the run that a pool comes to. They stand apart, since a
+//! crate with tests is proved twice. There are no calls here.
+#![tactic(auto)]
+
+#[cfg(test)]
+mod fed;
+#[cfg(test)]
+mod joins;
+#[cfg(test)]
+mod load;
+#[cfg(test)]
+mod settling;
+#[cfg(test)]
+mod system;
+#[cfg(test)]
+mod turn;

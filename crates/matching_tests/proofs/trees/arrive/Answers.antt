@@ -1,0 +1,36 @@
+use Rattle.std.proofs.Common.{◌≡◌, ◌∙◌, ◌+◌, ℕ, Bool, Option, ap, sym, subst}
+use Rattle.std.specs.List.{filter, AllByRecursion}
+use Rattle.guard_eval.specs.Meaning.{Assignment}
+use Rattle.match_tree.specs.Offering.{CanOffer}
+use Rattle.match_tree.specs.Tree.{Tree, Reserve, offer_to, is_path_seen, is_path_without, IsReserved}
+use Rattle.pattern_core.specs.Window.{oldest_seen}
+use Rattle.match_tree.proofs.NextLemmas.{kept_can, left_can, both_gains}
+use Rattle.matching_tests.proofs.trees.arrive.Goals as goal
+use Rattle.matching_tests.proofs.trees.arrive.Goals.{in-None, in-Some}
+
+pub returns-clause-can : goal.returns-clause-can
+returns-clause-can g c =
+    let t : Tree = c.args.tree.now in
+    let letters = c.args.letters.now in
+    let n : ℕ = c.args.number in
+    let reserved = c.reserve_for.new.self in
+    let before : Tree = c.expire.new.self in
+    let q : Assignment → Bool = is_path_seen (oldest_seen reserved.definition.window n) in
+    let left : before.paths ≡ filter q t.paths = ap (λ (u : Tree). u.paths) c.expire.ensures ∙ ap (filter q) c.in_ok-reserve_for.ensures.paths in
+    let definition = ap (λ (u : Tree). u.definition) c.expire.ensures ∙ c.in_ok-reserve_for.ensures.definition in
+    let kept = ap (λ (u : Tree). u.reserve) c.expire.ensures in
+    let found = subst (λ (r : Option Reserve). IsReserved (offer_to t letters n) t.paths r) (sym kept) c.in_ok-reserve_for.ensures.reserved in
+    let Can : Tree → Type 0 = λ u. AllByRecursion (CanOffer (offer_to u letters (n + 1))) u.paths in
+    elim c.match-found.branch [
+      | in-None w ↦
+          let after : Tree = w.extend.new.self in
+          let gains = both_gains before.reserve c.best_with-found.result before.paths after.paths w.in-None.is c.best_with-found.ensures.best w.extend.ensures.gains in
+          subst Can (sym w.tree-is) (kept_can t before after letters n q before.reserve c.requires.recorded c.requires.can found left gains (w.extend.ensures.definition ∙ definition))
+      | in-Some w ↦
+          let forgot : Tree = w.forget.new.self in
+          let after : Tree = w.prune.new.self in
+          let p : Assignment → Bool = is_path_without w.in-Some.best.taken in
+          let paths = ap (λ (u : Tree). u.paths) w.prune.ensures ∙ ap (filter p) (ap (λ (u : Tree). u.paths) w.forget.ensures ∙ left) in
+          let same = ap (λ (u : Tree). u.definition) w.prune.ensures ∙ ap (λ (u : Tree). u.definition) w.forget.ensures ∙ definition in
+          subst Can (sym w.tree-is) (left_can t after letters n p q c.requires.recorded c.requires.can paths same)
+    ]

@@ -1,0 +1,151 @@
+use crate::made::comparison;
+use guard_bound::{Bound, Bounds, Same, bound_of, is_same, meets_all, same_of};
+use guard_eval::{Leaf, Operand, Place, Signed, Term, WordsLeaf};
+use join_base::{Fields, Items, Letters, Message, NoMemory, Relation, Text, Value};
+use std::alloc::Global;
+use std::test::Fail;
+
+fn number(value: i64) -> Signed {
+    Signed {
+        minus: false,
+        leaf: Leaf::Number(value),
+    }
+}
+
+// The first field of a pattern.
+fn field(minus: bool, pattern: u32) -> Signed {
+    Signed {
+        minus,
+        leaf: Leaf::Field(Place { pattern, field: 0 }),
+    }
+}
+
+fn sum(alloc: Global, parts: [Signed; 2]) -> Result<Operand, NoMemory> {
+    let mut leaves = Items::new(alloc);
+    leaves.push(parts[0])?;
+    leaves.push(parts[1])?;
+    Ok(Operand::Sum(Term::new(leaves)))
+}
+
+// The second field of a pattern, a text.
+fn words(pattern: u32) -> Operand {
+    Operand::Words(WordsLeaf::Field(Place { pattern, field: 1 }))
+}
+
+// A message with an integer and a text.
+fn letter(alloc: Global, value: i64, text: &[u8]) -> Result<Message, Fail> {
+    let mut fields = Fields::new(alloc);
+    let text = Text::from_bytes(alloc, text)?;
+    if fields.push(Value::Int(value)).is_err() || fields.push(Value::Words(text)).is_err() {
+        return Err(Fail::from(NoMemory));
+    }
+    Ok(Message { kind: 0, fields })
+}
+
+// Numbers 1 to 3 with 4, 5 and 3.
+fn letters(alloc: Global) -> Result<Letters, Fail> {
+    let mut letters = Items::new(alloc);
+    letters.push(letter(alloc, 4, b"left")?)?;
+    letters.push(letter(alloc, 5, b"right")?)?;
+    letters.push(letter(alloc, 3, b"right")?)?;
+    Ok(letters)
+}
+
+// What is found for pattern 0, where pattern 1 has number 2.
+fn bound_beside(
+    alloc: Global,
+    left: [Signed; 2],
+    relation: Relation,
+    right: Signed,
+) -> Result<Option<Bound>, Fail> {
+    let left = sum(alloc, left)?;
+    let right = sum(alloc, [number(0), right])?;
+    let conjunct = comparison(alloc, left, relation, right)?;
+    let letters = letters(alloc)?;
+    Ok(bound_of(letters.as_slice(), 2, 0, 1, &conjunct))
+}
+
+fn at(relation: Relation, value: i128) -> Option<Bound> {
+    Some(Bound {
+        field: 0,
+        relation,
+        value,
+    })
+}
+
+#[test]
+fn a_comparison_is_solved_for_the_one_field(rt: HostRuntime) -> Result<(), Fail> {
+    let alloc = rt.alloc();
+    let mine = field(false, 0);
+    let other = field(false, 1);
+    let raised = bound_beside(alloc, [mine, number(2)], Relation::LessEqual, other)?;
+    let apart = bound_beside(alloc, [other, field(true, 0)], Relation::Less, number(1))?;
+    let behind = bound_beside(alloc, [number(7), other], Relation::Less, mine)?;
+    let all = raised == at(Relation::LessEqual, 3)
+        && apart == at(Relation::Greater, 4)
+        && behind == at(Relation::Greater, 12);
+    assert!(rt; all);
+    Ok(())
+}
+
+#[test]
+fn a_field_that_is_there_twice_or_never_or_beside_a_third_gives_no_bound(
+    rt: HostRuntime,
+) -> Result<(), Fail> {
+    let alloc = rt.alloc();
+    let mine = field(false, 0);
+    let other = field(false, 1);
+    let twice = bound_beside(alloc, [mine, mine], Relation::Less, number(1))?;
+    let never = bound_beside(alloc, [other, other], Relation::Less, number(1))?;
+    let third = bound_beside(alloc, [mine, other], Relation::Less, field(false, 2))?;
+    assert!(rt; twice.is_none() && never.is_none() && third.is_none());
+    Ok(())
+}
+
+// Less than 5, and not 3.
+fn bounds() -> Bounds {
+    let mut bounds = Bounds::new();
+    bounds.push(Bound {
+        field: 0,
+        relation: Relation::Less,
+        value: 5,
+    });
+    bounds.push(Bound {
+        field: 0,
+        relation: Relation::NotEqual,
+        value: 3,
+    });
+    bounds
+}
+
+#[test]
+fn numbers_meet_all_bounds_or_fail_one(rt: HostRuntime) -> Result<(), Fail> {
+    let letters = letters(rt.alloc())?;
+    let letters = letters.as_slice();
+    let bounds = bounds();
+    let all = meets_all(letters, &bounds, 1)
+        && !meets_all(letters, &bounds, 2)
+        && !meets_all(letters, &bounds, 3);
+    assert!(rt; all);
+    Ok(())
+}
+
+// Whether the texts of two patterns are the same where the conjunct says they are equal.
+fn are_same_where_equal(alloc: Global) -> Result<bool, Fail> {
+    let equal = comparison(alloc, words(1), Relation::Equal, words(0))?;
+    let same = same_of(0, 1, &equal);
+    let letters = letters(alloc)?;
+    Ok(
+        same == Some(Same { field: 1, other: 1 })
+            && !is_same(letters.as_slice(), 2, same, 1)
+            && is_same(letters.as_slice(), 2, same, 3)
+            && same_of(0, 2, &equal).is_none(),
+    )
+}
+
+#[test]
+fn texts_that_a_conjunct_says_are_equal(rt: HostRuntime) -> Result<(), Fail> {
+    let differ = comparison(rt.alloc(), words(0), Relation::NotEqual, words(1))?;
+    assert!(rt; are_same_where_equal(rt.alloc())? && same_of(0, 1, &differ).is_none());
+    Ok(())
+}

@@ -1,0 +1,68 @@
+//! Operands, conjuncts and messages for the tests.
+ghost use Rattle.std.specs.Prelude.{◌≡◌, ◌∷◌, [], IfOk, false};
+ghost use Rattle.guard_eval.specs.Condition.{Compares, Either, Never};
+ghost use Rattle.guard_eval.specs.Shape.{conjunct_condition};
+
+use guard_eval::{Atom, Conjunct, Leaf, Operand, Place, Signed, Term};
+use join_base::{Fields, Items, Message, NoMemory, Relation, Value};
+use std::alloc::Global;
+
+// The sum of one leaf.
+fn sum_of(alloc: Global, leaf: Leaf) -> Result<Operand, NoMemory>
+    ensures { IfOk result (λ o. o ≡ Operand.Sum (record { minus = false; leaf = leaf } ∷ [])) }
+{
+    let mut leaves = Items::new(alloc);
+    leaves.push(Signed { minus: false, leaf })?;
+    Ok(Operand::Sum(Term::new(leaves)))
+}
+
+/// The variable of a pattern's first field.
+pub fn variable(alloc: Global, pattern: u32) -> Result<Operand, NoMemory>
+    ensures { IfOk result (λ o. o ≡ Operand.Sum (record { minus = false; leaf = Leaf.Field (record { pattern = pattern; field = 0 }) } ∷ [])) }
+{
+    sum_of(alloc, Leaf::Field(Place { pattern, field: 0 }))
+}
+
+pub fn number(alloc: Global, value: i64) -> Result<Operand, NoMemory>
+    ensures { IfOk result (λ o. o ≡ Operand.Sum (record { minus = false; leaf = Leaf.Number value } ∷ [])) }
+{
+    sum_of(alloc, Leaf::Number(value))
+}
+
+/// The conjunct of one comparison.
+pub fn comparison(
+    alloc: Global,
+    left: Operand,
+    relation: Relation,
+    right: Operand,
+) -> Result<Conjunct, NoMemory>
+    ensures { IfOk result (λ c. conjunct_condition c ≡ Either (Compares left relation right) Never) }
+{
+    let mut conjunct = Conjunct::new(alloc);
+    conjunct.push(Atom::Compare {
+        left,
+        relation,
+        right,
+    })?;
+    Ok(conjunct)
+}
+
+/// x == y, of two patterns.
+pub fn equality(alloc: Global) -> Result<Conjunct, NoMemory>
+    ensures { IfOk result (λ c. conjunct_condition c ≡ Either (Compares (Operand.Sum (record { minus = false; leaf = Leaf.Field (record { pattern = 0; field = 0 }) } ∷ [])) Relation.Equal (Operand.Sum (record { minus = false; leaf = Leaf.Field (record { pattern = 1; field = 0 }) } ∷ []))) Never) }
+{
+    let left = variable(alloc, 0)?;
+    let right = variable(alloc, 1)?;
+    comparison(alloc, left, Relation::Equal, right)
+}
+
+/// The message of a kind with its integer.
+pub fn message(alloc: Global, kind: u32, value: i64) -> Result<Message, NoMemory>
+    ensures { IfOk result (λ m. m ≡ record { kind = kind; fields = Value.Int value ∷ [] }) }
+{
+    let mut fields = Fields::new(alloc);
+    match fields.push(Value::Int(value)) {
+        Ok(()) => Ok(Message { kind, fields }),
+        Err(_) => Err(NoMemory),
+    }
+}

@@ -1,0 +1,280 @@
+ghost use Rattle.std.specs.Prelude.{◌≡◌, ◌+◌, ◌-◌, ◌^◌, ◌<◌, ◌≤◌, length, IfOk, OnOk, None, true, slice_get};
+ghost use Rattle.std.specs.List.{AllByRecursion};
+ghost use Rattle.guard_eval.specs.Meaning.{has_sort};
+ghost use Rattle.matching_tests.specs.Samples.{AreInts, AreSamples};
+ghost use Rattle.pattern_core.specs.Window.{SeesLatest, oldest_seen};
+ghost use Rattle.match_tree.specs.Tree.{offer_to};
+ghost use Rattle.match_tree.specs.Offering.{CanOffer};
+
+use crate::listing::{Arrival, Join, is_listed, numbers};
+use crate::made;
+use guard_eval::ConjunctList;
+use join_base::{Items, Letters, Message, NoMemory, Relation, Sort, Steps};
+use match_tree::MatchTree;
+use pattern_core::{Candidate, Definition};
+use std::alloc::Global;
+use std::marker::Brand;
+use std::sync::ledger::{Blank, Ledger};
+use std::test::Fail;
+
+// ---- the definition and the messages
+
+fn patterns(alloc: Global, join: Join) -> Result<Items<u32>, NoMemory>
+    requires { join.patterns ≤ 3 }
+    ensures { IfOk result (λ ks. length ks ≡ join.patterns) }
+{
+    let mut patterns = Items::new(alloc);
+    for place in 0..join.patterns {
+        patterns.push(join.kinds[place as usize])?;
+    }
+    Ok(patterns)
+}
+
+// The first message's value has to be 1, where that is asked.
+fn add_one(alloc: Global, conjuncts: &mut ConjunctList, asked: bool) -> Result<(), NoMemory>
+    requires { AreSamples conjuncts.old }
+    ensures { OnOk result (AreSamples conjuncts.new) }
+{
+    if asked {
+        let first = made::variable(alloc, 0)?;
+        let one = made::number(alloc, 1)?;
+        conjuncts.push(made::comparison(alloc, first, Relation::Equal, one)?)?;
+    }
+    Ok(())
+}
+
+// The first two messages' values have to be equal, where that is asked.
+fn add_equal(alloc: Global, conjuncts: &mut ConjunctList, asked: bool) -> Result<(), NoMemory>
+    requires { AreSamples conjuncts.old }
+    ensures { OnOk result (AreSamples conjuncts.new) }
+{
+    if asked {
+        conjuncts.push(made::equality(alloc)?)?;
+    }
+    Ok(())
+}
+
+fn definition(alloc: Global, join: Join) -> Result<Definition, NoMemory>
+    requires most { join.patterns ≤ 3 }
+    ensures count { IfOk result (λ d. length d.patterns ≡ join.patterns) }
+    ensures window { IfOk result (λ d. d.window ≡ join.window) }
+    ensures samples { IfOk result (λ d. AreSamples d.conjuncts) }
+{
+    let patterns = patterns(alloc, join)?;
+    let mut conjuncts = ConjunctList::new(alloc);
+    add_one(alloc, &mut conjuncts, join.one)?;
+    add_equal(alloc, &mut conjuncts, join.equal)?;
+    Ok(Definition {
+        patterns,
+        conjuncts,
+        window: join.window,
+    })
+}
+
+fn message(alloc: Global, arrival: Arrival) -> Result<Message, NoMemory>
+    ensures { IfOk result (λ m. has_sort Sort.Int (slice_get m.fields 0) ≡ true) }
+{
+    made::message(alloc, arrival.kind, arrival.value)
+}
+
+// The messages, and one more that is never offered.
+fn letters(alloc: Global, arrivals: &[Arrival]) -> Result<Letters, NoMemory>
+    ensures ints { IfOk result (λ ls. AreInts ls) }
+    ensures count { IfOk result (λ ls. length ls ≡ length arrivals.now + 1) }
+{
+    let mut letters = Items::new(alloc);
+    for arrival in arrivals {
+        letters.push(message(alloc, *arrival)?)?;
+    }
+    letters.push(message(alloc, Arrival { kind: 9, value: 0 })?)?;
+    Ok(letters)
+}
+
+// ---- the tree
+
+// Offers a message to the tree. Where it completes a match, that fires, and else the tree keeps the message.
+fn arrive<L: Ledger>(
+    tree: &mut MatchTree,
+    letters: &[Message],
+    number: u32,
+    steps: &mut Steps<L>,
+) -> Result<Option<Candidate>, NoMemory>
+    requires few { number < 2 ^ 32 - 1 }
+    requires recorded { number < length letters.now }
+    requires sees { oldest_seen tree.old.definition.window number ≤ number }
+    requires settled { tree.old.reserve ≡ None }
+    requires can { AllByRecursion (CanOffer (offer_to tree.old letters.now number)) tree.old.paths }
+    ensures definition { tree.new.definition ≡ tree.old.definition }
+    ensures settled { OnOk result (tree.new.reserve ≡ None) }
+    ensures can { OnOk result (AllByRecursion (CanOffer (offer_to tree.new letters.now (number + 1))) tree.new.paths) }
+{
+    tree.reserve_for(letters, number, steps)?;
+    tree.expire(number);
+    let found = tree.best_with();
+    match &found {
+        None => tree.extend(number),
+        Some(best) => {
+            tree.forget();
+            tree.prune(&best.taken);
+        }
+    }
+    Ok(found)
+}
+
+// The last match that fires, how many partial matches are left, and whether the plain listing says the same behind each
+// arrival.
+#[derive(Drop)]
+struct Outcome {
+    last: Option<Candidate>,
+    partials: u64,
+    agrees: bool,
+}
+
+// Offers the arrivals in turn, and compares each with the plain listing.
+fn offer_each<L: Ledger>(
+    tree: &mut MatchTree,
+    join: Join,
+    arrivals: &[Arrival],
+    letters: &[Message],
+    steps: &mut Steps<L>,
+) -> Result<Outcome, NoMemory>
+    requires few { length arrivals.now < 16 }
+    requires recorded { length arrivals.now < length letters.now }
+    requires sees { SeesLatest tree.old.definition.window }
+    requires settled { tree.old.reserve ≡ None }
+    requires can { AllByRecursion (CanOffer (offer_to tree.old letters.now 1)) tree.old.paths }
+{
+    let mut live = [true; 16];
+    let mut last = None;
+    let mut agrees = true;
+    for number in 1..arrivals.len() as u32 + 1 {
+        let found = arrive(tree, letters, number, steps)?;
+        let same = is_listed(join, arrivals, &mut live, number, &found, tree.partials());
+        agrees = agrees && same;
+        if found.is_some() {
+            last = found;
+        }
+    }
+    Ok(Outcome {
+        last,
+        partials: tree.partials(),
+        agrees,
+    })
+}
+
+fn play<L: Ledger>(
+    alloc: Global,
+    join: Join,
+    arrivals: &[Arrival],
+    blank: Blank,
+) -> Result<Outcome, NoMemory>
+    requires name { blank.name ≡ L.name }
+    requires parts { blank.parts ≡ L.parts }
+    requires owned { 0 < L.parts }
+    requires some { 2 ≤ join.patterns }
+    requires most { join.patterns ≤ 3 }
+    requires sees { SeesLatest join.window }
+    requires few { length arrivals.now < 16 }
+{
+    let mut steps = Steps::<L>::new(blank);
+    let definition = definition(alloc, join)?;
+    let letters = letters(alloc, arrivals)?;
+    let mut tree = MatchTree::new(alloc, &definition, 1)?;
+    offer_each(&mut tree, join, arrivals, letters.as_slice(), &mut steps)
+}
+
+fn brings(kind: u32, value: i64) -> Arrival {
+    Arrival { kind, value }
+}
+
+// A join whose patterns have a kind each.
+fn join_of(patterns: u32, equal: bool, one: bool, window: Option<u32>) -> Join
+    ensures count { result.patterns ≡ patterns }
+    ensures window { result.window ≡ window }
+{
+    Join {
+        kinds: [0, 1, 2],
+        patterns,
+        equal,
+        one,
+        window,
+    }
+}
+
+// Whether the arrivals fire these numbers and leave so many partial matches.
+fn gives(
+    alloc: Global,
+    join: Join,
+    arrivals: &[Arrival],
+    fired: &[u32],
+    partials: u64,
+) -> Result<bool, NoMemory>
+    requires some { 2 ≤ join.patterns }
+    requires most { join.patterns ≤ 3 }
+    requires sees { SeesLatest join.window }
+    requires few { length arrivals.now < 16 }
+{
+    let outcome = play::<Brand>(alloc, join, arrivals, Blank::new(1))?;
+    Ok(outcome.agrees && numbers(&outcome.last) == fired && outcome.partials == partials)
+}
+
+#[test]
+fn arrivals_fire_the_least_match_or_are_kept(rt: HostRuntime) -> Result<(), Fail> {
+    let alloc = rt.alloc();
+    let a = brings(0, 1);
+    let b = brings(1, 1);
+    let any = [brings(2, 1), a, a, b];
+    // How often the last of these is tried is computed in proofs/Examples of match_tree.
+    let one = [brings(0, 1), brings(0, 2), brings(0, 3), brings(1, 7)];
+    let pair = [a, a, b];
+    let four = [a, a, a, a];
+    let all = gives(alloc, join_of(3, false, false, None), &any, &[2, 4, 1], 2)?
+        && gives(alloc, join_of(2, true, true, None), &one[..3], &[], 2)?
+        && gives(alloc, join_of(2, true, true, None), &one, &[], 3)?
+        && gives(alloc, join_of(2, false, false, Some(2)), &pair, &[2, 3], 1)?
+        && gives(alloc, join_of(2, false, false, Some(1)), &pair[1..], &[], 2)?
+        && gives(alloc, join_of(2, false, false, Some(3)), &four, &[], 4)?;
+    assert!(rt; all);
+    Ok(())
+}
+
+// Kinds of which often two or three are one, so that a message may stand at more than one pattern.
+fn kinds_by(seed: u32) -> [u32; 3] {
+    match seed / 6 % 5 {
+        1 => [0, 0, 0],
+        2 => [0, 0, 1],
+        3 => [0, 1, 0],
+        4 => [0, 1, 1],
+        _ => [0, 1, 2],
+    }
+}
+
+fn script(seed: u32, kinds: [u32; 3]) -> [Arrival; 10] {
+    let mut arrivals = [brings(0, 0); 10];
+    let mut state = seed;
+    for place in 0..10 {
+        state = state.wrapping_mul(1664525).wrapping_add(1013904223);
+        let kind = kinds[(state >> 24) as usize % 3];
+        arrivals[place] = brings(kind, ((state >> 16) % 2) as i64);
+    }
+    arrivals
+}
+
+// Whether the listing says the same of the script of the seed.
+fn agrees_on(alloc: Global, seed: u32) -> Result<bool, NoMemory>
+    requires { seed < 60 }
+{
+    let window = if seed % 5 == 1 { Some(4) } else { None };
+    let mut join = join_of(2 + seed % 2, seed % 3 > 0, seed % 8 == 1, window);
+    join.kinds = kinds_by(seed);
+    let outcome = play::<Brand>(alloc, join, &script(seed, join.kinds), Blank::new(1))?;
+    Ok(outcome.agrees)
+}
+
+#[test]
+fn each_arrival_does_what_a_plain_listing_says(rt: HostRuntime) -> Result<(), Fail> {
+    for seed in 0..60 {
+        assert!(rt; agrees_on(rt.alloc(), seed)?);
+    }
+    Ok(())
+}

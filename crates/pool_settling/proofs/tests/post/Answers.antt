@@ -1,9 +1,0 @@
-use Rattle.std.proofs.Common.{◌∙◌}
-use Rattle.actor_cells.proofs.TestLemmas.{count-kept}
-use Rattle.pool_settling.proofs.tests.post.Goals as goal
-
-pub loop-preserved : goal.loop-preserved
-loop-preserved c = record {
-  tag = c.push.ensures.tag ∙ c.loop.invariant.tag;
-  count = count-kept c.push.new.self c.loop.poster c.push.ensures.tag ∙ c.loop.invariant.count;
-}

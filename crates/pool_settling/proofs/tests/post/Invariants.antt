@@ -1,9 +1,0 @@
-use Rattle.std.proofs.Common.{◌≡◌}
-use Rattle.cell_links.specs.Ends.{link_count, poster_tag}
-use Rattle.pool_settling.proofs.tests.post.Given as goal
-
-abbrev pub invariant-loop : goal.invariant-loop
-invariant-loop l = record {
-  tag : poster_tag l.poster ≡ poster_tag l.initial.poster;
-  count : link_count l.poster ≡ 1;
-}

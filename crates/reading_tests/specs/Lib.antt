@@ -1,0 +1,2 @@
+-- the plan of the logs
+pub mod Samples

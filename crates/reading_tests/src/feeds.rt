@@ -1,0 +1,125 @@
+//! Feeds, their posts and their faults.
+ghost use Rattle.script_types.specs.Typed.{IsTyped};
+
+use crate::given::plan_of;
+use join_base::{Message, ValueRef};
+use script_types::Plan;
+use sensor_feed::{FeedCause, FeedFault, feed_law, read_feed};
+use std::alloc::Global;
+use std::test::Fail;
+
+const SCRIPT: &[u8] =
+    b"message a(x: int) message say(x: text) message both(x: int, y: text) actor m { } actor n { }";
+
+const REFUSED: &[(&[u8], u64, FeedCause)] = &[
+    (b"x", 1, FeedCause::UnknownActor),
+    (b"x,z", 1, FeedCause::UnknownActor),
+    (b"a,m,1", 1, FeedCause::UnknownActor),
+    (b" m,a,1", 1, FeedCause::UnknownActor),
+    (b"m,", 1, FeedCause::UnknownMessage),
+    (b"m,m,1", 1, FeedCause::UnknownMessage),
+    (b"m,a,z,2", 1, FeedCause::WrongCount),
+    (b"m,a,1,", 1, FeedCause::WrongCount),
+    (b"m,both,1", 1, FeedCause::WrongCount),
+    (b"m,a,-9223372036854775809", 1, FeedCause::BadInt),
+    (b"m,a,-", 1, FeedCause::BadInt),
+    (b"m,a, 1", 1, FeedCause::BadInt),
+    (b"m,both,z,\xFF", 1, FeedCause::BadInt),
+    (b"m,both,1,\xFF", 1, FeedCause::NotText),
+    (b"m,a,1\r\nm,a,2\r\nm,a,", 3, FeedCause::BadInt),
+    (b"m,a,z\nx", 1, FeedCause::BadInt),
+];
+
+// Feeds, and the number of their posts.
+const ACCEPTED: &[(&[u8], usize)] = &[
+    (b"m,a,1\nn,a,2\n", 2),
+    (b"m,a,1\rn,a,2\r", 2),
+    (b"\xEF\xBB\xBFm,a,1\n", 1),
+    (b"m,a,9223372036854775807", 1),
+    (b"\"m\",\"a\",\"1\"\n", 1),
+    (b"m,say,\"a,\nb\"\nm,a,1\n", 2),
+    (b"m,say,\nn,both,-0,\"\"\n", 2),
+];
+
+fn are_refused(alloc: Global, plan: &Plan, rows: &[(&[u8], u64, FeedCause)]) -> bool
+    requires { IsTyped plan.now }
+{
+    for (feed, row, cause) in rows {
+        let fault = FeedFault::Bad {
+            row: *row,
+            cause: *cause,
+        };
+        if read_feed(alloc, plan, feed).err() != Some(fault) {
+            return false;
+        }
+    }
+    true
+}
+
+fn are_accepted(alloc: Global, plan: &Plan, rows: &[(&[u8], usize)]) -> bool
+    requires { IsTyped plan.now }
+{
+    for (feed, count) in rows {
+        match read_feed(alloc, plan, feed) {
+            Ok(posts) if posts.len() == *count => {}
+            _ => return false,
+        }
+    }
+    true
+}
+
+// Whether a message is of this kind, and has this text as its last field.
+fn is_said(message: &Message, kind: u32, said: &[u8]) -> bool {
+    let last = message.fields.len().saturating_sub(1);
+    match message.fields.get(last) {
+        Some(ValueRef::Words(words)) => message.kind == kind && words.bytes() == said,
+        _ => false,
+    }
+}
+
+// Quoted fields, and blanks that count.
+fn are_posted(alloc: Global, plan: &Plan) -> bool
+    requires { IsTyped plan.now }
+{
+    let Ok(posts) = read_feed(alloc, plan, b"m,both,7,\"x,\ny\"\nn,say, z \n") else {
+        return false;
+    };
+    match posts.as_slice() {
+        [(first, both), (second, say)] => {
+            *first == 0 && *second == 1 && is_said(both, 2, b"x,\ny") && is_said(say, 1, b" z ")
+        }
+        _ => false,
+    }
+}
+
+fn is_read(alloc: Global) -> bool {
+    match plan_of(alloc, SCRIPT) {
+        Ok(plan) => {
+            are_refused(alloc, &plan, REFUSED)
+                && are_accepted(alloc, &plan, ACCEPTED)
+                && are_posted(alloc, &plan)
+        }
+        Err(_) => false,
+    }
+}
+
+#[test]
+fn a_feed_has_a_post_for_each_record_or_a_first_fault(rt: HostRuntime) {
+    feed_law();
+    assert!(rt; is_read(rt.alloc()));
+}
+
+fn is_told(alloc: Global) -> Result<bool, Fail> {
+    let fault = FeedFault::Bad {
+        row: 3,
+        cause: FeedCause::BadInt,
+    };
+    let text = format!(in alloc; "{fault}")?;
+    Ok(text.as_str() == "record 3: no integer of 64 bits")
+}
+
+#[test]
+fn a_fault_says_the_record_and_its_cause(rt: HostRuntime) -> Result<(), Fail> {
+    assert!(rt; is_told(rt.alloc())?);
+    Ok(())
+}

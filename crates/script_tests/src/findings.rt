@@ -1,0 +1,54 @@
+//! What lint finds.
+ghost use Rattle.script_types.specs.Typed.{IsTyped};
+
+use crate::given::plan_of;
+use join_base::NoMemory;
+use script_lint::{Finding, lint};
+use script_types::Plan;
+use std::alloc::Global;
+use std::test::Fail;
+
+fn are_found(alloc: Global, plan: &Plan, wanted: &[Finding]) -> Result<bool, NoMemory>
+    requires { IsTyped plan.now }
+{
+    Ok(lint(alloc, plan)?.as_slice() == wanted)
+}
+
+/// Whether a script has these findings.
+pub fn has_findings(alloc: Global, script: &[u8], wanted: &[Finding]) -> Result<bool, NoMemory> {
+    match plan_of(alloc, script) {
+        Ok(plan) => are_found(alloc, &plan, wanted),
+        Err(_) => Ok(false),
+    }
+}
+
+const SHADOWED: &[u8] = b"message a(x: int) message b(x: int) actor m {
+  when a(x) & b(y) if x > 3 { }
+  when a(x) & b(y) if x > 5 && y < 2 { }
+  when a(x) if x < 1 && x > 1 { }
+}";
+
+const NARROW: &[u8] =
+    b"message a(x: int) message b(x: int) actor m { when a(x) & b(y) within 1 { } }";
+
+#[test]
+fn definitions_and_kinds_are_found(rt: HostRuntime) -> Result<(), Fail> {
+    let shadowed = [
+        Finding::Shadowed {
+            actor: 0,
+            rule: 2,
+            by: 1,
+        },
+        Finding::Dead { actor: 0, rule: 3 },
+    ];
+    let narrow = [
+        Finding::Narrow { actor: 0, rule: 1 },
+        Finding::Idle { kind: 0 },
+        Finding::Idle { kind: 1 },
+    ];
+    assert!(rt;
+        has_findings(rt.alloc(), SHADOWED, shadowed.as_slice())?
+            && has_findings(rt.alloc(), NARROW, narrow.as_slice())?
+    );
+    Ok(())
+}

@@ -1,0 +1,13 @@
+//! Tests of what threads share, and of runs on threads: locks, links, tickets and pools. There are no calls here.
+//!
+//! They stand apart, since a crate with tests is proved twice.
+#![tactic(auto)]
+
+#[cfg(test)]
+mod links;
+#[cfg(test)]
+mod runs;
+#[cfg(test)]
+mod tickets;
+#[cfg(test)]
+mod turns;

@@ -1,4 +1,0 @@
-use Rattle.worked_runs.proofs.tests.each_arrival_fires_the_least_match.Given as goal
-
-abbrev pub ghosts-fires_the_least : goal.ghosts-fires_the_least
-ghosts-fires_the_least g a = record { name = a.blank.name; parts = a.blank.parts }
