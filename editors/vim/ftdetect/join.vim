@@ -1,0 +1,2 @@
+" Scripts, feeds' logs and their syntax by the ending of the file.
+autocmd BufRead,BufNewFile *.join setfiletype join
