@@ -1,6 +1,6 @@
 //! Calls of the top call over files and a sink in memory.
 use join_base::{Bytes, MemoryInputs, MemorySink, NoMemory, Word, WordList};
-use join_command::{FreeGate, Gate, Status, join_main};
+use join_command::{Counted, FreeGate, Gate, Status, join_main};
 use std::alloc::Global;
 use std::sync::Wait;
 use std::thread::Threads;
@@ -27,17 +27,19 @@ fn words_of(alloc: Global, texts: &[&str]) -> Result<WordList, NoMemory> {
     Ok(words)
 }
 
-// The status of the words over the inputs and the sink, past the gate.
+// The status of the words over the inputs and the sink, past the gate, and the sink then.
 fn carry_out<R: Threads + Wait + Sync, G: Gate>(
     rt: &R,
     alloc: Global,
     texts: &[&str],
     inputs: &mut MemoryInputs,
-    out: &mut MemorySink,
+    sink: MemorySink,
     gate: &G,
-) -> Result<Status, NoMemory> {
+) -> Result<(Status, MemorySink), NoMemory> {
     let words = words_of(alloc, texts)?;
-    Ok(join_main(rt, alloc, &words, inputs, out, gate))
+    let mut out = Counted::new(sink);
+    let status = join_main(rt, alloc, &words, inputs, &mut out, gate);
+    Ok((status, out.into_sink()))
 }
 
 /// Whether the words end with the status, and the sink has the output and nothing else.
@@ -46,11 +48,11 @@ pub fn writes<R: Threads + Wait + Sync>(
     alloc: Global,
     texts: &[&str],
     inputs: &mut MemoryInputs,
-    out: &mut MemorySink,
+    sink: MemorySink,
     status: Status,
     output: &[u8],
 ) -> Result<bool, NoMemory> {
-    let found = carry_out(rt, alloc, texts, inputs, out, &FreeGate)?;
+    let (found, out) = carry_out(rt, alloc, texts, inputs, sink, &FreeGate)?;
     Ok(found == status && out.bytes() == output)
 }
 
@@ -63,8 +65,8 @@ pub fn gives<R: Threads + Wait + Sync>(
     status: Status,
     output: &[u8],
 ) -> Result<bool, NoMemory> {
-    let mut out = MemorySink::new(alloc, 100_000, 100_000)?;
-    writes(rt, alloc, texts, inputs, &mut out, status, output)
+    let sink = MemorySink::new(alloc, 100_000, 100_000)?;
+    writes(rt, alloc, texts, inputs, sink, status, output)
 }
 
 /// The status of the words past the gate, and what they write.
@@ -75,8 +77,8 @@ pub fn answer_to<R: Threads + Wait + Sync, G: Gate>(
     inputs: &mut MemoryInputs,
     gate: &G,
 ) -> Result<(Status, Bytes), NoMemory> {
-    let mut out = MemorySink::new(alloc, 100_000, 100_000)?;
-    let status = carry_out(rt, alloc, texts, inputs, &mut out, gate)?;
+    let sink = MemorySink::new(alloc, 100_000, 100_000)?;
+    let (status, out) = carry_out(rt, alloc, texts, inputs, sink, gate)?;
     let output = bytes_of(alloc, out.bytes())?;
     Ok((status, output))
 }

@@ -143,7 +143,7 @@ fn leaves<R: Threads + Wait + Sync>(
     let mut inputs = inputs_of(alloc, FILES)?;
     let mut out = MemorySink::new(alloc, sink.room, sink.most)?;
     out.fail(sink.call)?;
-    writes(rt, alloc, words, &mut inputs, &mut out, status, output)
+    writes(rt, alloc, words, &mut inputs, out, status, output)
 }
 
 // A sink of ten bytes at a time.

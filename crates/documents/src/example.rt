@@ -1,7 +1,7 @@
 //! One example.
 
 use join_base::{Bytes, FetchFault, Inputs, MemorySink, NoMemory, Word, WordList};
-use join_command::{FreeGate, Status, join_main};
+use join_command::{Counted, FreeGate, Status, join_main};
 use std::alloc::Global;
 use std::rt::Files;
 use std::sync::Wait;
@@ -35,10 +35,10 @@ pub fn answer_to<R: Files + Threads + Wait + Sync>(
     texts: &[&str],
 ) -> Result<(Status, MemorySink), NoMemory> {
     let words = words_of(alloc, texts)?;
-    let mut out = MemorySink::new(alloc, ROOM, ROOM)?;
+    let mut out = Counted::new(MemorySink::new(alloc, ROOM, ROOM)?);
     let mut inputs = FileInputs::new(rt);
     let status = join_main(rt, alloc, &words, &mut inputs, &mut out, &FreeGate);
-    Ok((status, out))
+    Ok((status, out.into_sink()))
 }
 
 /// Whether the words print what the file holds.

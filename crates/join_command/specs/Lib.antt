@@ -5,6 +5,7 @@ pub mod Verdict
 pub mod LintText
 pub mod Output
 pub mod Answer
+pub mod Counting
 pub mod Top
 pub mod Numbers
 -- what the private functions compute

@@ -3,18 +3,22 @@
 //! - `join_main` carries out the command that the words are, writes its output and answers a `Status`. Its contract
 //!   says that output and status are those of the verdict on the words and the files (specs/Verdict, specs/Answer),
 //!   that only the files of the command were fetched, in order (specs/Top), and why a fault is answered.
+//! - `Counted` is any sink with a count of its writes, as `join_main` takes it (`CountingSink`). By the count the
+//!   contract says that no write is made behind one that failed, and at most one for each byte (specs/Counting).
 //! - `command_of` gives the command that the words are, `write_all` writes bytes piece by piece, and `MAX_FILE` and
 //!   `MAX_LOG` are the most bytes of a file, for what a program tells people besides.
 //!
 //! `join_main` runs a script on threads, past a `Gate`, and may wait for them.
 //!
 //! A contract sees the files and the bytes written where the inputs and the sink tell them (`Inputs`, `Sink` of
-//! `join_base`), and of the words their bytes. Only tested: that the calls answer something else than `NoMemory` where
-//! memory is ample, and that the log of a run is that of what its threads did.
+//! `join_base`), and of the words their bytes. That `Counted` writes to its sink once a call is read off its code; no
+//! clause says so. Only tested: that the calls answer something else than `NoMemory` where memory is ample, and that the
+//! log of a run is that of what its threads did.
 #![tactic(auto)]
 
 mod command;
 mod count;
+mod counted;
 mod law;
 mod lint_text;
 mod load;
@@ -28,6 +32,7 @@ mod top;
 
 pub use actor_pool::{FreeGate, Gate};
 pub use command::command_of;
+pub use counted::{Counted, CountingSink};
 pub use load::MAX_FILE;
 pub use output::write_all;
 pub use replay::MAX_LOG;

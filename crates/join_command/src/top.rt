@@ -3,11 +3,13 @@ ghost use Rattle.std.specs.Prelude.{◌≡◌, ◌≢◌, ◌⊎◌, None, Err, 
 ghost use Rattle.command_words.specs.Ranges.{IsInRange};
 ghost use Rattle.command_words.specs.Views.{command_in};
 ghost use Rattle.join_command.specs.Command.{IsBuilt, command_of};
+ghost use Rattle.join_command.specs.Counting.{EndsAtFault, MakesFewWrites};
 ghost use Rattle.join_command.specs.Loading.{Tells};
 ghost use Rattle.join_command.specs.Output.{IsSettled};
 ghost use Rattle.join_command.specs.Top.{AnswersWhereTold, CompletesWhereTold, CountsFault, FetchesInOrder, IsAnswered, PrepareCause, Prepares, PreparesCommand, RefusesWords, TestsWords};
 
 use crate::command::command_of;
+use crate::counted::CountingSink;
 use crate::law::one_verdict;
 use crate::output::{output_of, refused_output, usage_line, write_all};
 use crate::reply::reply_of;
@@ -15,7 +17,7 @@ use crate::status::Status;
 use crate::stop::Stop;
 use actor_pool::Gate;
 use command_words::Request;
-use join_base::{Bytes, Inputs, NoMemory, Sink, WordList};
+use join_base::{Bytes, Inputs, NoMemory, WordList};
 use std::alloc::Global;
 use std::sync::Wait;
 use std::thread::Threads;
@@ -106,11 +108,11 @@ fn prepare<R: Threads + Wait + Sync, I: Inputs, G: Gate>(
 /// a feed has a record in fault, and `LogRefused` where a line of the log is in fault; each writes one line. `Limits`
 /// comes in place of `Done` exactly where an actor of the run was jammed or spent, and the log, or the summary, is
 /// written in both cases. After `ReadFault` and `NoMemory` nothing was written, and after `WriteFault` a beginning of
-/// the output.
+/// the output: the write that failed was the last one.
 ///
 /// Each worker enters the gate just before it tries for an actor. The call may wait, and where it runs a script it
 /// waits for its threads. The memory of a run that was written stays taken until the program ends.
-pub fn join_main<R: Threads + Wait + Sync, I: Inputs, S: Sink, G: Gate>(
+pub fn join_main<R: Threads + Wait + Sync, I: Inputs, S: CountingSink, G: Gate>(
     rt: &R,
     alloc: Global,
     words: &WordList,
@@ -130,6 +132,11 @@ pub fn join_main<R: Threads + Wait + Sync, I: Inputs, S: Sink, G: Gate>(
     // Each count of faults rises where its fault is answered, and is as before at every other answer.
     ensures reads { CountsFault Status.ReadFault result (I.faults inputs.old) (I.faults inputs.new) }
     ensures writes { CountsFault Status.WriteFault result (S.faults out.old) (S.faults out.new) }
+
+    // A sink that tells was written to at most once for each byte that it took, and once more where that write failed.
+    // Whether it tells or not, no write was made behind one that failed.
+    ensures few { MakesFewWrites (S.taken out.old) (S.taken out.new) (S.writes out.old) (S.writes out.new) result }
+    ensures stops { EndsAtFault result (S.writes out.old) (S.writes out.new) }
 
     // Where no fault was counted, the status is that of the verdict that the words and the files have, or there was no
     // memory.

@@ -1,0 +1,3 @@
+-- what is claimed: the laws
+pub mod Spent
+pub mod Replies
