@@ -24,16 +24,22 @@ use Rattle.script_types.specs.declared.plan.Plan.{Plan}
 abbrev pub int_field : List ℕ → (List ℕ × Sort)
 int_field name = (name, sort.Int)
 
+abbrev pub sighting_fields : List (List ℕ × Sort)
+sighting_fields = int_field (codes "room") ∷ int_field (codes "t") ∷ []
+
 -- `message NAME(room: int, t: int)`
 abbrev pub sighting : List ℕ → Kind
-sighting name = record { name = name; fields = int_field (codes "room") ∷ int_field (codes "t") ∷ [] }
+sighting name = record { name = name; fields = sighting_fields }
 
 abbrev pub light_kind : Kind
 light_kind = record { name = codes "light"; fields = int_field (codes "room") ∷ int_field (codes "lux") ∷ int_field (codes "t") ∷ [] }
 
+abbrev pub report_fields : List (List ℕ × Sort)
+report_fields = int_field (codes "room") ∷ []
+
 -- `message NAME(room: int)`
 abbrev pub report : List ℕ → Kind
-report name = record { name = name; fields = int_field (codes "room") ∷ [] }
+report name = record { name = name; fields = report_fields }
 
 abbrev pub kinds : List Kind
 kinds = sighting (codes "motion") ∷ light_kind ∷ sighting (codes "contact") ∷ report (codes "on") ∷ report (codes "alarm") ∷ []
@@ -90,9 +96,18 @@ is_dim = compared (plus (place_at 1 1) ∷ []) Less (number 40 ∷ [])
 abbrev pub variables : List (List ℕ) → List (Option (List ℕ))
 variables names = map (λ name. Some name) names
 
+abbrev pub motion_variables : List (Option (List ℕ))
+motion_variables = variables (codes "r1" ∷ codes "t1" ∷ [])
+
+abbrev pub light_variables : List (Option (List ℕ))
+light_variables = variables (codes "r2" ∷ codes "lux" ∷ codes "t2" ∷ [])
+
+abbrev pub contact_variables : List (Option (List ℕ))
+contact_variables = variables (codes "r2" ∷ codes "t2" ∷ [])
+
 -- the motion's variables, in front of those of the other pattern
 abbrev pub with_motion : List (Option (List ℕ)) → List (List (Option (List ℕ)))
-with_motion others = variables (codes "r1" ∷ codes "t1" ∷ []) ∷ others ∷ []
+with_motion others = motion_variables ∷ others ∷ []
 
 -- `post desk KIND(r1);`
 abbrev pub tell_desk : ℕ → Statement
@@ -111,7 +126,7 @@ light_rule = record {
         ∷ [];
     window = None;
   };
-  variables = with_motion (variables (codes "r2" ∷ codes "lux" ∷ codes "t2" ∷ []));
+  variables = with_motion light_variables;
   body = tell_desk on ∷ [];
 }
 
@@ -123,25 +138,42 @@ contact_rule = record {
     conjuncts = same_room ∷ within_a_minute (place_at 1 1) (place_at 0 1) ∷ within_a_minute (place_at 0 1) (place_at 1 1) ∷ [];
     window = None;
   };
-  variables = with_motion (variables (codes "r2" ∷ codes "t2" ∷ []));
+  variables = with_motion contact_variables;
   body = tell_desk alarm ∷ [];
 }
 
+abbrev pub hall_rules : List Rule
+hall_rules = light_rule ∷ contact_rule ∷ []
+
 abbrev pub hall : List ℕ → ActorPlan
-hall name = record { name = name; rules = light_rule ∷ contact_rule ∷ [] }
+hall name = record { name = name; rules = hall_rules }
 
 -- ---- the desk
+
+-- the variables of `KIND(r)`
+abbrev pub print_variables : List (List (Option (List ℕ)))
+print_variables = variables (codes "r" ∷ []) ∷ []
+
+-- `print "TEXT" r;`
+abbrev pub print_body : List ℕ → List Statement
+print_body text = statement.Print (item.Words (words.Fixed text) ∷ item.Plain (room 0) ∷ []) ∷ []
 
 -- `when KIND(r) { print "TEXT" r; }`
 abbrev pub print_rule : ℕ → List ℕ → Rule
 print_rule kind text = record {
   definition = record { patterns = kind ∷ []; conjuncts = []; window = None };
-  variables = variables (codes "r" ∷ []) ∷ [];
-  body = statement.Print (item.Words (words.Fixed text) ∷ item.Plain (room 0) ∷ []) ∷ [];
+  variables = print_variables;
+  body = print_body text;
 }
 
+abbrev pub on_rule : Rule
+on_rule = print_rule on (codes "light on in ")
+
+abbrev pub alarm_rule : Rule
+alarm_rule = print_rule alarm (codes "alarm in ")
+
 abbrev pub desk : ActorPlan
-desk = record { name = codes "desk"; rules = print_rule on (codes "light on in ") ∷ print_rule alarm (codes "alarm in ") ∷ [] }
+desk = record { name = codes "desk"; rules = on_rule ∷ alarm_rule ∷ [] }
 
 -- ---- the whole plan: the desk is the fifth actor
 

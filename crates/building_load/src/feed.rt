@@ -1,5 +1,5 @@
 //! The posts of a hall.
-ghost use Rattle.std.specs.Prelude.{◌≡◌, ◌≤◌, ◌<◌, length, map, IfOk};
+ghost use Rattle.std.specs.Prelude.{◌≡◌, ◌≤◌, ◌<◌, ◌∷◌, [], ◌++◌, length, map, IfOk, OnOk};
 ghost use Rattle.std.specs.List.{AllByRecursion};
 ghost use Rattle.fair_semantics.specs.Fits.{PostFits};
 ghost use Rattle.building_load.specs.Building.{load_plan};
@@ -9,19 +9,37 @@ use crate::plan::{CONTACT, LIGHT, MOTION};
 use join_base::{FeedList, Fields, Message, NoMemory, Posts, PushFault, Value};
 use std::alloc::Global;
 
+// Pushes an integer into the values of a message that may have one more.
+fn push_int(fields: &mut Fields, integer: u32) -> Result<(), NoMemory>
+    requires few { length fields.old < 8 }
+    ensures { OnOk result (fields.new ≡ fields.old ++ int integer ∷ []) }
+{
+    match fields.push(Value::Int(i64::from(integer))) {
+        Ok(()) => Ok(()),
+        Err(PushFault::NoMemory(_)) => Err(NoMemory),
+        Err(PushFault::Full(_)) => unreachable!(),
+    }
+}
+
+// Pushes integers into the values of a message, which has none.
+fn push_ints(fields: &mut Fields, integers: &[u32]) -> Result<(), NoMemory>
+    requires empty { fields.old ≡ [] }
+    requires few { length integers.now ≤ 8 }
+    ensures { OnOk result (fields.new ≡ map int integers.now) }
+{
+    for integer in integers {
+        push_int(fields, *integer)?;
+    }
+    Ok(())
+}
+
 // The message of a kind with these integers.
 fn message_of(alloc: Global, kind: u32, integers: &[u32]) -> Result<Message, NoMemory>
     requires few { length integers.now ≤ 8 }
     ensures { IfOk result (λ message. message ≡ record { kind = kind; fields = map int integers.now }) }
 {
     let mut fields = Fields::with_room(alloc, integers.len(), false)?;
-    for integer in integers {
-        match fields.push(Value::Int(i64::from(*integer))) {
-            Ok(()) => {}
-            Err(PushFault::NoMemory(_)) => return Err(NoMemory),
-            Err(PushFault::Full(_)) => unreachable!(),
-        }
-    }
+    push_ints(&mut fields, integers)?;
     Ok(Message { kind, fields })
 }
 
@@ -59,15 +77,25 @@ pub fn load_feed(alloc: Global, rows: u32, hall: u32) -> Result<Posts, NoMemory>
     Ok(posts)
 }
 
+// Pushes the posts of the four halls into an empty list.
+fn push_feeds(alloc: Global, feeds: &mut FeedList, rows: u32) -> Result<(), NoMemory>
+    requires empty { feeds.old ≡ [] }
+    requires rows { (1 ≤ rows) × (rows ≤ 20000) }
+    ensures { OnOk result (feeds.new ≡ load_feeds rows) }
+{
+    feeds.push(load_feed(alloc, rows, 1)?)?;
+    feeds.push(load_feed(alloc, rows, 2)?)?;
+    feeds.push(load_feed(alloc, rows, 3)?)?;
+    feeds.push(load_feed(alloc, rows, 4)?)?;
+    Ok(())
+}
+
 /// The posts of the four halls, in order.
 pub fn load_feeds(alloc: Global, rows: u32) -> Result<FeedList, NoMemory>
     requires rows { (1 ≤ rows) × (rows ≤ 20000) }
     ensures feeds { IfOk result (λ feeds. feeds ≡ load_feeds rows) }
 {
     let mut feeds = FeedList::new(alloc);
-    feeds.push(load_feed(alloc, rows, 1)?)?;
-    feeds.push(load_feed(alloc, rows, 2)?)?;
-    feeds.push(load_feed(alloc, rows, 3)?)?;
-    feeds.push(load_feed(alloc, rows, 4)?)?;
+    push_feeds(alloc, &mut feeds, rows)?;
     Ok(feeds)
 }

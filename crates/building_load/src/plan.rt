@@ -1,5 +1,5 @@
 //! The plan of the building.
-ghost use Rattle.std.specs.Prelude.{◌≡◌, ◌<◌, ◌∷◌, [], IfOk, true};
+ghost use Rattle.std.specs.Prelude.{◌≡◌, ◌<◌, ◌∷◌, [], IfOk, OnOk, true};
 ghost use Rattle.join_base.specs.Text.{is_name};
 ghost use Rattle.guard_eval.specs.Shape.{conjunct_condition};
 ghost use Rattle.script_types.specs.Typed.{IsTyped};
@@ -9,7 +9,7 @@ use crate::parts::{
     compared, field, number, one, place_at, plus, three, two, value_of, variable, within_a_minute,
 };
 use guard_eval::{Conjunct, ConjunctList, WordsLeaf};
-use join_base::{Items, Name, NoMemory, Relation, Text};
+use join_base::{Items, Name, NoMemory, Relation, Sort, Text};
 use pattern_core::Definition;
 use script_types::{ActorPlan, Item, Kind, Plan, Rule, Statement};
 use std::alloc::Global;
@@ -27,28 +27,50 @@ const ALARM: u32 = 4;
 
 const DESK: u32 = 4;
 
+// The fields `room: int, t: int`.
+fn sighting_fields(alloc: Global) -> Result<Items<(Name, Sort)>, NoMemory>
+    ensures { IfOk result (λ fields. fields ≡ building.sighting_fields) }
+{
+    let room = field(alloc, b"room")?;
+    let time = field(alloc, b"t")?;
+    two(alloc, room, time)
+}
+
 // `message NAME(room: int, t: int)`.
 fn sighting(alloc: Global, name: &[u8]) -> Result<Kind, NoMemory>
     requires is_name { is_name name.now ≡ true }
     ensures { IfOk result (λ kind. kind ≡ building.sighting name.now) }
 {
-    Ok(Kind {
-        name: Name::from_bytes(alloc, name)?,
-        fields: two(alloc, field(alloc, b"room")?, field(alloc, b"t")?)?,
-    })
+    let name = Name::from_bytes(alloc, name)?;
+    let fields = sighting_fields(alloc)?;
+    Ok(Kind { name, fields })
+}
+
+// The fields `room: int, lux: int, t: int`.
+fn light_fields(alloc: Global) -> Result<Items<(Name, Sort)>, NoMemory>
+    ensures { IfOk result (λ fields. fields ≡ building.light_kind.fields) }
+{
+    let room = field(alloc, b"room")?;
+    let lux = field(alloc, b"lux")?;
+    let time = field(alloc, b"t")?;
+    three(alloc, room, lux, time)
 }
 
 // `message light(room: int, lux: int, t: int)`.
 fn light_kind(alloc: Global) -> Result<Kind, NoMemory>
     ensures { IfOk result (λ kind. kind ≡ building.light_kind) }
 {
+    let name = Name::from_bytes(alloc, b"light")?;
+    let fields = light_fields(alloc)?;
+    Ok(Kind { name, fields })
+}
+
+// The fields `room: int`.
+fn report_fields(alloc: Global) -> Result<Items<(Name, Sort)>, NoMemory>
+    ensures { IfOk result (λ fields. fields ≡ building.report_fields) }
+{
     let room = field(alloc, b"room")?;
-    let lux = field(alloc, b"lux")?;
-    let time = field(alloc, b"t")?;
-    Ok(Kind {
-        name: Name::from_bytes(alloc, b"light")?,
-        fields: three(alloc, room, lux, time)?,
-    })
+    one(alloc, room)
 }
 
 // `message NAME(room: int)`.
@@ -56,23 +78,29 @@ fn report(alloc: Global, name: &[u8]) -> Result<Kind, NoMemory>
     requires is_name { is_name name.now ≡ true }
     ensures { IfOk result (λ kind. kind ≡ building.report name.now) }
 {
-    Ok(Kind {
-        name: Name::from_bytes(alloc, name)?,
-        fields: one(alloc, field(alloc, b"room")?)?,
-    })
+    let name = Name::from_bytes(alloc, name)?;
+    let fields = report_fields(alloc)?;
+    Ok(Kind { name, fields })
+}
+
+// Pushes the kinds into an empty list.
+fn push_kinds(alloc: Global, kinds: &mut Items<Kind>) -> Result<(), NoMemory>
+    requires empty { kinds.old ≡ [] }
+    ensures { OnOk result (kinds.new ≡ building.kinds) }
+{
+    kinds.push(sighting(alloc, b"motion")?)?;
+    kinds.push(light_kind(alloc)?)?;
+    kinds.push(sighting(alloc, b"contact")?)?;
+    kinds.push(report(alloc, b"on")?)?;
+    kinds.push(report(alloc, b"alarm")?)?;
+    Ok(())
 }
 
 fn kinds(alloc: Global) -> Result<Items<Kind>, NoMemory>
     ensures { IfOk result (λ kinds. kinds ≡ building.kinds) }
 {
-    let mut kinds = three(
-        alloc,
-        sighting(alloc, b"motion")?,
-        light_kind(alloc)?,
-        sighting(alloc, b"contact")?,
-    )?;
-    kinds.push(report(alloc, b"on")?)?;
-    kinds.push(report(alloc, b"alarm")?)?;
+    let mut kinds = Items::new(alloc);
+    push_kinds(alloc, &mut kinds)?;
     Ok(kinds)
 }
 
@@ -94,27 +122,68 @@ fn is_dim(alloc: Global) -> Result<Conjunct, NoMemory>
     compared(alloc, lux, Relation::Less, bound)
 }
 
-// The guard of a light, whose time is its third field.
-fn light_guard(alloc: Global) -> Result<ConjunctList, NoMemory>
-    ensures { IfOk result (λ guard. guard ≡ building.light_rule.definition.conjuncts) }
+// Pushes the guard of a light, whose time is its third field, into an empty one.
+fn push_light_guard(alloc: Global, guard: &mut ConjunctList) -> Result<(), NoMemory>
+    requires empty { guard.old ≡ [] }
+    ensures { OnOk result (guard.new ≡ building.light_rule.definition.conjuncts) }
 {
-    let mut guard = ConjunctList::new(alloc);
     guard.push(same_room(alloc)?)?;
     guard.push(is_dim(alloc)?)?;
     guard.push(within_a_minute(alloc, place_at(1, 2), place_at(0, 1))?)?;
     guard.push(within_a_minute(alloc, place_at(0, 1), place_at(1, 2))?)?;
+    Ok(())
+}
+
+fn light_guard(alloc: Global) -> Result<ConjunctList, NoMemory>
+    ensures { IfOk result (λ guard. guard ≡ building.light_rule.definition.conjuncts) }
+{
+    let mut guard = ConjunctList::new(alloc);
+    push_light_guard(alloc, &mut guard)?;
     Ok(guard)
 }
 
-// The guard of a contact, whose time is its second field.
+// Pushes the guard of a contact, whose time is its second field, into an empty one.
+fn push_contact_guard(alloc: Global, guard: &mut ConjunctList) -> Result<(), NoMemory>
+    requires empty { guard.old ≡ [] }
+    ensures { OnOk result (guard.new ≡ building.contact_rule.definition.conjuncts) }
+{
+    guard.push(same_room(alloc)?)?;
+    guard.push(within_a_minute(alloc, place_at(1, 1), place_at(0, 1))?)?;
+    guard.push(within_a_minute(alloc, place_at(0, 1), place_at(1, 1))?)?;
+    Ok(())
+}
+
 fn contact_guard(alloc: Global) -> Result<ConjunctList, NoMemory>
     ensures { IfOk result (λ guard. guard ≡ building.contact_rule.definition.conjuncts) }
 {
     let mut guard = ConjunctList::new(alloc);
-    guard.push(same_room(alloc)?)?;
-    guard.push(within_a_minute(alloc, place_at(1, 1), place_at(0, 1))?)?;
-    guard.push(within_a_minute(alloc, place_at(0, 1), place_at(1, 1))?)?;
+    push_contact_guard(alloc, &mut guard)?;
     Ok(guard)
+}
+
+fn motion_variables(alloc: Global) -> Result<Items<Option<Name>>, NoMemory>
+    ensures { IfOk result (λ names. names ≡ building.motion_variables) }
+{
+    let room = variable(alloc, b"r1")?;
+    let time = variable(alloc, b"t1")?;
+    two(alloc, room, time)
+}
+
+fn light_variables(alloc: Global) -> Result<Items<Option<Name>>, NoMemory>
+    ensures { IfOk result (λ names. names ≡ building.light_variables) }
+{
+    let room = variable(alloc, b"r2")?;
+    let lux = variable(alloc, b"lux")?;
+    let time = variable(alloc, b"t2")?;
+    three(alloc, room, lux, time)
+}
+
+fn contact_variables(alloc: Global) -> Result<Items<Option<Name>>, NoMemory>
+    ensures { IfOk result (λ names. names ≡ building.contact_variables) }
+{
+    let room = variable(alloc, b"r2")?;
+    let time = variable(alloc, b"t2")?;
+    two(alloc, room, time)
 }
 
 // The variables of a motion, and those of the other pattern.
@@ -124,7 +193,7 @@ fn with_motion(
 ) -> Result<Items<Items<Option<Name>>>, NoMemory>
     ensures { IfOk result (λ rows. rows ≡ building.with_motion others) }
 {
-    let motion = two(alloc, variable(alloc, b"r1")?, variable(alloc, b"t1")?)?;
+    let motion = motion_variables(alloc)?;
     two(alloc, motion, others)
 }
 
@@ -143,92 +212,157 @@ fn tell_desk(alloc: Global, kind: u32) -> Result<Items<Statement>, NoMemory>
     )
 }
 
+fn light_definition(alloc: Global) -> Result<Definition, NoMemory>
+    ensures { IfOk result (λ definition. definition ≡ building.light_rule.definition) }
+{
+    let patterns = two(alloc, MOTION, LIGHT)?;
+    let conjuncts = light_guard(alloc)?;
+    Ok(Definition {
+        patterns,
+        conjuncts,
+        window: None,
+    })
+}
+
 fn light_rule(alloc: Global) -> Result<Rule, NoMemory>
     ensures { IfOk result (λ rule. rule ≡ building.light_rule) }
 {
-    let room = variable(alloc, b"r2")?;
-    let lux = variable(alloc, b"lux")?;
-    let time = variable(alloc, b"t2")?;
+    let variables = with_motion(alloc, light_variables(alloc)?)?;
+    let body = tell_desk(alloc, ON)?;
+    let definition = light_definition(alloc)?;
     Ok(Rule {
-        definition: Definition {
-            patterns: two(alloc, MOTION, LIGHT)?,
-            conjuncts: light_guard(alloc)?,
-            window: None,
-        },
-        variables: with_motion(alloc, three(alloc, room, lux, time)?)?,
-        body: tell_desk(alloc, ON)?,
+        definition,
+        variables,
+        body,
+    })
+}
+
+fn contact_definition(alloc: Global) -> Result<Definition, NoMemory>
+    ensures { IfOk result (λ definition. definition ≡ building.contact_rule.definition) }
+{
+    let patterns = two(alloc, MOTION, CONTACT)?;
+    let conjuncts = contact_guard(alloc)?;
+    Ok(Definition {
+        patterns,
+        conjuncts,
+        window: None,
     })
 }
 
 fn contact_rule(alloc: Global) -> Result<Rule, NoMemory>
     ensures { IfOk result (λ rule. rule ≡ building.contact_rule) }
 {
-    let others = two(alloc, variable(alloc, b"r2")?, variable(alloc, b"t2")?)?;
+    let variables = with_motion(alloc, contact_variables(alloc)?)?;
+    let body = tell_desk(alloc, ALARM)?;
+    let definition = contact_definition(alloc)?;
     Ok(Rule {
-        definition: Definition {
-            patterns: two(alloc, MOTION, CONTACT)?,
-            conjuncts: contact_guard(alloc)?,
-            window: None,
-        },
-        variables: with_motion(alloc, others)?,
-        body: tell_desk(alloc, ALARM)?,
+        definition,
+        variables,
+        body,
     })
+}
+
+fn hall_rules(alloc: Global) -> Result<Items<Rule>, NoMemory>
+    ensures { IfOk result (λ rules. rules ≡ building.hall_rules) }
+{
+    let light = light_rule(alloc)?;
+    let contact = contact_rule(alloc)?;
+    two(alloc, light, contact)
 }
 
 fn hall(alloc: Global, name: &[u8]) -> Result<ActorPlan, NoMemory>
     requires is_name { is_name name.now ≡ true }
     ensures { IfOk result (λ actor. actor ≡ building.hall name.now) }
 {
-    Ok(ActorPlan {
-        name: Name::from_bytes(alloc, name)?,
-        rules: two(alloc, light_rule(alloc)?, contact_rule(alloc)?)?,
-    })
+    let name = Name::from_bytes(alloc, name)?;
+    let rules = hall_rules(alloc)?;
+    Ok(ActorPlan { name, rules })
+}
+
+// The variables of `KIND(r)`.
+fn print_variables(alloc: Global) -> Result<Items<Items<Option<Name>>>, NoMemory>
+    ensures { IfOk result (λ rows. rows ≡ building.print_variables) }
+{
+    let room = variable(alloc, b"r")?;
+    let row = one(alloc, room)?;
+    one(alloc, row)
+}
+
+// `print TEXT r;`.
+fn print_body(alloc: Global, text: Text) -> Result<Items<Statement>, NoMemory>
+    ensures { IfOk result (λ body. body ≡ building.print_body text) }
+{
+    let words = Item::Words(WordsLeaf::Fixed(text));
+    let items = two(alloc, words, Item::Plain(place_at(0, 0)))?;
+    one(alloc, Statement::Print(items))
 }
 
 // `when KIND(r) { print TEXT r; }`.
 fn print_rule(alloc: Global, kind: u32, text: Text) -> Result<Rule, NoMemory>
     ensures { IfOk result (λ rule. rule ≡ building.print_rule kind text) }
 {
-    let items = two(
-        alloc,
-        Item::Words(WordsLeaf::Fixed(text)),
-        Item::Plain(place_at(0, 0)),
-    )?;
+    let body = print_body(alloc, text)?;
+    let variables = print_variables(alloc)?;
+    let patterns = one(alloc, kind)?;
     Ok(Rule {
         definition: Definition {
-            patterns: one(alloc, kind)?,
+            patterns,
             conjuncts: ConjunctList::new(alloc),
             window: None,
         },
-        variables: one(alloc, one(alloc, variable(alloc, b"r")?)?)?,
-        body: one(alloc, Statement::Print(items))?,
+        variables,
+        body,
     })
+}
+
+fn on_rule(alloc: Global) -> Result<Rule, NoMemory>
+    ensures { IfOk result (λ rule. rule ≡ building.on_rule) }
+{
+    let text = Text::from_text(alloc, b"light on in ")?;
+    print_rule(alloc, ON, text)
+}
+
+fn alarm_rule(alloc: Global) -> Result<Rule, NoMemory>
+    ensures { IfOk result (λ rule. rule ≡ building.alarm_rule) }
+{
+    let text = Text::from_text(alloc, b"alarm in ")?;
+    print_rule(alloc, ALARM, text)
+}
+
+fn desk_rules(alloc: Global) -> Result<Items<Rule>, NoMemory>
+    ensures { IfOk result (λ rules. rules ≡ building.desk.rules) }
+{
+    let on = on_rule(alloc)?;
+    let alarm = alarm_rule(alloc)?;
+    two(alloc, on, alarm)
 }
 
 fn desk(alloc: Global) -> Result<ActorPlan, NoMemory>
     ensures { IfOk result (λ actor. actor ≡ building.desk) }
 {
-    let light = Text::from_text(alloc, b"light on in ")?;
-    let alarm = Text::from_text(alloc, b"alarm in ")?;
-    Ok(ActorPlan {
-        name: Name::from_bytes(alloc, b"desk")?,
-        rules: two(
-            alloc,
-            print_rule(alloc, ON, light)?,
-            print_rule(alloc, ALARM, alarm)?,
-        )?,
-    })
+    let name = Name::from_bytes(alloc, b"desk")?;
+    let rules = desk_rules(alloc)?;
+    Ok(ActorPlan { name, rules })
+}
+
+// Pushes the actors into an empty list.
+fn push_actors(alloc: Global, actors: &mut Items<ActorPlan>) -> Result<(), NoMemory>
+    requires empty { actors.old ≡ [] }
+    ensures { OnOk result (actors.new ≡ building.load_plan.actors) }
+{
+    actors.push(hall(alloc, b"hall1")?)?;
+    actors.push(hall(alloc, b"hall2")?)?;
+    actors.push(hall(alloc, b"hall3")?)?;
+    actors.push(hall(alloc, b"hall4")?)?;
+    actors.push(desk(alloc)?)?;
+    Ok(())
 }
 
 fn actors(alloc: Global) -> Result<Items<ActorPlan>, NoMemory>
     ensures { IfOk result (λ actors. actors ≡ building.load_plan.actors) }
 {
     let mut actors = Items::new(alloc);
-    actors.push(hall(alloc, b"hall1")?)?;
-    actors.push(hall(alloc, b"hall2")?)?;
-    actors.push(hall(alloc, b"hall3")?)?;
-    actors.push(hall(alloc, b"hall4")?)?;
-    actors.push(desk(alloc)?)?;
+    push_actors(alloc, &mut actors)?;
     Ok(actors)
 }
 

@@ -17,8 +17,8 @@ fn write_labelled(
 ) -> Result<(), NoMemory>
     ensures { OnOk result (text.new ≡ text.old ++ (label.now ++ decimal number)) }
 {
-    let digits = number.to_string(alloc)?;
     text.push_all(label)?;
+    let digits = number.to_string(alloc)?;
     text.push_all(digits.as_bytes())
 }
 
@@ -91,6 +91,23 @@ fn write_actors(
     Ok(())
 }
 
+// The summary. Without memory a part of it may stay.
+fn write_summary(
+    alloc: Global,
+    text: &mut Bytes,
+    rows: u32,
+    plan: &Plan,
+    run: &Run,
+) -> Result<(), NoMemory>
+    requires actors { length run.now.actors ≡ length plan.now.actors }
+    ensures { OnOk result (text.new ≡ text.old ++ summary_text rows plan.now run.now) }
+{
+    write_labelled(alloc, text, b"load ", u128::from(rows))?;
+    write_labelled(alloc, text, b" feeds ", u128::from(run.feeds))?;
+    text.push_all(b"\n")?;
+    write_actors(alloc, text, plan, run.actors.as_slice())
+}
+
 /// Appends the summary of a run over feeds of so many rows: `load N feeds F`, and for each actor the line `actor NAME
 /// arrivals N firings N late N left N partials N`, with the number of its arrivals, of those that fired, of the
 /// messages that were late, of those that are left, and of its partial matches. After `NoMemory` nothing was appended.
@@ -106,9 +123,6 @@ pub fn summary(
     ensures err { OnErr result (out.new ≡ out.old) }
 {
     let mut text = Bytes::new(alloc);
-    write_labelled(alloc, &mut text, b"load ", u128::from(rows))?;
-    write_labelled(alloc, &mut text, b" feeds ", u128::from(run.feeds))?;
-    text.push_all(b"\n")?;
-    write_actors(alloc, &mut text, plan, run.actors.as_slice())?;
+    write_summary(alloc, &mut text, rows, plan, run)?;
     out.push_all(text.bytes())
 }

@@ -1,6 +1,7 @@
 //! Actors that ended at a limit, as the log of a run tells of them while it is written.
-use crate::sentence::LIMITS;
-use join_base::{Bytes, NoMemory, write_number};
+use crate::part::{Part, note_of, push_parts};
+use crate::sentence::{LIMITS, PROGRAM};
+use join_base::{Bytes, NoMemory};
 use std::alloc::Global;
 
 // The most bytes of a line that are looked at.
@@ -52,6 +53,82 @@ fn number_behind(line: &[u8], word: &[u8]) -> u64 {
     0
 }
 
+// Appends which actor ended, and behind which arrival.
+fn push_actor(told: &mut Bytes, name: &[u8], arrival: u64) -> Result<(), NoMemory> {
+    push_parts(
+        told,
+        &[
+            Part::Text(PROGRAM),
+            Part::Text(b"actor "),
+            Part::Text(name),
+            Part::Text(b" ended behind arrival "),
+            Part::Number(i128::from(arrival)),
+        ],
+    )
+}
+
+// Appends the limit that it met.
+fn push_limit<'a>(
+    told: &mut Bytes,
+    front: &'a [u8],
+    most: u64,
+    back: &'a [u8],
+) -> Result<(), NoMemory> {
+    push_parts(
+        told,
+        &[
+            Part::Text(front),
+            Part::Number(i128::from(most)),
+            Part::Text(back),
+        ],
+    )
+}
+
+// What is told behind the number of later messages.
+fn later_messages(count: u64) -> &'static [u8] {
+    if count == 1 {
+        b" later message\n"
+    } else {
+        b" later messages\n"
+    }
+}
+
+// Appends how many messages it did not look at.
+fn push_late(told: &mut Bytes, late: u64) -> Result<(), NoMemory> {
+    push_parts(
+        told,
+        &[
+            Part::Text(b", and did not look at "),
+            Part::Number(i128::from(late)),
+            Part::Text(later_messages(late)),
+        ],
+    )
+}
+
+// What a line of a log tells.
+#[derive(Clone, Copy)]
+enum LineSort {
+    Arrival,
+    Head,
+    Section,
+    Late,
+    Jammed,
+    Spent,
+    Other,
+}
+
+fn sort_of(line: &[u8]) -> LineSort {
+    match line {
+        [b'0'..=b'9', ..] => LineSort::Arrival,
+        [b'j', ..] => LineSort::Head,
+        [b'a', ..] => LineSort::Section,
+        [b'l', ..] => LineSort::Late,
+        _ if line.starts_with(b"end j") => LineSort::Jammed,
+        _ if line.starts_with(b"end sp") => LineSort::Spent,
+        _ => LineSort::Other,
+    }
+}
+
 impl EndWatch {
     pub fn new(alloc: Global) -> EndWatch {
         EndWatch {
@@ -67,40 +144,28 @@ impl EndWatch {
         }
     }
 
-    // Appends the beginning of what is told of this actor.
-    fn push_front(&mut self) -> Result<(), NoMemory> {
-        self.told.push_all(b"joinactors: actor ")?;
-        self.told.push_all(self.name.as_slice())?;
-        self.told.push_all(b" ended behind arrival ")?;
-        write_number(&mut self.told, i128::from(self.arrival))
-    }
-
-    // Appends how many messages it did not look at.
-    fn push_late(&mut self) -> Result<(), NoMemory> {
-        self.told.push_all(b", and did not look at ")?;
-        write_number(&mut self.told, i128::from(self.late))?;
-        if self.late == 1 {
-            self.told.push_all(b" later message\n")
-        } else {
-            self.told.push_all(b" later messages\n")
-        }
+    // Appends what is told of this actor, which met a limit: this number between these words.
+    fn push_told(&mut self, front: &[u8], most: u64, back: &[u8]) -> Result<(), NoMemory> {
+        push_actor(&mut self.told, self.name.as_slice(), self.arrival)?;
+        push_limit(&mut self.told, front, most, back)?;
+        push_late(&mut self.told, self.late)
     }
 
     fn push_jammed(&mut self) -> Result<(), NoMemory> {
         self.has_jammed = true;
-        self.push_front()?;
-        self.told.push_all(b": it would keep more than ")?;
-        write_number(&mut self.told, i128::from(self.partials))?;
-        self.told.push_all(b" partial matches (--partials)")?;
-        self.push_late()
+        self.push_told(
+            b": it would keep more than ",
+            self.partials,
+            b" partial matches (--partials)",
+        )
     }
 
     fn push_spent(&mut self) -> Result<(), NoMemory> {
-        self.push_front()?;
-        self.told.push_all(b": it records at most ")?;
-        write_number(&mut self.told, i128::from(self.arrivals))?;
-        self.told.push_all(b" messages (--arrivals)")?;
-        self.push_late()
+        self.push_told(
+            b": it records at most ",
+            self.arrivals,
+            b" messages (--arrivals)",
+        )
     }
 
     // A section begins.
@@ -116,17 +181,17 @@ impl EndWatch {
     // Looks at a whole line.
     fn see_line(&mut self) -> Result<(), NoMemory> {
         let line = self.line.as_slice();
-        match line {
-            [b'0'..=b'9', ..] => self.arrival = number_in(line),
-            [b'j', ..] => {
+        match sort_of(line) {
+            LineSort::Arrival => self.arrival = number_in(line),
+            LineSort::Head => {
                 self.arrivals = number_behind(line, b"arrivals ");
                 self.partials = number_behind(line, b"partials ");
             }
-            [b'a', ..] => return self.begin(),
-            [b'l', ..] => self.late = self.late.saturating_add(last_number(line)),
-            [b'e', b'n', b'd', b' ', b'j', ..] => return self.push_jammed(),
-            [b'e', b'n', b'd', b' ', b's', b'p', ..] => return self.push_spent(),
-            _ => {}
+            LineSort::Section => return self.begin(),
+            LineSort::Late => self.late = self.late.saturating_add(last_number(line)),
+            LineSort::Jammed => return self.push_jammed(),
+            LineSort::Spent => return self.push_spent(),
+            LineSort::Other => {}
         }
         Ok(())
     }
@@ -165,12 +230,8 @@ impl EndWatch {
 
     /// What is told of the actors of a run that met a limit.
     pub fn note(&self) -> Result<Bytes, NoMemory> {
-        let mut out = Bytes::new(self.alloc);
-        if self.told.bytes().is_empty() {
-            out.push_all(LIMITS)?;
-        } else {
-            out.push_all(self.told.bytes())?;
-        }
-        Ok(out)
+        let told = self.told.bytes();
+        let told = if told.is_empty() { LIMITS } else { told };
+        note_of(self.alloc, &[Part::Text(told)])
     }
 }

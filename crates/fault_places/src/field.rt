@@ -1,7 +1,9 @@
 //! Which field of a row is at fault, by the script.
-use crate::sentence::feed_sentence;
+use crate::cause::{RowCause, row_cause};
+use crate::part::{Part, push_parts};
+use crate::sentence::{feed_sentence, row_sentence};
 use csv::ByteRecord;
-use join_base::{Bytes, NoMemory, Sort, read_integer, write_number};
+use join_base::{Bytes, NoMemory, Sort, read_integer};
 use script_hints::Script;
 
 // The most bytes of a text, and of a field that is shown.
@@ -22,78 +24,111 @@ fn front_of(field: &[u8]) -> &[u8] {
     front
 }
 
-// Appends pieces, and a field in quotes where it stands among them.
-fn push_quoted(out: &mut Bytes, field: &[u8]) -> Result<(), NoMemory> {
-    out.push_all(b"\"")?;
-    out.push_all(front_of(field))?;
-    out.push_all(b"\"")
-}
-
 fn is_text(field: &[u8]) -> bool {
     std::str::from_utf8(field).is_ok()
 }
 
 // Whether a field has this fault at a type.
-fn is_wrong(cause: &[u8], sort: Sort, field: &[u8]) -> bool {
+fn is_wrong(cause: RowCause, sort: Sort, field: &[u8]) -> bool {
     match (cause, sort) {
-        (b"BadInt", Sort::Int) => read_integer(field).is_none(),
-        (b"NotText", Sort::Words) => !is_text(field),
-        (b"TooLong", Sort::Words) => is_text(field) && field.len() > MAX_TEXT,
+        (RowCause::BadInt, Sort::Int) => read_integer(field).is_none(),
+        (RowCause::NotText, Sort::Words) => !is_text(field),
+        (RowCause::TooLong, Sort::Words) => is_text(field) && field.len() > MAX_TEXT,
         _ => false,
     }
 }
 
+// Whether one of a message's fields, counted from 0, has this fault.
+fn is_wrong_at(script: &Script<'_>, record: &ByteRecord, cause: RowCause, field: usize) -> bool {
+    match script.field_sort(field_at(record, 1), field) {
+        Some(sort) => is_wrong(cause, sort, field_at(record, field.saturating_add(2))),
+        None => false,
+    }
+}
+
 // The first of a message's fields that has this fault, counted from 0.
-fn wrong_field(script: &Script<'_>, record: &ByteRecord, cause: &[u8]) -> Option<usize> {
-    let kind = field_at(record, 1);
-    for place in 2..record.len() {
-        let field = place - 2;
-        if let Some(sort) = script.field_sort(kind, field) {
-            if is_wrong(cause, sort, field_at(record, place)) {
-                return Some(field);
-            }
+fn wrong_field(script: &Script<'_>, record: &ByteRecord, cause: RowCause) -> Option<usize> {
+    for field in 0..record.len().saturating_sub(2) {
+        if is_wrong_at(script, record, cause, field) {
+            return Some(field);
         }
     }
     None
 }
 
-// Appends which field it is.
-fn push_field(
+// Appends which field it is, counted from 0 behind the actor and the message.
+fn push_field<'a>(
     out: &mut Bytes,
-    script: &Script<'_>,
-    kind: &[u8],
     field: usize,
+    name: &'a [u8],
+    kind: &'a [u8],
 ) -> Result<(), NoMemory> {
-    out.push_all(b"field ")?;
-    write_number(out, field as i128 + 3)?;
-    out.push_all(b" of the row, ")?;
-    out.push_all(script.field_name(kind, field).unwrap_or(b"?"))?;
-    out.push_all(b" of ")?;
-    out.push_all(kind)
+    push_parts(
+        out,
+        &[
+            Part::Text(b"field "),
+            Part::Number(field as i128 + 3),
+            Part::Text(b" of the row, "),
+            Part::Text(name),
+            Part::Text(b" of "),
+            Part::Text(kind),
+        ],
+    )
+}
+
+// Appends the type of a field, and what it has instead.
+fn push_value(out: &mut Bytes, cause: RowCause, value: &[u8]) -> Result<(), NoMemory> {
+    match cause {
+        RowCause::BadInt => push_parts(
+            out,
+            &[
+                Part::Text(
+                    b", is an int: a whole number of 64 bits, as 7 or -7, without blanks, and not \"",
+                ),
+                Part::Text(front_of(value)),
+                Part::Text(b"\""),
+            ],
+        ),
+        RowCause::TooLong => push_parts(
+            out,
+            &[
+                Part::Text(b", is a text of at most 120 bytes, and here are "),
+                Part::Number(value.len() as i128),
+            ],
+        ),
+        _ => out.push_all(b", is a text, and here it is not UTF-8"),
+    }
 }
 
 fn push_wrong_field(
     out: &mut Bytes,
     script: &Script<'_>,
     record: &ByteRecord,
-    cause: &[u8],
+    cause: RowCause,
     field: usize,
 ) -> Result<(), NoMemory> {
-    let value = field_at(record, field.saturating_add(2));
-    push_field(out, script, field_at(record, 1), field)?;
-    match cause {
-        b"BadInt" => {
-            out.push_all(
-                b", is an int: a whole number of 64 bits, as 7 or -7, without blanks, and not ",
-            )?;
-            push_quoted(out, value)
-        }
-        b"TooLong" => {
-            out.push_all(b", is a text of at most 120 bytes, and here are ")?;
-            write_number(out, value.len() as i128)
-        }
-        _ => out.push_all(b", is a text, and here it is not UTF-8"),
+    let kind = field_at(record, 1);
+    let name = script.field_name(kind, field).unwrap_or(b"?");
+    push_field(out, field, name, kind)?;
+    push_value(out, cause, field_at(record, field.saturating_add(2)))
+}
+
+// Appends which of the message's fields has this fault.
+fn push_bad_value(
+    out: &mut Bytes,
+    script: &Script<'_>,
+    record: &ByteRecord,
+    cause: RowCause,
+) -> Result<(), NoMemory> {
+    match wrong_field(script, record, cause) {
+        Some(field) => push_wrong_field(out, script, record, cause, field),
+        None => out.push_all(row_sentence(cause)),
     }
+}
+
+// What is counted.
+fn counted(count: usize, one: &'static [u8], many: &'static [u8]) -> &'static [u8] {
+    if count == 1 { one } else { many }
 }
 
 // Appends how many values the row has, and how many fields its message.
@@ -103,17 +138,67 @@ fn push_wrong_count(
     record: &ByteRecord,
 ) -> Result<(), NoMemory> {
     let kind = field_at(record, 1);
-    let Some(count) = script.field_count(kind) else {
-        return out.push_all(
+    let behind = record.len().saturating_sub(2);
+    match script.field_count(kind) {
+        Some(count) => push_parts(
+            out,
+            &[
+                Part::Text(b"message "),
+                Part::Text(front_of(kind)),
+                Part::Text(b" has "),
+                Part::Number(count as i128),
+                Part::Text(counted(count, b" field", b" fields")),
+                Part::Text(b", and behind its name "),
+                Part::Number(behind as i128),
+                Part::Text(counted(behind, b" value stands", b" values stand")),
+            ],
+        ),
+        None => out.push_all(
             b"a row has an actor, a message and its values: ACTOR,MESSAGE,VALUE,..",
-        );
-    };
-    out.push_all(b"message ")?;
-    out.push_all(front_of(kind))?;
-    out.push_all(b" has ")?;
-    write_number(out, count as i128)?;
-    out.push_all(b" of the values behind its name, and the row ")?;
-    write_number(out, record.len() as i128 - 2)
+        ),
+    }
+}
+
+// Why the first field names no actor.
+fn actor_sentence(field: &[u8]) -> &'static [u8] {
+    if field.contains(&b';') || field.contains(&b'\t') {
+        b"commas stand between the fields of a row, and the first one is no actor's name"
+    } else {
+        row_sentence(RowCause::UnknownActor)
+    }
+}
+
+// Appends what a name of the row is not, and the name.
+fn push_unknown<'a>(out: &mut Bytes, sentence: &'a [u8], name: &'a [u8]) -> Result<(), NoMemory> {
+    push_parts(
+        out,
+        &[
+            Part::Text(sentence),
+            Part::Text(b": \""),
+            Part::Text(front_of(name)),
+            Part::Text(b"\""),
+        ],
+    )
+}
+
+// Appends why a row is refused for a cause.
+fn push_known(
+    out: &mut Bytes,
+    script: &Script<'_>,
+    record: &ByteRecord,
+    cause: RowCause,
+) -> Result<(), NoMemory> {
+    match cause {
+        RowCause::UnknownActor => {
+            let field = field_at(record, 0);
+            push_unknown(out, actor_sentence(field), field)
+        }
+        RowCause::UnknownMessage => push_unknown(out, row_sentence(cause), field_at(record, 1)),
+        RowCause::WrongCount => push_wrong_count(out, script, record),
+        RowCause::BadInt | RowCause::NotText | RowCause::TooLong => {
+            push_bad_value(out, script, record, cause)
+        }
+    }
 }
 
 /// Appends why a row is refused: which field it is, by its script.
@@ -123,21 +208,8 @@ pub fn push_row_cause(
     record: &ByteRecord,
     cause: &[u8],
 ) -> Result<(), NoMemory> {
-    match cause {
-        b"UnknownActor" => {
-            out.push_all(
-                b"the first field is no actor's name (there is no line of headings, and blanks count): ",
-            )?;
-            push_quoted(out, field_at(record, 0))
-        }
-        b"UnknownMessage" => {
-            out.push_all(b"the second field is no message's name (blanks count): ")?;
-            push_quoted(out, field_at(record, 1))
-        }
-        b"WrongCount" => push_wrong_count(out, script, record),
-        _ => match wrong_field(script, record, cause) {
-            Some(field) => push_wrong_field(out, script, record, cause, field),
-            None => out.push_all(feed_sentence(cause)),
-        },
+    match row_cause(cause) {
+        Some(cause) => push_known(out, script, record, cause),
+        None => out.push_all(feed_sentence(cause)),
     }
 }

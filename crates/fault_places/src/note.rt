@@ -1,11 +1,13 @@
 //! What a person is told.
 use crate::field::push_row_cause;
-use crate::place::{begins_character, line_around, line_start, place_of};
+use crate::part::{Part, name_part, note_of, push_parts};
+use crate::place::{line_around, line_start, place_of};
 use crate::refusal::{Refused, read_refusal};
 use crate::row::{Row, row_at};
-use crate::sentence::{feed_sentence, log_sentence};
-use join_base::{Bytes, NoMemory, byte_at, write_number};
-use script_hints::{hint_of, plain_sentence, script_of};
+use crate::sentence::{PROGRAM, feed_sentence, log_sentence, post_sentence};
+use crate::shown::{end_of, front_of};
+use join_base::{Bytes, NoMemory};
+use script_hints::{Hint, hint_of, plain_sentence, script_of};
 use std::alloc::Global;
 
 // The most bytes that are shown of a row or a line, and of what a line has in front of a place.
@@ -13,95 +15,39 @@ const MAX_SHOWN: usize = 200;
 
 const MAX_FRONT: usize = 120;
 
-// Each message of the program itself begins so. One on a place in a file begins with that.
-const PROGRAM: &[u8] = b"joinactors: ";
-
-// The front of the bytes, with whole characters alone.
-fn front_of(bytes: &[u8], max: usize) -> &[u8] {
-    if bytes.len() <= max {
-        return bytes;
-    }
-    let mut end = max;
-    'whole: while end > 0 && !begins_character(bytes[end]) {
-        end -= 1;
-    }
-    &bytes[..end]
+// What is told of a script: file, line, column, cause, and the line with a mark.
+fn hint_note<'a>(
+    alloc: Global,
+    name: &'a str,
+    text: &'a [u8],
+    cause: &'a [u8],
+    hint: &'a Hint,
+) -> Result<Bytes, NoMemory> {
+    let found = place_of(text, hint.place);
+    let (front, back) = line_around(text, hint.place);
+    let front = end_of(front, MAX_FRONT);
+    note_of(
+        alloc,
+        &[
+            name_part(name),
+            Part::Text(b":"),
+            Part::Number(found.line as i128),
+            Part::Text(b":"),
+            Part::Number(found.column as i128),
+            Part::Text(b": "),
+            Part::Text(cause),
+            Part::Text(b": "),
+            Part::Shown(hint.sentence.bytes()),
+            Part::Text(b"\n    "),
+            Part::Shown(front),
+            Part::Shown(front_of(back, MAX_SHOWN - MAX_FRONT)),
+            Part::Text(b"\n"),
+            Part::Mark(front),
+        ],
+    )
 }
 
-// The end of the bytes, with whole characters alone.
-fn end_of(bytes: &[u8], max: usize) -> &[u8] {
-    let mut start = bytes.len().saturating_sub(max);
-    if start == 0 {
-        return bytes;
-    }
-    'whole: while start < bytes.len() && !begins_character(bytes[start]) {
-        start += 1;
-    }
-    &bytes[start..]
-}
-
-// What is shown of a byte between two others: a blank in place of a sign that a terminal obeys. In UTF-8 some of these
-// have two bytes, of which the first is 0xC2.
-fn shown(before: u8, b: u8, behind: u8) -> Option<u8> {
-    match (before, b, behind) {
-        (_, 0xC2, 0x80..=0x9F) => None,
-        (0xC2, 0x80..=0x9F, _) => Some(b' '),
-        (_, b'\t', _) => Some(b'\t'),
-        (_, 0..=31 | 127, _) => Some(b' '),
-        _ => Some(b),
-    }
-}
-
-/// Appends the bytes as they are shown.
-pub fn push_shown(out: &mut Bytes, bytes: &[u8]) -> Result<(), NoMemory> {
-    let mut before = 0;
-    for place in 0..bytes.len() {
-        let b = bytes[place];
-        if let Some(sign) = shown(before, b, byte_at(bytes, place + 1)) {
-            out.push_all(&[sign])?;
-        }
-        before = b;
-    }
-    Ok(())
-}
-
-/// Appends the name of a file. One without a sign would not be seen.
-pub fn push_name(out: &mut Bytes, name: &str) -> Result<(), NoMemory> {
-    if name.is_empty() {
-        out.push_all(b"\"\"")
-    } else {
-        push_shown(out, name.as_bytes())
-    }
-}
-
-// Appends a line that is indented.
-fn push_line(out: &mut Bytes, line: &[u8]) -> Result<(), NoMemory> {
-    out.push_all(b"    ")?;
-    push_shown(out, front_of(line, MAX_SHOWN))?;
-    out.push_all(b"\n")
-}
-
-// Appends a mark below the place behind what a line has in front.
-fn push_mark(out: &mut Bytes, front: &[u8]) -> Result<(), NoMemory> {
-    out.push_all(b"    ")?;
-    for b in front {
-        if *b == b'\t' {
-            out.push_all(b"\t")?;
-        } else if begins_character(*b) {
-            out.push_all(b" ")?;
-        }
-    }
-    out.push_all(b"^\n")
-}
-
-// Appends a cause and its sentence.
-fn push_cause(out: &mut Bytes, cause: &[u8], sentence: &[u8]) -> Result<(), NoMemory> {
-    out.push_all(cause)?;
-    out.push_all(b": ")?;
-    push_shown(out, sentence)
-}
-
-// What is told of a script with a fault at this place: file, line, column, cause, and the line with a mark.
+// What is told of a script with a fault at this place.
 fn script_note(
     alloc: Global,
     name: &str,
@@ -111,52 +57,68 @@ fn script_note(
 ) -> Result<Bytes, NoMemory> {
     let at = place.min(text.len() as u64) as usize;
     let hint = hint_of(alloc, text, at, cause)?;
-    let found = place_of(text, hint.place);
-    let (front, back) = line_around(text, hint.place);
-    let front = end_of(front, MAX_FRONT);
-    let mut out = Bytes::new(alloc);
-    push_name(&mut out, name)?;
-    out.push_all(b":")?;
-    write_number(&mut out, found.line as i128)?;
-    out.push_all(b":")?;
-    write_number(&mut out, found.column as i128)?;
-    out.push_all(b": ")?;
-    push_cause(&mut out, cause, hint.sentence.bytes())?;
-    out.push_all(b"\n    ")?;
-    push_shown(&mut out, front)?;
-    push_shown(&mut out, front_of(back, MAX_SHOWN - MAX_FRONT))?;
-    out.push_all(b"\n")?;
-    push_mark(&mut out, front)?;
-    Ok(out)
+    hint_note(alloc, name, text, cause, &hint)
 }
 
-// The beginning of a note on a numbered part of a file.
-fn part_note(alloc: Global, name: &str, part: &[u8], number: u64) -> Result<Bytes, NoMemory> {
-    let mut out = Bytes::new(alloc);
-    push_name(&mut out, name)?;
-    out.push_all(part)?;
-    write_number(&mut out, i128::from(number))?;
-    out.push_all(b": ")?;
-    Ok(out)
-}
-
-// Appends why a row is refused, by the script where that is at hand.
-fn push_row(
+// Appends why a row is refused, by the script.
+fn push_cause_by(
     alloc: Global,
     out: &mut Bytes,
-    script: Option<&[u8]>,
+    text: &[u8],
     row: &Row<'_>,
     cause: &[u8],
 ) -> Result<(), NoMemory> {
-    let mut sentence = Bytes::new(alloc);
-    match script {
-        Some(text) => push_row_cause(&mut sentence, &script_of(alloc, text)?, &row.fields, cause)?,
-        None => sentence.push_all(feed_sentence(cause))?,
-    }
-    push_cause(out, cause, sentence.bytes())
+    let script = script_of(alloc, text)?;
+    push_row_cause(out, &script, &row.fields, cause)
 }
 
-// What is told of a feed with a row in fault: file, line, row, cause, and the row.
+// Why a row is refused, by the script where that is at hand.
+fn row_reason(
+    alloc: Global,
+    script: Option<&[u8]>,
+    row: &Row<'_>,
+    cause: &[u8],
+) -> Result<Bytes, NoMemory> {
+    match script {
+        None => note_of(alloc, &[Part::Text(feed_sentence(cause))]),
+        Some(text) => {
+            let mut sentence = Bytes::new(alloc);
+            push_cause_by(alloc, &mut sentence, text, row, cause)?;
+            Ok(sentence)
+        }
+    }
+}
+
+// What is told of a row: file, line, row, cause, and the row.
+fn row_note<'a>(
+    alloc: Global,
+    name: &'a str,
+    line: usize,
+    number: u64,
+    cause: &'a [u8],
+    sentence: &'a [u8],
+    row: &'a [u8],
+) -> Result<Bytes, NoMemory> {
+    note_of(
+        alloc,
+        &[
+            name_part(name),
+            Part::Text(b":"),
+            Part::Number(line as i128),
+            Part::Text(b": row "),
+            Part::Number(i128::from(number)),
+            Part::Text(b": "),
+            Part::Text(cause),
+            Part::Text(b": "),
+            Part::Shown(sentence),
+            Part::Text(b"\n    "),
+            Part::Shown(front_of(row, MAX_SHOWN)),
+            Part::Text(b"\n"),
+        ],
+    )
+}
+
+// What is told of a feed with a row in fault.
 fn feed_note(
     alloc: Global,
     name: &str,
@@ -166,42 +128,116 @@ fn feed_note(
     cause: &[u8],
 ) -> Result<Bytes, NoMemory> {
     let row = row_at(alloc, text, number)?;
-    let mut out = Bytes::new(alloc);
-    push_name(&mut out, name)?;
-    out.push_all(b":")?;
-    write_number(&mut out, place_of(text, row.place).line as i128)?;
-    out.push_all(b": row ")?;
-    write_number(&mut out, i128::from(number))?;
-    out.push_all(b": ")?;
-    push_row(alloc, &mut out, script, &row, cause)?;
-    out.push_all(b"\n")?;
-    push_line(&mut out, row.bytes)?;
+    let sentence = row_reason(alloc, script, &row, cause)?;
+    let line = place_of(text, row.place).line;
+    row_note(
+        alloc,
+        name,
+        line,
+        number,
+        cause,
+        sentence.bytes(),
+        row.bytes,
+    )
+}
+
+// What is told of a part of a file that can't be shown: file, part, cause and sentence.
+fn blind_note<'a>(
+    alloc: Global,
+    name: &'a str,
+    part: &'a [u8],
+    number: u64,
+    cause: &'a [u8],
+    sentence: &'a [u8],
+) -> Result<Bytes, NoMemory> {
+    note_of(
+        alloc,
+        &[
+            name_part(name),
+            Part::Text(part),
+            Part::Number(i128::from(number)),
+            Part::Text(b": "),
+            Part::Text(cause),
+            Part::Text(b": "),
+            Part::Shown(sentence),
+            Part::Text(b"\n"),
+        ],
+    )
+}
+
+// What is told of a line of a log: file, line, cause and sentence, the line, and what is told behind it.
+fn line_note<'a>(
+    alloc: Global,
+    name: &'a str,
+    line: u64,
+    cause: &'a [u8],
+    sentence: &'a [u8],
+    shown: &'a [u8],
+    behind: &[Part<'_>],
+) -> Result<Bytes, NoMemory> {
+    let mut out = note_of(
+        alloc,
+        &[
+            name_part(name),
+            Part::Text(b":"),
+            Part::Number(i128::from(line)),
+            Part::Text(b": "),
+            Part::Text(cause),
+            Part::Text(b": "),
+            Part::Shown(sentence),
+            Part::Text(b"\n    "),
+            Part::Shown(front_of(shown, MAX_SHOWN)),
+            Part::Text(b"\n"),
+        ],
+    )?;
+    push_parts(&mut out, behind)?;
     Ok(out)
 }
 
-// What is told of a log with a line in fault: file, line, cause, and the line, where the log has it.
+// What is told of a line of a log that begins at this place, and of the line that should stand there, where that is known.
+fn expected_note<'a>(
+    alloc: Global,
+    name: &'a str,
+    text: &'a [u8],
+    start: usize,
+    line: u64,
+    cause: &'a [u8],
+    expected: Option<&'a [u8]>,
+) -> Result<Bytes, NoMemory> {
+    let (_, back) = line_around(text, start);
+    let is_ended = back.len() < text.len().saturating_sub(start);
+    let sentence = log_sentence(cause, back, line, is_ended);
+    match expected {
+        None => line_note(alloc, name, line, cause, sentence, back, &[]),
+        Some(wanted) if wanted == back => {
+            line_note(alloc, name, line, cause, post_sentence(back), back, &[])
+        }
+        Some(wanted) => {
+            let behind = [
+                Part::Text(b"  here should stand:\n    "),
+                Part::Shown(front_of(wanted, MAX_SHOWN)),
+                Part::Text(b"\n"),
+            ];
+            line_note(alloc, name, line, cause, sentence, back, &behind)
+        }
+    }
+}
+
+// What is told of a log with a line in fault, where the log has it.
 fn log_note(
     alloc: Global,
     name: &str,
     text: &[u8],
     line: u64,
     cause: &[u8],
+    expected: Option<&[u8]>,
 ) -> Result<Bytes, NoMemory> {
-    let mut out = part_note(alloc, name, b":", line)?;
     match line_start(text, line) {
         Some(start) if start < text.len() => {
-            let (_, back) = line_around(text, start);
-            let is_ended = back.len() < text.len() - start;
-            push_cause(&mut out, cause, log_sentence(cause, back, line, is_ended))?;
-            out.push_all(b"\n")?;
-            push_line(&mut out, back)?;
+            expected_note(alloc, name, text, start, line, cause, expected)
         }
-        _ => {
-            push_cause(&mut out, cause, b"the log ends too early")?;
-            out.push_all(b"\n")?;
-        }
+        _ => blind_note(alloc, name, b":", line, cause, b"the log ends too early"),
     }
-    Ok(out)
 }
 
 /// What is told of the file that a written line refuses, by its name and its bytes. Nothing where the line refuses
@@ -215,7 +251,7 @@ pub fn refusal_note(
     match read_refusal(line) {
         Some(Refused::Script { place, cause }) => script_note(alloc, name, text, place, cause),
         Some(Refused::Feed { row, cause }) => feed_note(alloc, name, text, None, row, cause),
-        Some(Refused::Log { line, cause }) => log_note(alloc, name, text, line, cause),
+        Some(Refused::Log { line, cause }) => log_note(alloc, name, text, line, cause, None),
         None => Ok(Bytes::new(alloc)),
     }
 }
@@ -236,19 +272,18 @@ pub fn refusal_note_by(
     }
 }
 
-// What is told of a part of a file that can't be shown.
-fn blind_note(
+/// The same of a log, with the line that should stand in place of one that differs, where that is known.
+pub fn differing_note(
     alloc: Global,
     name: &str,
-    part: &[u8],
-    number: u64,
-    cause: &[u8],
-    sentence: &[u8],
+    text: &[u8],
+    expected: Option<&[u8]>,
+    line: &[u8],
 ) -> Result<Bytes, NoMemory> {
-    let mut out = part_note(alloc, name, part, number)?;
-    push_cause(&mut out, cause, sentence)?;
-    out.push_all(b"\n")?;
-    Ok(out)
+    match read_refusal(line) {
+        Some(Refused::Log { line, cause }) => log_note(alloc, name, text, line, cause, expected),
+        _ => refusal_note(alloc, name, text, line),
+    }
 }
 
 /// The same of a file that can't be read a second time, as a pipe: where the fault is, and why.
@@ -275,25 +310,31 @@ pub fn unseen_note(alloc: Global, name: &str, line: &[u8]) -> Result<Bytes, NoMe
 }
 
 /// What is told of a file that could not be read, with the words of the system.
-pub fn read_note(alloc: Global, name: &str, why: &str) -> Result<Bytes, NoMemory> {
-    let mut out = Bytes::new(alloc);
-    out.push_all(PROGRAM)?;
-    push_name(&mut out, name)?;
-    out.push_all(b": ")?;
-    out.push_all(why.as_bytes())?;
-    out.push_all(b"\n")?;
-    Ok(out)
+pub fn read_note<'a>(alloc: Global, name: &'a str, why: &'a str) -> Result<Bytes, NoMemory> {
+    note_of(
+        alloc,
+        &[
+            Part::Text(PROGRAM),
+            name_part(name),
+            Part::Text(b": "),
+            Part::Text(why.as_bytes()),
+            Part::Text(b"\n"),
+        ],
+    )
 }
 
 /// What is told of a file that has more bytes than are read.
 pub fn long_note(alloc: Global, name: &str, max: u64) -> Result<Bytes, NoMemory> {
-    let mut out = Bytes::new(alloc);
-    out.push_all(PROGRAM)?;
-    push_name(&mut out, name)?;
-    out.push_all(b": more than ")?;
-    write_number(&mut out, i128::from(max))?;
-    out.push_all(b" bytes\n")?;
-    Ok(out)
+    note_of(
+        alloc,
+        &[
+            Part::Text(PROGRAM),
+            name_part(name),
+            Part::Text(b": more than "),
+            Part::Number(i128::from(max)),
+            Part::Text(b" bytes\n"),
+        ],
+    )
 }
 
 /// What is told of output that could not be written, with the words of the system.

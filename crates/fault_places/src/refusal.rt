@@ -57,3 +57,11 @@ pub fn read_refusal(line: &[u8]) -> Option<Refused<'_>> {
     let (line, cause) = number_and_cause(behind(behind(rest, b"log")?, b"line")?)?;
     Some(Refused::Log { line, cause })
 }
+
+/// The number of the line of a log that a written line says to differ.
+pub fn differing_line(line: &[u8]) -> Option<u64> {
+    match read_refusal(line) {
+        Some(Refused::Log { line, cause }) if cause == b"Differs".as_slice() => Some(line),
+        _ => None,
+    }
+}

@@ -1,7 +1,7 @@
 //! The row of a feed, as its file has it.
 ghost use Rattle.std.specs.Prelude.{◌≤◌, length};
 
-use csv::{ByteRecord, ReaderBuilder};
+use csv::{ByteRecord, Reader, ReaderBuilder};
 use join_base::NoMemory;
 use std::alloc::Global;
 
@@ -50,33 +50,40 @@ pub struct Row<'a> {
     pub fields: ByteRecord,
 }
 
-/// The record of this number, counted from 1. Where there is no such record, it has no fields, and its place is the end.
+// Reads up to the record of this number, and says between which places of the file it stands, where there is one.
+fn read_to(
+    reader: &mut Reader<&[u8]>,
+    fields: &mut ByteRecord,
+    row: u64,
+) -> Result<Option<(u64, u64)>, NoMemory> {
+    for number in 1..u64::MAX {
+        let start = reader.position().byte();
+        match reader.read_byte_record(fields) {
+            Ok(true) if number == row => return Ok(Some((start, reader.position().byte()))),
+            Ok(true) => {}
+            Ok(false) => break,
+            Err(_) => return Err(NoMemory),
+        }
+    }
+    fields.clear();
+    Ok(None)
+}
+
+/// The record of this number, counted from 1. Where there is no such record, it has no fields, and its place is the
+/// end.
 pub fn row_at(alloc: Global, bytes: &[u8], row: u64) -> Result<Row<'_>, NoMemory> {
     let mut reader = ReaderBuilder::new()
         .has_headers(false)
         .flexible(true)
         .from_reader(alloc, bytes);
     let mut fields = ByteRecord::new(alloc);
-    for number in 1..u64::MAX {
-        let start = reader.position().byte();
-        match reader.read_byte_record(&mut fields) {
-            Ok(true) => {
-                if number == row {
-                    let (place, bytes) = row_between(bytes, start, reader.position().byte());
-                    return Ok(Row {
-                        place,
-                        bytes,
-                        fields,
-                    });
-                }
-            }
-            Ok(false) => break,
-            Err(_) => return Err(NoMemory),
-        }
-    }
+    let (place, bytes) = match read_to(&mut reader, &mut fields, row)? {
+        Some((start, end)) => row_between(bytes, start, end),
+        None => (bytes.len(), bytes.split_at(bytes.len()).1),
+    };
     Ok(Row {
-        place: bytes.len(),
-        bytes: &[],
-        fields: ByteRecord::new(alloc),
+        place,
+        bytes,
+        fields,
     })
 }

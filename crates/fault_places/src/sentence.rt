@@ -1,4 +1,8 @@
 //! A sentence for each cause, and the list of commands.
+use crate::cause::{LogCause, RowCause, log_cause, row_cause};
+
+/// Each message of the program itself begins so. One on a place in a file begins with that.
+pub const PROGRAM: &[u8] = b"joinactors: ";
 
 /// The commands with their words, and the options of `run` with their ranges.
 pub const USAGE: &[u8] = b"usage:
@@ -22,18 +26,26 @@ pub const LIMITS: &[u8] =
   end jammed: at --partials, end spent: at --arrivals
 ";
 
-/// Why a row is refused.
-pub fn feed_sentence(cause: &[u8]) -> &'static [u8] {
+/// Why a row is refused for a cause.
+pub fn row_sentence(cause: RowCause) -> &'static [u8] {
     match cause {
-        b"UnknownActor" =>
+        RowCause::UnknownActor =>
             b"the first field is no actor's name (there is no line of headings, and blanks count)",
-        b"UnknownMessage" => b"the second field is no message's name (blanks count)",
-        b"WrongCount" => b"the row has not as many fields as its message, or names no message",
-        b"BadInt" =>
+        RowCause::UnknownMessage => b"the second field is no message's name (blanks count)",
+        RowCause::WrongCount =>
+            b"the row has not as many fields as its message, or names no message",
+        RowCause::BadInt =>
             b"a field of type int is not a whole number of 64 bits, written like 7 or -7 without blanks",
-        b"NotText" => b"a field of type text is not UTF-8",
-        b"TooLong" => b"a field of type text has more than 120 bytes",
-        _ => b"refused",
+        RowCause::NotText => b"a field of type text is not UTF-8",
+        RowCause::TooLong => b"a field of type text has more than 120 bytes",
+    }
+}
+
+/// Why a row is refused, by the name of the cause.
+pub fn feed_sentence(cause: &[u8]) -> &'static [u8] {
+    match row_cause(cause) {
+        Some(cause) => row_sentence(cause),
+        None => b"refused",
     }
 }
 
@@ -56,11 +68,20 @@ fn line_sentence(line: &[u8], number: u64, is_ended: bool) -> &'static [u8] {
     }
 }
 
+/// Why a line differs that should stand there as it is: it says something else of a post.
+pub fn post_sentence(line: &[u8]) -> &'static [u8] {
+    match line {
+        [b'e', ..] => b"a message that an actor of this script posts to this one never arrives",
+        _ => b"the actor that it comes from posts something else to this one, or nothing more",
+    }
+}
+
 /// Why a line of a log is refused, and whether a line feed ends it.
 pub fn log_sentence(cause: &[u8], line: &[u8], number: u64, is_ended: bool) -> &'static [u8] {
-    match cause {
-        b"LogFault" => line_sentence(line, number, is_ended),
-        b"Differs" => b"the actors of this script do something else with these arrivals",
-        _ => b"refused",
+    match log_cause(cause) {
+        Some(LogCause::LogFault) => line_sentence(line, number, is_ended),
+        Some(LogCause::Differs) =>
+            b"the actors of this script do something else with these arrivals",
+        None => b"refused",
     }
 }

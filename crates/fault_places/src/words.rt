@@ -1,7 +1,7 @@
 //! Which word of the command line is at fault, and why.
-use crate::note::push_shown;
-use crate::sentence::USAGE;
-use join_base::{Bytes, NoMemory, Word, WordList, read_integer, write_number};
+use crate::part::{Part, push_parts};
+use crate::sentence::{PROGRAM, USAGE};
+use join_base::{Bytes, NoMemory, Word, WordList, read_integer};
 use std::alloc::Global;
 
 // A command: its name, how many words it wants besides its options, what these are, and whether it has options.
@@ -184,18 +184,104 @@ fn is_help(word: &[u8]) -> bool {
     asked.contains(&word)
 }
 
-fn push_pieces(out: &mut Bytes, pieces: &[&[u8]]) -> Result<(), NoMemory> {
-    for piece in pieces {
-        out.push_all(piece)?;
-    }
-    Ok(())
+// Appends a word that is no option of a command, and what is told of it.
+fn push_no_option<'a>(
+    out: &mut Bytes,
+    command: &'a [u8],
+    word: &'a [u8],
+    told: &'a [u8],
+) -> Result<(), NoMemory> {
+    push_parts(
+        out,
+        &[
+            Part::Shown(word),
+            Part::Text(b" is no option of "),
+            Part::Text(command),
+            Part::Text(told),
+        ],
+    )
 }
 
-fn push_range(out: &mut Bytes, option: Choice) -> Result<(), NoMemory> {
-    out.push_all(b"--")?;
-    out.push_all(option.0)?;
-    out.push_all(b": a number from 1 to ")?;
-    write_number(out, i128::from(option.1))
+// Appends the range of an option's number, and what is told of it.
+fn push_range<'a>(
+    out: &mut Bytes,
+    option: Choice,
+    told: &'a [u8],
+    value: Part<'a>,
+) -> Result<(), NoMemory> {
+    push_parts(
+        out,
+        &[
+            Part::Text(b"--"),
+            Part::Text(option.0),
+            Part::Text(b": a number from 1 to "),
+            Part::Number(i128::from(option.1)),
+            Part::Text(told),
+            value,
+        ],
+    )
+}
+
+// Appends what a command wants, and what is told of it.
+fn push_wanted<'a>(
+    out: &mut Bytes,
+    command: &'a [u8],
+    wanted: &'a [u8],
+    told: &[Part<'_>],
+) -> Result<(), NoMemory> {
+    let front = [Part::Text(command), Part::Text(b": "), Part::Text(wanted)];
+    push_parts(out, &front)?;
+    push_parts(out, told)
+}
+
+// Appends what a command wants, and how many words there are.
+fn push_count(
+    out: &mut Bytes,
+    command: &[u8],
+    wanted: &[u8],
+    count: usize,
+) -> Result<(), NoMemory> {
+    if count == 1 {
+        return push_wanted(
+            out,
+            command,
+            wanted,
+            &[Part::Text(b", and there is 1 word")],
+        );
+    }
+    let told = [
+        Part::Text(b", and there are "),
+        Part::Number(count as i128),
+        Part::Text(b" words"),
+    ];
+    push_wanted(out, command, wanted, &told)
+}
+
+// Appends that a command has no options.
+fn push_no_options<'a>(out: &mut Bytes, command: &'a [u8], word: &'a [u8]) -> Result<(), NoMemory> {
+    push_parts(
+        out,
+        &[
+            Part::Text(command),
+            Part::Text(b" has no options, and "),
+            Part::Shown(word),
+            Part::Text(b" begins like one"),
+        ],
+    )
+}
+
+// A word. One without a sign would not be seen.
+fn word_part(word: &[u8]) -> Part<'_> {
+    if word.is_empty() {
+        Part::Text(b"\"\"")
+    } else {
+        Part::Shown(word)
+    }
+}
+
+// Appends a word, and what is told of it.
+fn push_word<'a>(out: &mut Bytes, word: &'a [u8], told: &'a [u8]) -> Result<(), NoMemory> {
+    push_parts(out, &[word_part(word), Part::Text(told)])
 }
 
 // Appends what is wrong with the words of a command.
@@ -208,43 +294,24 @@ fn push_wrong(
     match wrong {
         Wrong::NoWords => out.push_all(b"no command is given, or a word of it is not UTF-8"),
         Wrong::Help => out.push_all(b"these are the commands"),
-        Wrong::NoCommand(word) => push_pieces(out, &[word, b" is no command"]),
-        Wrong::NoOptions(word) => push_pieces(
-            out,
-            &[command, b" has no options, and ", word, b" begins like one"],
-        ),
-        Wrong::NoOption(word) => push_pieces(out, &[word, b" is no option of ", command]),
-        Wrong::OneDash(word) => push_pieces(
-            out,
-            &[
-                word,
-                b" is no option of ",
-                command,
-                b", and behind -- a word is a file",
-            ],
-        ),
+        Wrong::NoCommand(word) => push_word(out, word, b" is no command"),
+        Wrong::NoOptions(word) => push_no_options(out, command, word),
+        Wrong::NoOption(word) => push_no_option(out, command, word, &[]),
+        Wrong::OneDash(word) => {
+            push_no_option(out, command, word, b", and behind -- a word is a file")
+        }
         Wrong::NoNumber(option) => {
-            push_range(out, option)?;
-            out.push_all(b" is wanted behind it")
+            push_range(out, option, b" is wanted behind it", Part::Text(b""))
         }
         Wrong::BadNumber(option, value) => {
-            push_range(out, option)?;
-            push_pieces(out, &[b" is wanted, and not ", value])
+            push_range(out, option, b" is wanted, and not ", word_part(value))
         }
-        Wrong::Twice(word) => {
-            let (name, _) = cut(word);
-            push_pieces(out, &[name, b" is given twice"])
+        Wrong::Twice(word) => push_word(out, cut(word).0, b" is given twice"),
+        Wrong::Count(count) => push_count(out, command, wanted, count),
+        Wrong::BadRows(word) => {
+            let told = [Part::Text(b", and not "), word_part(word)];
+            push_wanted(out, command, wanted, &told)
         }
-        Wrong::Count(count) => {
-            push_pieces(out, &[command, b": ", wanted, b", and there "])?;
-            if count == 1 {
-                return out.push_all(b"is 1 word");
-            }
-            out.push_all(b"are ")?;
-            write_number(out, count as i128)?;
-            out.push_all(b" words")
-        }
-        Wrong::BadRows(word) => push_pieces(out, &[command, b": ", wanted, b", and not ", word]),
     }
 }
 
@@ -266,14 +333,17 @@ fn push_word_fault(out: &mut Bytes, words: &[Word]) -> Result<(), NoMemory> {
     }
 }
 
+// Appends what is told of words that are no command.
+fn push_words(out: &mut Bytes, words: &[Word]) -> Result<(), NoMemory> {
+    out.push_all(PROGRAM)?;
+    push_word_fault(out, words)?;
+    out.push_all(b"\n")?;
+    out.push_all(USAGE)
+}
+
 /// What is told of words that are no command: the word at fault and why, and then the commands.
 pub fn words_note(alloc: Global, words: &WordList) -> Result<Bytes, NoMemory> {
     let mut out = Bytes::new(alloc);
-    out.push_all(b"joinactors: ")?;
-    let mut fault = Bytes::new(alloc);
-    push_word_fault(&mut fault, words.as_slice())?;
-    push_shown(&mut out, fault.bytes())?;
-    out.push_all(b"\n")?;
-    out.push_all(USAGE)?;
+    push_words(&mut out, words.as_slice())?;
     Ok(out)
 }

@@ -1,17 +1,19 @@
-//! Runs a script of actors with join patterns on feeds and prints the log of the run, checks a script and prints its
-//! plan, lists the definitions of a script of which it sees that they can never fire, checks a log against its script,
-//! or runs a building of its own and prints a summary.
+//! Runs a script of actors with join patterns on feeds, and prints the log of the run. Other commands check a script and
+//! print its plan, list definitions that can never fire, check a log against its script, or run a building of its own
+//! and print a summary. What a person reads of a fault stands on standard error.
 #![tactic(auto)]
 
 mod again;
 mod note;
+mod plan;
 mod remark;
+mod wanted;
 mod watched;
 
 use crate::note::{tell, tell_no_memory};
 use crate::watched::WatchedSink;
 use join_base::{NoMemory, Word, WordList};
-use join_command::{FreeGate, Status, join_main};
+use join_command::{Counted, FreeGate, Status, join_main};
 use std::alloc::Global;
 use std::env;
 use std::io::ErrorKind;
@@ -46,9 +48,10 @@ fn main(rt: HostRuntime) -> ExitCode {
     let status = match command_line(&rt) {
         Ok(words) => {
             let mut inputs = FileInputs::new(&rt);
-            let mut out = WatchedSink::new(rt.alloc(), OutSink::new(rt.stdout()));
+            let mut out = Counted::new(WatchedSink::new(rt.alloc(), OutSink::new(rt.stdout())));
             let status = join_main(&rt, rt.alloc(), &words, &mut inputs, &mut out, &FreeGate);
-            tell(&rt, &words, status, &inputs, &out);
+            let sink = out.into_sink();
+            tell(&rt, &words, status, &inputs, &sink);
             status
         }
         Err(NoMemory) => {

@@ -1,14 +1,15 @@
 //! What a person is told on standard error. Nothing rests on it: the output and the status stand before.
 use crate::again::read_again;
 use crate::remark::{feeds_remark, script_remark, script_to_remark};
+use crate::wanted::wanted_line;
 use crate::watched::WatchedSink;
 use command_words::Request;
 use fault_places::{
-    NO_MEMORY, long_note, read_note, refusal_note, refusal_note_by, unseen_note, words_note,
-    write_note,
+    NO_MEMORY, differing_note, long_note, read_note, refusal_note, refusal_note_by, unseen_note,
+    words_note, write_note,
 };
 use join_base::{Bytes, NoMemory, Word, WordList};
-use join_command::{MAX_FILE, MAX_LOG, Status, command_of, write_all};
+use join_command::{Counted, MAX_FILE, MAX_LOG, Status, command_of, write_all};
 use std::alloc::Global;
 use std::io::{self, Write};
 use system_files::{FileInputs, OutSink};
@@ -47,11 +48,31 @@ fn read_fault_note(alloc: Global, name: &str, error: Option<io::Error>) -> Resul
     }
 }
 
-// The bytes of the script of a run, where it can be read again.
-fn script_again(rt: &HostRuntime, command: &Request<'_>) -> Option<Bytes> {
-    match command {
-        Request::Run(run) => read_again(rt, run.script.as_str()),
-        _ => None,
+// What is told of a feed or the script of a run, where the script can be read again.
+fn run_note(
+    rt: &HostRuntime,
+    script: &Word,
+    name: &str,
+    text: &[u8],
+    line: &[u8],
+) -> Result<Bytes, NoMemory> {
+    match read_again(rt, script.as_str()) {
+        Some(script) => refusal_note_by(rt.alloc(), name, text, script.bytes(), line),
+        None => refusal_note(rt.alloc(), name, text, line),
+    }
+}
+
+// What is told of the script or the log of a replay.
+fn replay_note(
+    rt: &HostRuntime,
+    script: &Word,
+    name: &str,
+    text: &[u8],
+    line: &[u8],
+) -> Result<Bytes, NoMemory> {
+    match wanted_line(rt, script, text, line) {
+        Some(wanted) => differing_note(rt.alloc(), name, text, Some(wanted.bytes()), line),
+        None => refusal_note(rt.alloc(), name, text, line),
     }
 }
 
@@ -65,9 +86,10 @@ fn refused_note(
     let Some(text) = read_again(rt, name) else {
         return unseen_note(rt.alloc(), name, line);
     };
-    match script_again(rt, command) {
-        Some(script) => refusal_note_by(rt.alloc(), name, text.bytes(), script.bytes(), line),
-        None => refusal_note(rt.alloc(), name, text.bytes(), line),
+    match command {
+        Request::Run(run) => run_note(rt, run.script, name, text.bytes(), line),
+        Request::Replay { script, .. } => replay_note(rt, *script, name, text.bytes(), line),
+        _ => refusal_note(rt.alloc(), name, text.bytes(), line),
     }
 }
 
@@ -125,7 +147,7 @@ fn note_of<W: Write + Drop>(
 
 fn tell_bytes(rt: &HostRuntime, bytes: &[u8]) {
     // Where standard error takes nothing there is nobody to tell.
-    let _ = write_all(&mut OutSink::new(rt.stderr()), bytes);
+    let _ = write_all(&mut Counted::new(OutSink::new(rt.stderr())), bytes);
 }
 
 pub fn tell_no_memory(rt: &HostRuntime) {

@@ -1,11 +1,10 @@
 //! What is remarked besides a good answer: definitions that keep too much, and quotes that are never closed.
 use crate::again::read_again;
+use crate::plan::plan_of;
 use command_words::Request;
 use fault_places::{Tie, feed_remark, push_tie};
 use join_base::{Bytes, NoMemory, Word};
-use script_check::check_script;
 use script_hints::{Script, script_of};
-use script_reader::read_script;
 use script_types::{Plan, Rule};
 use std::alloc::Global;
 use tied_patterns::{Tied, tied_pairs};
@@ -31,11 +30,10 @@ fn variable_name(rule: &Rule, pattern: u32, field: u32) -> &[u8] {
 }
 
 fn tie_of<'a>(plan: &'a Plan, rule: &'a Rule, tied: &Tied) -> Tie<'a> {
-    let link = tied.link.unwrap_or(tied.left);
     Tie {
         left_kind: kind_name(plan, rule, tied.left.pattern),
         right_kind: kind_name(plan, rule, tied.right.pattern),
-        link_kind: kind_name(plan, rule, link.pattern),
+        link_kind: kind_name(plan, rule, tied.link.pattern),
         left: variable_name(rule, tied.left.pattern, tied.left.field),
         right: variable_name(rule, tied.right.pattern, tied.right.field),
     }
@@ -69,14 +67,6 @@ fn plan_remark(alloc: Global, name: &str, text: &[u8], plan: &Plan) -> Result<By
         }
     }
     Ok(out)
-}
-
-// The plan of a script without a fault.
-fn plan_of(alloc: Global, text: &[u8]) -> Option<Plan> {
-    match read_script(alloc, text) {
-        Ok(tree) => check_script(alloc, &tree).ok(),
-        Err(_) => None,
-    }
 }
 
 /// What is remarked of the definitions of a script that can be read again.

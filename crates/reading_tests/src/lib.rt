@@ -1,14 +1,19 @@
 //! Tests of what is read, and of what people are told of it: feeds, the words of a command line, logs, and the messages
-//! on mistakes in each of them and in scripts, and patterns that are tied only through another.
+//! on mistakes in each of them and in scripts, where the lines of a file begin, and patterns that are tied only through
+//! another.
 //!
 //! What whole calls print is tested by the program `worked_examples`, and logs that are changed in each byte and each
 //! line by `check_logs`: here stand what no clause says and those do not show.
 #![tactic(auto)]
 
 #[cfg(test)]
+mod differing;
+#[cfg(test)]
 mod feeds;
 #[cfg(test)]
 mod given;
+#[cfg(test)]
+mod lines;
 #[cfg(test)]
 mod logs;
 #[cfg(test)]

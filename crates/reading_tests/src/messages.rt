@@ -1,6 +1,6 @@
 //! What a person is told of a fault, for each sort of fault.
 use crate::other_mistakes::{FEEDS, LOGS, SCRIPT, WORDS, Words};
-use crate::script_mistakes::{MORE_SCRIPTS, Mistake, OTHER_SCRIPTS, SCRIPTS};
+use crate::script_mistakes::{MORE_SCRIPTS, Mistake, OTHER_SCRIPTS, SCRIPTS, SIGNS_AND_TEXTS};
 use fault_places::{
     EndWatch, LIMITS, NO_MEMORY, Tie, USAGE, feed_remark, long_note, push_tie, read_note,
     refusal_note, refusal_note_by, unseen_note, words_note, write_note,
@@ -13,6 +13,87 @@ use std::test::Fail;
 
 // A file named `home`, the line that is written of it, and what a person is told.
 type Told = (&'static [u8], &'static [u8], &'static [u8]);
+
+// Scripts with places of all forms, and what stands on the lines.
+const SCRIPTS_TOLD: &[Told] = &[
+    (
+        b"message \xFF",
+        b"refused script 8 NotText\n",
+        b"home:1:9: NotText: from here on the file is not UTF-8
+    message \xFF
+            ^
+",
+    ),
+    (
+        b"message a(x: int) actor m { when a(x) { print \"it is open; } }",
+        b"refused script 46 BadToken\n",
+        b"home:1:47: BadToken: no text begins here: it does not end, an escape is wrong or missing, or it \
+          has more than 120 bytes
+    message a(x: int) actor m { when a(x) { print \"it is open; } }
+                                                  ^
+",
+    ),
+    (
+        b"message a(x: int) actor m { when a(x) if x > 9223372036854775808 { } }",
+        b"refused script 45 BadToken\n",
+        b"home:1:46: BadToken: the number is greater than 9223372036854775807
+    message a(x: int) actor m { when a(x) if x > 9223372036854775808 { } }
+                                                 ^
+",
+    ),
+    (
+        b"\xEF\xBB\xBFmessage a()",
+        b"refused script 0 BadToken\n",
+        b"home:1:1: BadToken: a byte order mark stands here; save the file without one
+    \xEF\xBB\xBFmessage a()
+    ^
+",
+    ),
+    // A sign that a terminal obeys.
+    (
+        b"\xC2\x9B@message",
+        b"refused script 0 BadToken\n",
+        b"home:1:1: BadToken: outside a text in double quotes there are letters of ASCII alone
+     @message
+    ^
+",
+    ),
+    // A tab stands under a tab.
+    (
+        b"message a(x: int)\nactor m {\n\twhen a(x) if rooom == x {\n\t}\n}\n",
+        b"refused script 42 UnknownName\n",
+        b"home:3:15: UnknownName: no variable of this definition has the name rooom
+    \twhen a(x) if rooom == x {
+    \t             ^
+",
+    ),
+    // A letter of two bytes is one character.
+    (
+        b"message a(x: int)\nactor m {\n  when a(x) { print \"\xC3\xA4\" y; }\n}\n",
+        b"refused script 53 UnknownName\n",
+        b"home:3:25: UnknownName: no variable of this definition has the name y
+      when a(x) { print \"\xC3\xA4\" y; }
+                            ^
+",
+    ),
+    // The ends of scripts, on a line and behind the last one.
+    (
+        b"message a(x: int)\nactor m {\n  when",
+        b"refused script 34 BadSyntax\n",
+        b"home:3:7: BadSyntax: the script ends too early: a pattern is wanted here: KIND(variable, ..)
+      when
+          ^
+",
+    ),
+    (
+        b"message a(x: int)\nactor m\n",
+        b"refused script 26 BadSyntax\n",
+        b"home:3:1: BadSyntax: the script ends too early: `{` is wanted here: actor NAME { when .. }
+    
+    ^
+",
+    ),
+];
 
 // Rows with quotes, empty lines, and ends of each sort, behind a byte order mark.
 const ROWS: &[u8] = b"\xEF\xBB\xBFm,a,1\r\n\r\n\"m\",say,\"one\n\"\"two\"\"\"\n\n\nm,a,x\rm,b";
@@ -234,6 +315,17 @@ fn more_mistakes_in_scripts_are_told(rt: HostRuntime) -> Result<(), Fail> {
 fn other_mistakes_in_scripts_are_told(rt: HostRuntime) -> Result<(), Fail> {
     assert!(rt; are_told(rt.alloc(), OTHER_SCRIPTS)?);
     Ok(())
+}
+
+#[test]
+fn signs_and_texts_in_scripts_are_told(rt: HostRuntime) -> Result<(), Fail> {
+    assert!(rt; are_told(rt.alloc(), SIGNS_AND_TEXTS)?);
+    Ok(())
+}
+
+#[test]
+fn places_in_scripts_are_shown(rt: HostRuntime) -> Result<(), Fail> {
+    check_told(&rt, rt.alloc(), SCRIPTS_TOLD)
 }
 
 #[test]

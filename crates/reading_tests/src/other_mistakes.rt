@@ -25,7 +25,7 @@ pub const FEEDS: &[Mistake] = &[
     (
         b"m;a;1\n",
         b"refused feed 1 row 1 UnknownActor\n",
-        b"home:1: row 1: UnknownActor: the first field is no actor's name (there is no line of headings, and blanks count): \"m;a;1\"\n",
+        b"home:1: row 1: UnknownActor: commas stand between the fields of a row, and the first one is no actor's name: \"m;a;1\"\n",
     ),
     (
         b"m,z,1\n",
@@ -45,12 +45,27 @@ pub const FEEDS: &[Mistake] = &[
     (
         b"m,a\n",
         b"refused feed 1 row 1 WrongCount\n",
-        b"home:1: row 1: WrongCount: message a has 1 of the values behind its name, and the row 0\n",
+        b"home:1: row 1: WrongCount: message a has 1 field, and behind its name 0 values stand\n",
     ),
     (
         b"m,motion,hall, 3,7\n",
         b"refused feed 1 row 1 WrongCount\n",
-        b"home:1: row 1: WrongCount: message motion has 2 of the values behind its name, and the row 3\n",
+        b"home:1: row 1: WrongCount: message motion has 2 fields, and behind its name 3 values stand\n",
+    ),
+    (
+        b"m,a,1,2\n",
+        b"refused feed 1 row 1 WrongCount\n",
+        b"home:1: row 1: WrongCount: message a has 1 field, and behind its name 2 values stand\n",
+    ),
+    (
+        b"m,motion,hall\n",
+        b"refused feed 1 row 1 WrongCount\n",
+        b"home:1: row 1: WrongCount: message motion has 2 fields, and behind its name 1 value stands\n",
+    ),
+    (
+        b"m\ta\t1\n",
+        b"refused feed 1 row 1 UnknownActor\n",
+        b"home:1: row 1: UnknownActor: commas stand between the fields of a row, and the first one is no actor's name: \"m\ta\t1\"\n",
     ),
     (
         b"m,a,+1\n",
@@ -171,7 +186,7 @@ pub const WORDS: &[Words] = &[
     ),
     (
         "run s f --workers=",
-        "joinactors: --workers: a number from 1 to 64 is wanted, and not \n",
+        "joinactors: --workers: a number from 1 to 64 is wanted, and not \"\"\n",
     ),
     (
         "run --ring +5 s f",

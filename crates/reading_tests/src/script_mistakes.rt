@@ -334,3 +334,72 @@ pub const OTHER_SCRIPTS: &[Mistake] = &[
         b"home:3:16: UnknownName: no variable of this definition has the name rooom\n",
     ),
 ];
+
+/// Signs and texts that stand where they may not.
+pub const SIGNS_AND_TEXTS: &[Mistake] = &[
+    (
+        b"message a(x: int);\nactor m { }\n",
+        b"refused script 17 BadSyntax\n",
+        b"home:1:18: BadSyntax: `;` ends a statement, and nothing else\n",
+    ),
+    (
+        b"message a(x: int)\nactor m {\n  when a(x) { };\n}\n",
+        b"refused script 43 BadSyntax\n",
+        b"home:3:16: BadSyntax: `;` ends a statement, and nothing else\n",
+    ),
+    (
+        b"message a(int x)\nactor m { }\n",
+        b"refused script 10 BadSyntax\n",
+        b"home:1:11: BadSyntax: this word is a type, and no name of a field: NAME: int or NAME: text\n",
+    ),
+    (
+        b"message a(x: int, text: text)\nactor m { }\n",
+        b"refused script 18 BadSyntax\n",
+        b"home:1:19: BadSyntax: this word is a type, and no name of a field: NAME: int or NAME: text\n",
+    ),
+    (
+        b"actor m {\n  message a(x: int)\n}\n",
+        b"refused script 12 BadSyntax\n",
+        b"home:1:10: BadSyntax: the `}` of the actor is missing here: messages are declared outside of actors\n",
+    ),
+    (
+        b"message a(x: int)\nactor m {\n  when a(x) if not x == 1 { }\n}\n",
+        b"refused script 47 BadSyntax\n",
+        b"home:3:20: BadSyntax: `==`, `!=`, `<`, `<=`, `>` or `>=` is wanted here, and `not` is written `!`: !(x == y)\n",
+    ),
+    (
+        b"message a(x: int)\nactor m {\n  when a(x) { print \"x is \" + x; }\n}\n",
+        b"refused script 56 BadSyntax\n",
+        b"home:3:29: BadSyntax: the items of a print stand one behind the other, without `+`\n",
+    ),
+    (
+        b"message a(x: int)\nactor m {\n  when a(x) { print \"x is ; }\n}\n",
+        b"refused script 48 BadToken\n",
+        b"home:3:21: BadToken: the `\"` that ends this text is missing on its line\n",
+    ),
+    (
+        b"message a(x: int)\nactor m { when a(x) { print \"x",
+        b"refused script 46 BadToken\n",
+        b"home:2:29: BadToken: the `\"` that ends this text is missing\n",
+    ),
+    (
+        b"message a(x: int)\nactor m {\n  when a(x) { print \"C:\\data\"; }\n}\n",
+        b"refused script 48 BadToken\n",
+        b"home:3:21: BadToken: behind \\ this text has none of \" \\ n r t, and no x with two digits\n",
+    ),
+    (
+        b"message a(x: int)\nactor m {\n  when a(x) { print \"a\tb\"; }\n}\n",
+        b"refused script 48 BadToken\n",
+        b"home:3:21: BadToken: this text has a byte that is written \\t (a tab) or \\x and two digits\n",
+    ),
+    (
+        b"message a(x: int)\nactor m {\n  when a(x) { print \"\\x41\"; }\n}\n",
+        b"refused script 48 BadToken\n",
+        b"home:3:21: BadToken: this text has an escape where the byte itself is to stand\n",
+    ),
+    (
+        b"message a(x: int)\nactor m {\n  when a(x) { print \"ttttttttttttttttttttttttttttttttttttttttttttttttttttttttttttttttttttttttttttttttttttttttttttttttttttttttttttttttttttttttt\"; }\n}\n",
+        b"refused script 48 BadToken\n",
+        b"home:3:21: BadToken: a text has at most 120 bytes\n",
+    ),
+];

@@ -45,10 +45,8 @@ fn push_tied(out: &mut Bytes, tied: &Tied) -> Result<(), NoMemory> {
     push_place(out, tied.left.pattern, tied.left.field)?;
     out.push_all(b"=")?;
     push_place(out, tied.right.pattern, tied.right.field)?;
-    if let Some(link) = tied.link {
-        out.push_all(b" by ")?;
-        write_number(out, i128::from(link.pattern))?;
-    }
+    out.push_all(b" by ")?;
+    write_number(out, i128::from(tied.link.pattern))?;
     out.push_all(b";")
 }
 

@@ -1,6 +1,6 @@
 //! What could stand in bodies and in terms.
 use crate::sights::{
-    BRACE, COMMA, DECLARATION, KEYWORD, OPEN, RELATION, Row, SIGN, STATEMENT, Side,
+    BRACE, COMMA, DECLARATION, KEYWORD, OPEN, RELATION, Row, SEMICOLON, SIGN, STATEMENT, Side,
 };
 use crate::spot::{Part, Sight, Spot};
 use script_tokens::Mark;
@@ -15,7 +15,7 @@ pub const BODIES: &[Row] = &[
     ),
     (
         Spot::Statement,
-        &[Sight::Mark(Mark::Semicolon)],
+        SEMICOLON,
         Side::Here,
         b"there is no statement in front of this `;`",
     ),
@@ -190,6 +190,12 @@ pub const ENDINGS: &[(Part, &[Sight], Side, &[u8])] = &[
         ],
         Side::Behind,
         b"a comparison has two sides: x == 1 or place == \"hall\"",
+    ),
+    (
+        Part::Left,
+        &[Sight::Name],
+        Side::Here,
+        b"`==`, `!=`, `<`, `<=`, `>` or `>=` is wanted here, and `not` is written `!`: !(x == y)",
     ),
     (
         Part::Left,

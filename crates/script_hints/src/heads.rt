@@ -1,5 +1,5 @@
 //! What could stand in declarations and in the heads of definitions.
-use crate::sights::{KEYWORD, RELATION, Row, STATEMENT, Side, VALUE};
+use crate::sights::{KEYWORD, RELATION, Row, SEMICOLON, STATEMENT, Side, TYPE, VALUE};
 use crate::spot::{Sight, Spot};
 use script_tokens::Mark;
 
@@ -22,6 +22,12 @@ pub const MESSAGES: &[Row] = &[
         STATEMENT,
         Side::Here,
         b"a statement stands in the braces of a definition, and a `}` in front of it is one too many",
+    ),
+    (
+        Spot::Declaration,
+        SEMICOLON,
+        Side::Here,
+        b"`;` ends a statement, and nothing else",
     ),
     (
         Spot::Declaration,
@@ -49,6 +55,12 @@ pub const MESSAGES: &[Row] = &[
     ),
     (
         Spot::FirstField,
+        TYPE,
+        Side::Here,
+        b"this word is a type, and no name of a field: NAME: int or NAME: text",
+    ),
+    (
+        Spot::FirstField,
         KEYWORD,
         Side::Here,
         b"this word is a keyword, and no name of a field",
@@ -58,6 +70,12 @@ pub const MESSAGES: &[Row] = &[
         &[],
         Side::Here,
         b"a field or `)` is wanted here: message NAME(field: type, ..)",
+    ),
+    (
+        Spot::Field,
+        TYPE,
+        Side::Here,
+        b"this word is a type, and no name of a field: NAME: int or NAME: text",
     ),
     (
         Spot::Field,
@@ -91,8 +109,8 @@ pub const MESSAGES: &[Row] = &[
     ),
 ];
 
-// Of actors and the heads of definitions.
-pub const HEADS: &[Row] = &[
+// Of actors.
+pub const ACTORS: &[Row] = &[
     (
         Spot::ActorName,
         KEYWORD,
@@ -119,9 +137,21 @@ pub const HEADS: &[Row] = &[
     ),
     (
         Spot::Definition,
-        &[Sight::Mark(Mark::Message), Sight::Mark(Mark::Actor)],
+        &[Sight::Mark(Mark::Actor)],
         Side::Behind,
         b"the `}` of the actor is missing here",
+    ),
+    (
+        Spot::Definition,
+        &[Sight::Mark(Mark::Message)],
+        Side::Behind,
+        b"the `}` of the actor is missing here: messages are declared outside of actors",
+    ),
+    (
+        Spot::Definition,
+        SEMICOLON,
+        Side::Here,
+        b"`;` ends a statement, and nothing else",
     ),
     (
         Spot::Definition,
@@ -129,6 +159,10 @@ pub const HEADS: &[Row] = &[
         Side::Here,
         b"`when` of a definition, or the `}` of the actor, is wanted here",
     ),
+];
+
+// Of the heads of definitions.
+pub const HEADS: &[Row] = &[
     (
         Spot::PatternKind,
         KEYWORD,

@@ -1,9 +1,11 @@
 //! What is told of a cause at a place.
+use crate::cause::{Cause, cause_named, cause_sentence, plain_sentence};
+use crate::quotes::text_sentence;
 use crate::sights::Side;
 use crate::spot::{Part, Sight, Spot, Step};
 use crate::tokens::{Script, script_of};
-use crate::wanted::wanted_at;
-use join_base::{Bytes, NoMemory, Sort, read_integer, write_number};
+use crate::wanted::wanted_behind;
+use join_base::{Bytes, NoMemory, Sort, byte_at, read_integer, write_number};
 use std::alloc::Global;
 
 /// What is told of a fault: where its mark stands, and a sentence.
@@ -14,6 +16,8 @@ pub struct Hint {
 }
 
 const MAX_WORD: usize = 64;
+
+const QUOTED: &[u8] = b"a text stands in double quotes: \"hall\"";
 
 // A word as it is shown.
 fn shown(word: &[u8]) -> &[u8] {
@@ -40,28 +44,32 @@ fn push_count(out: &mut Bytes, count: usize, one: &[u8], many: &[u8]) -> Result<
     }
 }
 
+// Why no token begins at a sign of ASCII.
+fn sign_sentence(sign: u8) -> &'static [u8] {
+    match sign {
+        b'=' => b"this is no sign (equal is ==)",
+        b'|' => b"this is no sign (or is ||)",
+        b'.' => b"numbers are whole, and names have no dot: count in a smaller unit",
+        b'*' | b'%' =>
+            b"there is no product and no quotient, only sums: compute it before the feed is written",
+        b'/' => b"there is no quotient, and a comment begins with //",
+        b'#' => b"a comment begins with //",
+        b'\'' | b'`' => QUOTED,
+        b'[' | b']' => b"there are no lists, and fields stand in ( )",
+        b'0'..=b'9' => b"the number is greater than 9223372036854775807",
+        b'A'..=b'Z' | b'a'..=b'z' | b'_' => b"the name has more than 64 bytes",
+        _ => b"no word, number, text or sign begins here",
+    }
+}
+
 // Why no token begins where these bytes stand.
 fn token_sentence(rest: &[u8]) -> &'static [u8] {
     match rest {
-        [b'"', ..] => {
-            b"no text begins here: it does not end, an escape is wrong or missing, or it has more than 120 bytes"
-        }
-        [b'=', ..] => b"this is no sign (equal is ==)",
-        [b'|', ..] => b"this is no sign (or is ||)",
-        [b'.', ..] => b"numbers are whole, and names have no dot: count in a smaller unit",
-        [b'*' | b'%', ..] =>
-            b"there is no product and no quotient, only sums: compute it before the feed is written",
-        [b'/', ..] => b"there is no quotient, and a comment begins with //",
-        [b'#', ..] => b"a comment begins with //",
-        [b'\'' | b'`', ..] | [0xE2, 0x80, 0x98..=0x9F, ..] | [0xC2, 0xAB | 0xBB, ..] => {
-            b"a text stands in double quotes: \"hall\""
-        }
-        [b'[' | b']', ..] => b"there are no lists, and fields stand in ( )",
-        [b'0'..=b'9', ..] => b"the number is greater than 9223372036854775807",
-        [b'A'..=b'Z' | b'a'..=b'z' | b'_', ..] => b"the name has more than 64 bytes",
+        [b'"', behind @ ..] => text_sentence(behind),
+        [0xE2, 0x80, 0x98..=0x9F, ..] | [0xC2, 0xAB | 0xBB, ..] => QUOTED,
         [0xEF, 0xBB, 0xBF, ..] => b"a byte order mark stands here; save the file without one",
         [0x80..=0xFF, ..] => b"outside a text in double quotes there are letters of ASCII alone",
-        _ => b"no word, number, text or sign begins here",
+        _ => sign_sentence(byte_at(rest, 0)),
     }
 }
 
@@ -128,56 +136,83 @@ fn found_words(sort: Option<Sort>) -> &'static [u8] {
     }
 }
 
+// What a field is, where a value of another type stands.
+fn wanted_words(sort: Option<Sort>) -> &'static [u8] {
+    match sort {
+        Some(Sort::Words) => b" is an int",
+        _ => b" is a text",
+    }
+}
+
+// Appends a word between what is told in front of it and behind it.
+fn push_around(out: &mut Bytes, front: &[u8], word: &[u8], back: &[u8]) -> Result<(), NoMemory> {
+    push_pieces(out, &[front, shown(word), back])
+}
+
+// Appends of which type a field is.
+fn push_field(out: &mut Bytes, name: &[u8], kind: &[u8], wanted: &[u8]) -> Result<(), NoMemory> {
+    push_pieces(
+        out,
+        &[b"the field ", shown(name), b" of ", shown(kind), wanted],
+    )
+}
+
 // The value of a post that has another type than its field.
 fn push_wrong_value(out: &mut Bytes, script: &Script<'_>, number: usize) -> Result<(), NoMemory> {
     let (kind, field) = script.post_of(number);
-    push_pieces(out, &[b"the field "])?;
-    out.push_all(shown(script.field_name(kind, field).unwrap_or(&[])))?;
-    push_pieces(out, &[b" of ", shown(kind)])?;
-    match script.sort_of(number) {
-        Some(Sort::Words) => out.push_all(b" is an int")?,
-        _ => out.push_all(b" is a text")?,
+    let name = script.field_name(kind, field).unwrap_or(&[]);
+    let sort = script.sort_of(number);
+    push_field(out, name, kind, wanted_words(sort))?;
+    push_around(out, b", and ", script.word(number), found_words(sort))
+}
+
+// What is told in front of a word of another type than is wanted, and behind it.
+type Mistype = (&'static [u8], &'static [u8]);
+
+const IN_PRINT: Mistype = (
+    b"a text in a print stands without parentheses, and ",
+    b" is a text",
+);
+
+const IN_SUM: Mistype = (b"a sum is of ints alone, and ", b" is a text");
+
+const IN_ORDER: Mistype = (b"<, <=, > and >= compare ints alone, and ", b" is a text");
+
+// A side of a comparison has another type than the other one.
+fn side_mistype(sort: Option<Sort>) -> Mistype {
+    match sort {
+        Some(Sort::Words) => (b"the left side is an int, and ", b" is a text"),
+        _ => (b"the left side is a text, and ", b" is an int"),
     }
-    push_pieces(out, &[b", and ", shown(script.word(number))])?;
-    out.push_all(found_words(script.sort_of(number)))
+}
+
+// What is told of a leaf of a term, where it is not a value of a post.
+fn term_mistype(part: Part, step: Step, sort: Option<Sort>, is_in_sum: bool) -> Option<Mistype> {
+    let is_text = matches!(sort, Some(Sort::Words));
+    match (part, step) {
+        (Part::Item, Step::Begin) if !is_in_sum => Some(IN_PRINT),
+        (_, Step::Leaf) => Some(IN_SUM),
+        _ if is_text && is_in_sum => Some(IN_SUM),
+        (Part::Left, _) => Some(IN_ORDER),
+        (Part::Value, _) => None,
+        _ => Some(side_mistype(sort)),
+    }
+}
+
+// The same at any spot.
+fn mistype_at(spot: Spot, sort: Option<Sort>, is_in_sum: bool) -> Option<Mistype> {
+    match spot {
+        Spot::Term(part, step) => term_mistype(part, step, sort, is_in_sum),
+        Spot::FirstValue => None,
+        _ => Some(side_mistype(sort)),
+    }
 }
 
 fn push_wrong_type(out: &mut Bytes, script: &Script<'_>, number: usize) -> Result<(), NoMemory> {
     let spot = script.at(number).spot;
-    let word = shown(script.word(number));
-    let sort = script.sort_of(number);
-    match (spot, sort) {
-        (Spot::Term(Part::Item, Step::Begin), _) if !script.is_in_sum(number) => push_pieces(
-            out,
-            &[
-                b"a text in a print stands without parentheses, and ",
-                word,
-                b" is a text",
-            ],
-        ),
-        (Spot::Term(_, _), Some(Sort::Words)) if script.is_in_sum(number) => {
-            push_pieces(out, &[b"a sum is of ints alone, and ", word, b" is a text"])
-        }
-        (Spot::Term(_, Step::Leaf), _) => {
-            push_pieces(out, &[b"a sum is of ints alone, and ", word, b" is a text"])
-        }
-        (Spot::Term(Part::Left, _), _) => push_pieces(
-            out,
-            &[
-                b"<, <=, > and >= compare ints alone, and ",
-                word,
-                b" is a text",
-            ],
-        ),
-        (Spot::FirstValue | Spot::Term(Part::Value, _), _) => push_wrong_value(out, script, number),
-        (_, Some(Sort::Words)) => push_pieces(
-            out,
-            &[b"the left side is an int, and ", word, b" is a text"],
-        ),
-        _ => push_pieces(
-            out,
-            &[b"the left side is a text, and ", word, b" is an int"],
-        ),
+    match mistype_at(spot, script.sort_of(number), script.is_in_sum(number)) {
+        Some((front, back)) => push_around(out, front, script.word(number), back),
+        None => push_wrong_value(out, script, number),
     }
 }
 
@@ -201,81 +236,87 @@ fn push_named(out: &mut Bytes, sentence: &[u8], word: &[u8]) -> Result<(), NoMem
     push_pieces(out, &[sentence, b" ", shown(word)])
 }
 
-// Appends what is told of a cause that a token has.
+// Appends what is told of a cause that the token of this number has.
 fn push_at(
     out: &mut Bytes,
     script: &Script<'_>,
     number: usize,
-    cause: &[u8],
+    cause: Cause,
 ) -> Result<(), NoMemory> {
     let spot = script.at(number).spot;
     let word = script.word(number);
     match cause {
-        b"TooMany" => out.push_all(limit_sentence(spot)),
-        b"TwiceDeclared" => push_twice(out, spot, shown(word)),
-        b"UnknownMessage" => push_named(out, b"no message has the name", word),
-        b"UnknownActor" => push_named(out, b"no actor has the name", word),
-        b"UnknownName" => push_named(out, b"no variable of this definition has the name", word),
-        b"WrongCount" => push_wrong_count(out, script, number),
-        b"WrongType" => push_wrong_type(out, script, number),
-        b"BadReply" => push_bad_reply(out, script, number),
-        _ => out.push_all(plain_sentence(cause)),
+        Cause::TooMany => out.push_all(limit_sentence(spot)),
+        Cause::TwiceDeclared => push_twice(out, spot, shown(word)),
+        Cause::UnknownMessage => push_named(out, b"no message has the name", word),
+        Cause::UnknownActor => push_named(out, b"no actor has the name", word),
+        Cause::UnknownName => push_named(out, b"no variable of this definition has the name", word),
+        Cause::WrongCount => push_wrong_count(out, script, number),
+        Cause::WrongType => push_wrong_type(out, script, number),
+        Cause::BadReply => push_bad_reply(out, script, number),
+        _ => out.push_all(cause_sentence(cause)),
     }
 }
 
-/// Why a script is refused, where it can't be shown.
-pub fn plain_sentence(cause: &[u8]) -> &'static [u8] {
-    match cause {
-        b"NotText" => b"from here on the file is not UTF-8",
-        b"BadToken" => b"no word, number, text or sign begins here, or it is too long",
-        b"BadSyntax" => b"a script doesn't go on like this",
-        b"TooMany" => b"this is one more than the limit",
-        b"TwiceDeclared" => b"there is an earlier declaration of the name that stands here",
-        b"UnknownMessage" => b"no message has the name that stands here",
-        b"UnknownActor" => b"no actor has the name that stands here",
-        b"UnknownName" => b"no variable of this definition has the name that stands here",
-        b"WrongCount" => b"the number of fields is not that of the message that is named here",
-        b"WrongType" => b"an int stands where a text is wanted, or a text where an int is",
-        b"StopNotLast" => b"stop has to be the last statement of its body",
-        b"BadWindow" => b"the number of a window is from 1 to 1000000",
-        b"BadReply" => b"no pattern has this number, or the body has replied to it before",
-        _ => b"refused",
-    }
+// Appends what is told of a cause that the token at a place has.
+fn push_by_script(
+    alloc: Global,
+    out: &mut Bytes,
+    text: &[u8],
+    place: usize,
+    cause: Cause,
+) -> Result<(), NoMemory> {
+    let script = script_of(alloc, text)?;
+    push_at(out, &script, script.number_at(place), cause)
 }
 
-// What is told where a script doesn't go on.
-fn syntax_hint(alloc: Global, script: &Script<'_>, number: usize) -> Result<Hint, NoMemory> {
-    let seen = script.at(number);
-    let (side, wanted) = wanted_at(seen.spot, seen.sight);
+fn token_hint(alloc: Global, text: &[u8], place: usize, cause: Cause) -> Result<Hint, NoMemory> {
     let mut sentence = Bytes::new(alloc);
-    if seen.sight == Sight::End {
-        sentence.push_all(b"the script ends too early: ")?;
+    push_by_script(alloc, &mut sentence, text, place, cause)?;
+    Ok(Hint { place, sentence })
+}
+
+// A hint of a sentence, and of what is told in front of it.
+fn plain_hint(alloc: Global, place: usize, front: &[u8], back: &[u8]) -> Result<Hint, NoMemory> {
+    let mut sentence = Bytes::new(alloc);
+    push_pieces(&mut sentence, &[front, back])?;
+    Ok(Hint { place, sentence })
+}
+
+// What is told in front, where the script ends.
+fn end_sentence(sight: Sight) -> &'static [u8] {
+    match sight {
+        Sight::End => b"the script ends too early: ",
+        _ => &[],
     }
-    sentence.push_all(wanted)?;
+}
+
+// What is told where a script doesn't go on with the token of this number.
+fn wanted_hint(alloc: Global, script: &Script<'_>, number: usize) -> Result<Hint, NoMemory> {
+    let seen = script.at(number);
+    let before = script.at(number.saturating_sub(1));
+    let (side, wanted) = wanted_behind(before.sight, seen.spot, seen.sight);
     let place = match side {
         Side::Here => seen.start,
-        Side::Behind => script.at(number.saturating_sub(1)).end,
+        Side::Behind => before.end,
     };
-    Ok(Hint { place, sentence })
+    plain_hint(alloc, place, end_sentence(seen.sight), wanted)
+}
+
+fn syntax_hint(alloc: Global, text: &[u8], place: usize) -> Result<Hint, NoMemory> {
+    let script = script_of(alloc, text)?;
+    wanted_hint(alloc, &script, script.number_at(place))
 }
 
 /// What is told of a cause at a place of a script.
 pub fn hint_of(alloc: Global, text: &[u8], place: usize, cause: &[u8]) -> Result<Hint, NoMemory> {
-    let mut sentence = Bytes::new(alloc);
-    if cause == b"NotText".as_slice() {
-        sentence.push_all(plain_sentence(cause))?;
-        return Ok(Hint { place, sentence });
+    match cause_named(cause) {
+        Some(Cause::BadToken) => {
+            let (_, rest) = text.split_at(place.min(text.len()));
+            plain_hint(alloc, place, token_sentence(rest), &[])
+        }
+        Some(Cause::BadSyntax) => syntax_hint(alloc, text, place),
+        None | Some(Cause::NotText) => plain_hint(alloc, place, plain_sentence(cause), &[]),
+        Some(cause) => token_hint(alloc, text, place, cause),
     }
-    if cause == b"BadToken".as_slice() {
-        let (_, rest) = text.split_at(place.min(text.len()));
-        sentence.push_all(token_sentence(rest))?;
-        return Ok(Hint { place, sentence });
-    }
-    let script = script_of(alloc, text)?;
-    let number = script.number_at(place);
-    if cause == b"BadSyntax".as_slice() {
-        return syntax_hint(alloc, &script, number);
-    }
-    push_at(&mut sentence, &script, number, cause)?;
-    Ok(Hint { place, sentence })
 }

@@ -9,13 +9,16 @@
 
 mod around;
 mod bodies;
+mod cause;
 mod heads;
 mod hint;
+mod quotes;
 mod sights;
 mod spot;
 mod tokens;
 mod wanted;
 
-pub use hint::{Hint, hint_of, plain_sentence};
+pub use cause::plain_sentence;
+pub use hint::{Hint, hint_of};
 pub use spot::{Part, Sight, Spot, Step};
 pub use tokens::{Script, Seen, script_of};

@@ -54,6 +54,10 @@ pub const OPEN: &[Sight] = &[Sight::Mark(Mark::Open)];
 
 pub const COMMA: &[Sight] = &[Sight::Mark(Mark::Comma)];
 
+pub const SEMICOLON: &[Sight] = &[Sight::Mark(Mark::Semicolon)];
+
+pub const TYPE: &[Sight] = &[Sight::Mark(Mark::Int), Sight::Mark(Mark::Text)];
+
 pub const BRACE: &[Sight] = &[Sight::Mark(Mark::OpenBrace)];
 
 pub const VALUE: &[Sight] = &[Sight::Number, Sight::Quoted, Sight::Mark(Mark::Minus)];

@@ -228,6 +228,14 @@ fn found_in(rows: &[Row], spot: Spot, sight: Sight) -> Option<Spot> {
     None
 }
 
+fn in_declaration(spot: Spot, sight: Sight) -> Option<Spot> {
+    found_in(DECLARING, spot, sight)
+}
+
+fn in_body(spot: Spot, sight: Sight) -> Option<Spot> {
+    found_in(ACTING, spot, sight)
+}
+
 // The spot behind a token that stands behind a term.
 fn behind_term(part: Part, sight: Sight) -> Spot {
     for (here, sights, next) in ENDING {
@@ -256,9 +264,8 @@ pub fn next_spot(spot: Spot, sight: Sight) -> Spot {
         Spot::Term(Part::Left, Step::Begin) if is_one_of(sight, OVER) => spot,
         Spot::Term(part, step) => in_term(part, step, sight),
         Spot::BehindParenthesis => behind_term(Part::Right, sight),
-        _ => match found_in(DECLARING, spot, sight) {
-            Some(next) => next,
-            None => found_in(ACTING, spot, sight).unwrap_or(Spot::Declaration),
-        },
+        _ => in_declaration(spot, sight)
+            .or(in_body(spot, sight))
+            .unwrap_or(Spot::Declaration),
     }
 }

@@ -3,7 +3,7 @@ ghost use Rattle.std.specs.Prelude.{◌<◌, length, IfOk, IfSome};
 
 use crate::spot::{Sight, Spot, next_spot, sight_of};
 use join_base::NoMemory;
-use script_tokens::push_tokens;
+use script_tokens::{Token, push_tokens};
 use std::alloc::Global;
 
 /// A token of a script: where it begins and ends, what it is, and the spot at which it stands.
@@ -15,21 +15,29 @@ pub struct Seen {
     pub spot: Spot,
 }
 
+// The first of these tokens, where it begins, and the text behind it, where that is shorter than the text.
+fn found_first<'a>(
+    tokens: &[Token],
+    text: &[u8],
+    rest: &'a [u8],
+) -> Option<(Sight, usize, &'a [u8])>
+    ensures shorter { IfSome result (λ found. length found.2.now < length text.now) }
+{
+    match tokens.first() {
+        Some(token) if rest.len() < text.len() => {
+            Some((sight_of(token), token.place as usize, rest))
+        }
+        _ => None,
+    }
+}
+
 // The first token of a text, where it begins, and the text behind it.
 fn first_token(alloc: Global, text: &[u8]) -> Result<Option<(Sight, usize, &[u8])>, NoMemory>
     ensures shorter { IfOk result (λ found. IfSome found (λ f. length f.2.now < length text.now)) }
 {
     let mut tokens = Vec::new(alloc);
-    let rest = match push_tokens(alloc, &mut tokens, text, text, 1)? {
-        Some(rest) => rest,
-        None => &[],
-    };
-    match tokens.as_slice().first() {
-        Some(token) if rest.len() < text.len() => {
-            Ok(Some((sight_of(token), token.place as usize, rest)))
-        }
-        _ => Ok(None),
-    }
+    let rest = push_tokens(alloc, &mut tokens, text, text, 1)?.unwrap_or(&[]);
+    Ok(found_first(tokens.as_slice(), text, rest))
 }
 
 /// A script and its tokens, as far as they are some.

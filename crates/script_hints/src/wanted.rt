@@ -1,8 +1,9 @@
 //! What could stand where a script doesn't go on.
 use crate::bodies::{BEGINNINGS, BODIES, ENDINGS, LEAVES};
-use crate::heads::{HEADS, MESSAGES};
+use crate::heads::{ACTORS, HEADS, MESSAGES};
 use crate::sights::{RELATION, Row, SIGN, Side};
 use crate::spot::{Part, Sight, Spot, Step, is_one_of};
+use script_tokens::Mark;
 
 type Wanted = (Side, &'static [u8]);
 
@@ -54,8 +55,24 @@ fn in_term(part: Part, step: Step, sight: Sight) -> Wanted {
     }
 }
 
-/// What is told where a script doesn't go on with what stands at this spot, and where the mark of it stands.
-pub fn wanted_at(spot: Spot, sight: Sight) -> Wanted {
+fn in_message(spot: Spot, sight: Sight) -> Option<Wanted> {
+    found_in(MESSAGES, spot, sight)
+}
+
+fn in_actor(spot: Spot, sight: Sight) -> Option<Wanted> {
+    found_in(ACTORS, spot, sight)
+}
+
+fn in_head(spot: Spot, sight: Sight) -> Option<Wanted> {
+    found_in(HEADS, spot, sight)
+}
+
+fn in_body(spot: Spot, sight: Sight) -> Option<Wanted> {
+    found_in(BODIES, spot, sight)
+}
+
+// What is told where a script doesn't go on with what stands at this spot, and where the mark of it stands.
+fn wanted_at(spot: Spot, sight: Sight) -> Wanted {
     match spot {
         Spot::Term(part, step) => in_term(part, step, sight),
         Spot::BehindParenthesis if is_one_of(sight, RELATION) => (
@@ -63,9 +80,22 @@ pub fn wanted_at(spot: Spot, sight: Sight) -> Wanted {
             b"parentheses stand around comparisons, and not around a side of one",
         ),
         Spot::BehindParenthesis => of_ending(Part::Right, sight),
-        _ => found_in(MESSAGES, spot, sight)
-            .or(found_in(HEADS, spot, sight))
-            .or(found_in(BODIES, spot, sight))
+        _ => in_message(spot, sight)
+            .or(in_actor(spot, sight))
+            .or(in_head(spot, sight))
+            .or(in_body(spot, sight))
             .unwrap_or(NOTHING),
+    }
+}
+
+/// What is told where a script doesn't go on with what stands at this spot, behind something else; and where the mark
+/// of it stands.
+pub fn wanted_behind(before: Sight, spot: Spot, sight: Sight) -> Wanted {
+    match (before, spot, sight) {
+        (Sight::Quoted, Spot::Item, Sight::Mark(Mark::Plus)) => (
+            Side::Here,
+            b"the items of a print stand one behind the other, without `+`",
+        ),
+        _ => wanted_at(spot, sight),
     }
 }

@@ -4,7 +4,7 @@ use Rattle.std.specs.Prelude.{Option, None}
 use Rattle.guard_eval.specs.Condition.{Condition}
 use Rattle.guard_eval.specs.Shape.{atoms_condition}
 use Rattle.guard_eval.specs.declared.conjunct.Atom.{Atom}
-use Rattle.tied_patterns.specs.Tied.{equality_before}
+use Rattle.tied_patterns.specs.Equalities.{equality_before}
 
 -- an atom with others behind it is no equality
 pub none_before : (atom : Condition) (others : List Atom) → 0 < length others → equality_before atom (atoms_condition others) ≡ None

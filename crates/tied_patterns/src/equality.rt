@@ -2,7 +2,7 @@
 ghost use Rattle.std.specs.Prelude.{◌≡◌, ◌++◌, [], OnOk, IfOk, map};
 ghost use Rattle.std.specs.List.{cons_option};
 ghost use Rattle.guard_eval.specs.Shape.{atom_condition, atoms_condition, conjunct_condition};
-ghost use Rattle.tied_patterns.specs.Tied.{equalities_in, equality_before, equality_between, equality_in, equality_of, lone_field, variable_of};
+ghost use Rattle.tied_patterns.specs.Equalities.{equalities_in, equality_before, equality_between, equality_in, equality_of, lone_field, variable_of};
 
 use guard_eval::{Atom, Conjunct, ConjunctList, Leaf, Operand, Place, Signed, WordsLeaf};
 use join_base::{NoMemory, Relation};

@@ -1,7 +1,10 @@
 //! Pairs of patterns that are tied by a chain of equalities.
-ghost use Rattle.std.specs.Prelude.{◌≡◌, ◌++◌, [], ◌+◌, ◌≤◌, length, drop, OnOk, IfOk};
+ghost use Rattle.std.specs.Prelude.{◌≡◌, ◌++◌, [], ◌+◌, ◌<◌, ◌≤◌, length, OnOk, IfOk};
 ghost use Rattle.std.specs.List.{cons_option};
-ghost use Rattle.tied_patterns.specs.Tied.{are_tied, is_between, is_direct, is_same_place, link_in, names_of, partner_in, renamed, renamed_by, row_from, rows_from, sides_of, tied_at, tied_between, tied_by, tied_from, tied_pairs};
+ghost use Rattle.tied_patterns.specs.Equalities.{equalities_in};
+ghost use Rattle.tied_patterns.specs.Names.{AreNames, have_one_name, is_between, is_direct, is_same_place, link_in, partner_in, renamed, renamed_by, sides_of, tied_at, tied_by, tied_from};
+ghost use Rattle.tied_patterns.specs.Rows.{AreFound, IsFound};
+ghost use Rattle.tied_patterns.specs.Tied.{AreTiedPairs};
 
 use crate::equality::{Equality, equalities_in};
 use guard_eval::Place;
@@ -9,12 +12,13 @@ use join_base::{Items, NoMemory};
 use pattern_core::Definition;
 use std::alloc::Global;
 
-/// Two patterns that are tied through another one: a variable of each, and one of another pattern that ties them.
+/// Two patterns that are tied through a third one: a variable of each, and one of the third pattern. Chains of
+/// equalities lead from one to the other.
 #[derive(Clone, Copy, PartialEq, Eq, Debug)]
 pub struct Tied {
     pub left: Place,
     pub right: Place,
-    pub link: Option<Place>,
+    pub link: Place,
 }
 
 fn is_same_place(a: Place, b: Place) -> bool
@@ -44,9 +48,11 @@ fn renamed_by(names: &[Equality], place: Place) -> Place
     called
 }
 
-// The names by which variables that are tied are called the same.
+// Names by which variables are called the same exactly where a chain of equalities leads from one to the other: what
+// the left side of an equality is called becomes what its right side is called.
+#[tactic(auto, using(crate::proofs::NameLemmas::names_step))]
 fn names_of(alloc: Global, equalities: &[Equality]) -> Result<Vec<Equality>, NoMemory>
-    ensures { IfOk result (λ names. names.items ≡ names_of equalities.now) }
+    ensures { IfOk result (λ names. AreNames equalities.now names.items) }
 {
     let mut names: Vec<Equality> = Vec::new(alloc);
     for equality in equalities {
@@ -57,8 +63,8 @@ fn names_of(alloc: Global, equalities: &[Equality]) -> Result<Vec<Equality>, NoM
     Ok(names)
 }
 
-fn are_tied(names: &[Equality], a: Place, b: Place) -> bool
-    ensures { result ≡ are_tied names.now a b }
+fn have_one_name(names: &[Equality], a: Place, b: Place) -> bool
+    ensures { result ≡ have_one_name names.now a b }
 {
     is_same_place(renamed_by(names, a), renamed_by(names, b))
 }
@@ -97,7 +103,7 @@ fn partner_in(names: &[Equality], place: Place, pattern: usize, others: &[Place]
     ensures { result ≡ partner_in names.now place pattern others.now }
 {
     for other in others {
-        if other.pattern as usize == pattern && are_tied(names, place, *other) {
+        if other.pattern as usize == pattern && have_one_name(names, place, *other) {
             return Some(*other);
         }
     }
@@ -115,7 +121,7 @@ fn link_in(
 {
     for other in others {
         if !(other.pattern as usize == first || other.pattern as usize == second)
-            && are_tied(names, place, *other)
+            && have_one_name(names, place, *other)
         {
             return Some(*other);
         }
@@ -126,9 +132,9 @@ fn link_in(
 fn tied_by(left: Place, right: Option<Place>, link: Option<Place>) -> Option<Tied>
     ensures { result ≡ tied_by left right link }
 {
-    match right {
-        Some(right) => Some(Tied { left, right, link }),
-        None => None,
+    match (right, link) {
+        (Some(right), Some(link)) => Some(Tied { left, right, link }),
+        _ => None,
     }
 }
 
@@ -171,14 +177,16 @@ fn tied_from(
     None
 }
 
-// What ties two patterns that no equality ties directly.
+// What ties two patterns that no equality ties directly, if a chain does.
+#[tactic(auto, using(crate::proofs::FoundLemmas::found_direct, crate::proofs::FoundLemmas::found_by_names))]
 fn tied_between(
     alloc: Global,
     equalities: &[Equality],
     first: usize,
     second: usize,
 ) -> Result<Option<Tied>, NoMemory>
-    ensures { IfOk result (λ found. found ≡ tied_between equalities.now first second) }
+    requires order { first < second }
+    ensures found { IfOk result (IsFound equalities.now first second) }
 {
     if is_direct(equalities, first, second) {
         return Ok(None);
@@ -204,7 +212,7 @@ fn push_some(pairs: &mut Items<Tied>, found: Option<Tied>) -> Result<(), NoMemor
 }
 
 // Appends the pairs of a pattern with those behind it.
-#[tactic(auto, using(crate::proofs::TiedLemmas::row_step))]
+#[tactic(auto, using(crate::proofs::RowLemmas::next_pair))]
 fn push_row(
     alloc: Global,
     pairs: &mut Items<Tied>,
@@ -213,7 +221,8 @@ fn push_row(
     kinds: &[u32],
 ) -> Result<(), NoMemory>
     requires within { first + 1 ≤ length kinds.now }
-    ensures { OnOk result (pairs.new ≡ pairs.old ++ row_from equalities.now first (first + 1) (drop (first + 1) kinds.now)) }
+    requires found { AreFound equalities.now (length kinds.now) first (first + 1) pairs.old }
+    ensures found { OnOk result (AreFound equalities.now (length kinds.now) first (length kinds.now) pairs.new) }
 {
     for second in first + 1..kinds.len() {
         let found = tied_between(alloc, equalities, first, second)?;
@@ -223,9 +232,9 @@ fn push_row(
 }
 
 // The pairs of patterns of these kinds.
-#[tactic(auto, using(crate::proofs::TiedLemmas::rows_step))]
+#[tactic(auto, using(crate::proofs::RowLemmas::none_found, crate::proofs::RowLemmas::next_row, crate::proofs::RowLemmas::all_found))]
 fn pairs_of(alloc: Global, equalities: &[Equality], kinds: &[u32]) -> Result<Items<Tied>, NoMemory>
-    ensures { IfOk result (λ pairs. pairs ≡ rows_from equalities.now 0 kinds.now) }
+    ensures { IfOk result (AreTiedPairs equalities.now (length kinds.now)) }
 {
     let mut pairs = Items::new(alloc);
     for first in 0..kinds.len() {
@@ -234,9 +243,10 @@ fn pairs_of(alloc: Global, equalities: &[Equality], kinds: &[u32]) -> Result<Ite
     Ok(pairs)
 }
 
-/// The pairs of patterns that a chain of `==` on variables ties, and no `==` directly; each with the two variables to compare.
+/// The pairs of patterns that a chain of `==` on variables ties, and no `==` directly; each once, in order, with the
+/// two variables to compare.
 pub fn tied_pairs(alloc: Global, definition: &Definition) -> Result<Items<Tied>, NoMemory>
-    ensures { IfOk result (λ pairs. pairs ≡ tied_pairs definition.now) }
+    ensures { IfOk result (AreTiedPairs (equalities_in definition.now.conjuncts) (length definition.now.patterns)) }
 {
     let equalities = equalities_in(alloc, &definition.conjuncts)?;
     pairs_of(alloc, equalities.as_slice(), definition.patterns.as_slice())

@@ -1,6 +1,6 @@
 use Rattle.std.proofs.Common.{◌≡◌, ◌++◌, drop, map}
 use Rattle.guard_eval.specs.Shape.{conjunct_condition}
-use Rattle.tied_patterns.specs.Tied.{equalities_in}
+use Rattle.tied_patterns.specs.Equalities.{equalities_in}
 use Rattle.tied_patterns.proofs.equality.equalities_from.Given as goal
 
 abbrev pub invariant-loop-conjunct : goal.invariant-loop-conjunct

@@ -1,5 +1,5 @@
 use Rattle.std.proofs.Common.{◌≡◌, drop}
-use Rattle.tied_patterns.specs.Tied.{is_direct}
+use Rattle.tied_patterns.specs.Names.{is_direct}
 use Rattle.tied_patterns.proofs.tied.is_direct.Given as goal
 
 abbrev pub invariant-loop-equality : goal.invariant-loop-equality

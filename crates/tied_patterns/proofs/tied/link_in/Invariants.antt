@@ -1,5 +1,5 @@
 use Rattle.std.proofs.Common.{◌≡◌, drop}
-use Rattle.tied_patterns.specs.Tied.{link_in}
+use Rattle.tied_patterns.specs.Names.{link_in}
 use Rattle.tied_patterns.proofs.tied.link_in.Given as goal
 
 abbrev pub invariant-loop-other : goal.invariant-loop-other

@@ -1,5 +1,5 @@
 use Rattle.std.proofs.Common.{◌≡◌, drop}
-use Rattle.tied_patterns.specs.Tied.{partner_in}
+use Rattle.tied_patterns.specs.Names.{partner_in}
 use Rattle.tied_patterns.proofs.tied.partner_in.Given as goal
 
 abbrev pub invariant-loop-other : goal.invariant-loop-other

@@ -1,5 +1,5 @@
 use Rattle.std.proofs.Common.{◌≡◌, drop}
-use Rattle.tied_patterns.specs.Tied.{renamed_by}
+use Rattle.tied_patterns.specs.Names.{renamed_by}
 use Rattle.tied_patterns.proofs.tied.renamed_by.Given as goal
 
 abbrev pub invariant-loop-name : goal.invariant-loop-name

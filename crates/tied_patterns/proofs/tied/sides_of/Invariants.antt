@@ -1,5 +1,5 @@
 use Rattle.std.proofs.Common.{◌≡◌, ◌++◌, drop}
-use Rattle.tied_patterns.specs.Tied.{sides_of}
+use Rattle.tied_patterns.specs.Names.{sides_of}
 use Rattle.tied_patterns.proofs.tied.sides_of.Given as goal
 
 abbrev pub invariant-loop-equality : goal.invariant-loop-equality

@@ -1,5 +1,5 @@
 use Rattle.std.proofs.Common.{◌≡◌, drop}
-use Rattle.tied_patterns.specs.Tied.{tied_from}
+use Rattle.tied_patterns.specs.Names.{tied_from}
 use Rattle.tied_patterns.proofs.tied.tied_from.Given as goal
 
 abbrev pub invariant-loop-place : goal.invariant-loop-place

@@ -1,5 +1,5 @@
 use Rattle.std.proofs.Common.{◌≤◌}
-use Rattle.fault_places.proofs.note.front_of.Given as goal
+use Rattle.fault_places.proofs.shown.front_of.Given as goal
 
 abbrev pub invariant-whole : goal.invariant-whole
 invariant-whole l = record { within : l.end ≤ l.max }

@@ -1,5 +1,5 @@
 use Rattle.std.proofs.Common.{length, ◌-◌, ◌≤◌}
-use Rattle.fault_places.proofs.note.end_of.Given as goal
+use Rattle.fault_places.proofs.shown.end_of.Given as goal
 
 abbrev pub invariant-whole : goal.invariant-whole
 invariant-whole l = record { within : l.start ≤ length l.bytes }

@@ -1,0 +1,92 @@
+//! A line of the log of an expected run.
+ghost use Rattle.std.specs.Prelude.{◌≡◌, ◌<◌, IfOk, slice_get};
+ghost use Rattle.script_types.specs.Typed.{IsTyped};
+ghost use Rattle.log_lines.specs.Gives.{GivesRest};
+ghost use Rattle.log_reader.specs.Places.{whole_lines};
+ghost use Rattle.expected_line.specs.Line.{IsExpectedLine, IsExpectedText};
+
+use arrival_log::print_log;
+use join_base::{Bytes, NoMemory, Steps};
+use log_lines::cut_line;
+use log_reader::{LogFault, read_log};
+use log_replay::replay;
+use script_types::Plan;
+use std::alloc::Global;
+use std::marker::Brand;
+use std::sync::ledger::{Blank, Ledger};
+
+// The line at a place of a text, from 0 on, without the LF that ends it.
+#[tactic(auto, using(crate::proofs::LineLemmas::line_behind, crate::proofs::LineLemmas::no_line, crate::proofs::LineLemmas::line_here))]
+fn line_at(text: &[u8], place: u64) -> Option<&[u8]>
+    ensures { GivesRest result (slice_get (whole_lines text.now) place) }
+{
+    let mut rest = text;
+    let mut left = place;
+    'lines: while left > 0 {
+        let Some((_, more)) = cut_line(rest) else {
+            return None;
+        };
+        rest = more;
+        left -= 1;
+    }
+    match cut_line(rest) {
+        Some((line, _)) => Some(line),
+        None => None,
+    }
+}
+
+// The log of the expected run of the run whose log the bytes are, where they are one.
+fn counted_text<L: Ledger>(
+    alloc: Global,
+    plan: &Plan,
+    bytes: &[u8],
+    blank: Blank,
+) -> Result<Option<Bytes>, NoMemory>
+    requires typed { IsTyped plan.now }
+    requires name { blank.name ≡ L.name }
+    requires blank_parts { blank.parts ≡ L.parts }
+    requires some { 0 < L.parts }
+    ensures text { IfOk result (IsExpectedText plan.now bytes.now) }
+{
+    let run = match read_log(alloc, plan, bytes) {
+        Ok(run) => run,
+        Err(LogFault::Bad { .. }) => return Ok(None),
+        Err(LogFault::NoMemory) => return Err(NoMemory),
+    };
+    let mut steps = Steps::<L>::new(blank);
+    let expected = replay(alloc, plan, &run, &mut steps)?;
+    let mut text = Bytes::new(alloc);
+    print_log(alloc, plan, &expected, &mut text)?;
+    Ok(Some(text))
+}
+
+fn copy_of(alloc: Global, line: Option<&[u8]>) -> Result<Option<Bytes>, NoMemory>
+    ensures { IfOk result (GivesRest line.entry) }
+{
+    match line {
+        Some(line) => {
+            let mut copy = Bytes::new(alloc);
+            copy.push_all(line)?;
+            Ok(Some(copy))
+        }
+        None => Ok(None),
+    }
+}
+
+/// The line at a place, from 0 on, of the log of the expected run of the run whose log the bytes are, without the LF
+/// that ends it. `None` where that log has no such line, and where the bytes are the log of no run.
+#[tactic(auto, using(crate::proofs::LineLemmas::found_line))]
+pub fn expected_line(
+    alloc: Global,
+    plan: &Plan,
+    bytes: &[u8],
+    place: u64,
+) -> Result<Option<Bytes>, NoMemory>
+    requires typed { IsTyped plan.now }
+    ensures line { IfOk result (IsExpectedLine plan.now bytes.now place) }
+{
+    match counted_text::<Brand>(alloc, plan, bytes, Blank::new(1))? {
+        Some(text) => copy_of(alloc, line_at(text.bytes(), place)),
+        None => Ok(None),
+    }
+}
