@@ -1,7 +1,7 @@
-//! One example.
+//! Words over files in memory, and what they come to.
 
 use join_base::{Bytes, MemoryInputs, MemorySink, NoMemory, Word, WordList};
-use join_command::{FreeGate, Status, join_main};
+use join_command::{Counted, FreeGate, Status, join_main};
 use std::alloc::Global;
 use std::sync::Wait;
 use std::thread::Threads;
@@ -16,11 +16,16 @@ pub struct Example<'a> {
     pub printed: &'a [u8],
 }
 
-pub const RUN: &[&str] = &["run", "script", "feed"];
+/// A name, a script, a feed or a log, and what is printed.
+pub type Row = (&'static str, &'static [u8], &'static [u8], &'static [u8]);
 
 pub const CHECK: &[&str] = &["check", "script"];
 
-pub const REPLAY: &[&str] = &["replay", "script", "log"];
+/// The input is the feed.
+pub const RUN: &[&str] = &["run", "script", "input"];
+
+/// The input is the log.
+pub const REPLAY: &[&str] = &["replay", "script", "input"];
 
 /// Joins two kinds.
 pub const PAIRS: &[u8] =
@@ -29,52 +34,44 @@ pub const PAIRS: &[u8] =
 /// One message of each.
 pub const PAIR: &[u8] = b"m,a,1\nm,b,2\n";
 
-/// Two actors that answer each other.
-pub const PING_PONG: &[u8] =
-    b"message ping(n: int) actor p { when ping(n) { post q ping(n + 1); } } actor q { when ping(n) { post p ping(n + 1); } }";
+/// How the log of one actor begins.
+pub const HEAD: &[u8] = b"joinlog 2 arrivals 50000 partials 65536 feeds 1\nactor m\n";
 
-/// Replies to each message.
-pub const REPLIES: &[u8] = b"message q(x: int) actor m { when q(x) { reply 1 x + 1; } }";
-
-/// A hall with motions, lights and contacts, and a desk that says what follows.
-pub const BUILDING: &[u8] = br#"message motion(room: int, t: int)
-message light(room: int, lux: int, t: int)
-message contact(room: int, t: int)
-message on(room: int)
-message alarm(room: int)
-actor hall {
-  when motion(r1, t1) & light(r2, lux, t2) if r1 == r2 && lux < 40 && t2 - t1 <= 60 && t1 - t2 <= 60 {
-    post desk on(r1);
-  }
-  when motion(r1, t1) & contact(r2, t2) if r1 == r2 && t2 - t1 <= 60 && t1 - t2 <= 60 {
-    post desk alarm(r1);
-  }
-}
-actor desk {
-  when on(r) {
-    print "light on in " r;
-  }
-  when alarm(r) {
-    print "alarm in " r;
-  }
-}
-"#;
-
-/// Joins messages with the same value.
-pub const EQUAL: &[u8] =
-    b"message a(x: int) message b(x: int) actor m { when a(x) & b(y) if x == y { print \"hit \" x y; } }";
-
-/// The log of the pair.
-pub const HIT_LOG: &[u8] = b"joinlog 2 arrivals 50000 partials 65536 feeds 1\n\
-      actor m\n\
-      1 at 1 from feed 1 a(1)\n\
+/// The log of the pair behind it.
+pub const HIT: &[u8] = b"1 at 1 from feed 1 a(1)\n\
       2 at 2 from feed 1 b(2)\n\
       fire rule 1 take 1,2\n\
       print \"hit 12\"\n\
       end running left - partials 1\n";
 
+/// Joins messages with the same value.
+pub const EQUAL: &[u8] =
+    b"message a(x: int) message b(x: int) actor m { when a(x) & b(y) if x == y { print \"hit \" x y; } }";
+
+/// Two actors that answer each other.
+pub const PING_PONG: &[u8] =
+    b"message ping(n: int) actor p { when ping(n) { post q ping(n + 1); } } \
+      actor q { when ping(n) { post p ping(n + 1); } }";
+
+/// Replies to each message.
+pub const REPLIES: &[u8] = b"message q(x: int) actor m { when q(x) { reply 1 x + 1; } }";
+
 // More than any example prints.
 const ROOM: u64 = 16_777_216;
+
+/// Appends the piece. It tells nothing of the bytes, so that a proof of safety has nothing of them to carry.
+pub fn push(text: &mut Bytes, piece: &[u8]) -> Result<(), NoMemory> {
+    text.push_all(piece)
+}
+
+/// The pieces, one behind the other.
+pub fn joined(alloc: Global, pieces: &[&[u8]]) -> Result<Bytes, NoMemory> {
+    let mut text = Bytes::new(alloc);
+    for piece in pieces {
+        push(&mut text, piece)?;
+    }
+    Ok(text)
+}
 
 fn words_of(alloc: Global, texts: &[&str]) -> Result<WordList, NoMemory> {
     let mut words = WordList::new(alloc);
@@ -84,16 +81,10 @@ fn words_of(alloc: Global, texts: &[&str]) -> Result<WordList, NoMemory> {
     Ok(words)
 }
 
-fn bytes_of(alloc: Global, content: &[u8]) -> Result<Bytes, NoMemory> {
-    let mut bytes = Bytes::new(alloc);
-    bytes.push_all(content)?;
-    Ok(bytes)
-}
-
 fn inputs_of(alloc: Global, files: &[(&str, &[u8])]) -> Result<MemoryInputs, NoMemory> {
     let mut inputs = MemoryInputs::new(alloc);
     for (name, content) in files {
-        inputs.put(alloc, name, bytes_of(alloc, content)?)?;
+        inputs.put(alloc, name, joined(alloc, &[*content])?)?;
     }
     Ok(inputs)
 }
@@ -112,16 +103,27 @@ fn answer_to<R: Threads + Wait + Sync>(
 ) -> Result<(Status, MemorySink), NoMemory> {
     let words = words_of(alloc, texts)?;
     let mut inputs = inputs_of(alloc, files)?;
-    let mut out = sink_of(alloc, ROOM)?;
+    let mut out = Counted::new(sink_of(alloc, ROOM)?);
     let status = join_main(rt, alloc, &words, &mut inputs, &mut out, &FreeGate);
-    Ok((status, out))
+    Ok((status, out.into_sink()))
+}
+
+// The lines of a log that are arrivals, which begin with a digit.
+fn arrivals_in(log: &[u8]) -> u64 {
+    let mut count = 0u64;
+    let mut begins = true;
+    for byte in log.iter() {
+        if begins && byte.is_ascii_digit() {
+            count = count.saturating_add(1);
+        }
+        begins = *byte == b'\n';
+    }
+    count
 }
 
 fn accepted_line(alloc: Global, arrivals: u64) -> Result<Bytes, NoMemory> {
-    let mut line = bytes_of(alloc, b"accepted ")?;
-    line.push_all(arrivals.to_string(alloc)?.as_bytes())?;
-    line.push_all(b"\n")?;
-    Ok(line)
+    let digits = arrivals.to_string(alloc)?;
+    joined(alloc, &[b"accepted ", digits.as_bytes(), b"\n"])
 }
 
 // Whether a replay of the script accepts the log with its arrivals.
@@ -131,7 +133,7 @@ fn is_accepted<R: Threads + Wait + Sync>(
     script: &[u8],
     log: &[u8],
 ) -> Result<bool, NoMemory> {
-    let files = [("script", script), ("log", log)];
+    let files = [("script", script), ("input", log)];
     let (status, out) = answer_to(rt, alloc, REPLAY, &files)?;
     let accepted = accepted_line(alloc, arrivals_in(log))?;
     Ok(status == Status::Done && out.bytes() == accepted.bytes())
@@ -151,36 +153,44 @@ fn are_accepted<R: Threads + Wait + Sync>(
     Ok(true)
 }
 
-// The lines of a log that are arrivals, which begin with a digit.
-fn arrivals_in(log: &[u8]) -> u64 {
-    let mut count = 0u64;
-    let mut begins = true;
-    for byte in log.iter() {
-        if begins && byte.is_ascii_digit() {
-            count = count.saturating_add(1);
-        }
-        begins = *byte == b'\n';
-    }
-    count
-}
-
-/// Whether the words print this with this status. A log that they print is also to be accepted, with its arrivals.
-pub fn is_right<R: Threads + Wait + Sync>(
+/// Whether the words print this with this status, where the first file is the script. A log that they print is also to
+/// be accepted, with its arrivals.
+pub fn comes_to<R: Threads + Wait + Sync>(
     rt: &R,
     alloc: Global,
-    example: &Example<'_>,
+    words: &[&str],
+    files: &[(&str, &[u8])],
+    status: Status,
+    printed: &[u8],
 ) -> Result<bool, NoMemory> {
-    let (status, out) = answer_to(rt, alloc, example.words, example.files)?;
-    if status != example.status || out.bytes() != example.printed {
+    let (found, out) = answer_to(rt, alloc, words, files)?;
+    if found != status || out.bytes() != printed {
         return Ok(false);
     }
-    let (Some(word), Some((_, script))) = (example.words.first(), example.files.first()) else {
+    let (Some(word), Some((_, script))) = (words.first(), files.first()) else {
         return Ok(true);
     };
     if *word != "run" || !matches!(status, Status::Done | Status::Limits) {
         return Ok(true);
     }
     is_accepted(rt, alloc, script, out.bytes())
+}
+
+/// Whether all of the words come to this.
+pub fn each_comes_to<R: Threads + Wait + Sync>(
+    rt: &R,
+    alloc: Global,
+    calls: &[&[&str]],
+    files: &[(&str, &[u8])],
+    status: Status,
+    printed: &[u8],
+) -> Result<bool, NoMemory> {
+    for words in calls {
+        if !comes_to(rt, alloc, words, files, status, printed)? {
+            return Ok(false);
+        }
+    }
+    Ok(true)
 }
 
 // How often a run is made whose log varies with the threads.
@@ -205,4 +215,19 @@ pub fn is_one_of<R: Threads + Wait + Sync>(
         return Ok(false);
     };
     are_accepted(rt, alloc, script, logs)
+}
+
+/// Whether each of several calls prints the same, without a file.
+pub fn prints_alike<R: Threads + Wait + Sync>(
+    rt: &R,
+    alloc: Global,
+    words: &[&str],
+    printed: &[u8],
+) -> Result<bool, NoMemory> {
+    for _ in 0..RUNS {
+        if !comes_to(rt, alloc, words, &[], Status::Done, printed)? {
+            return Ok(false);
+        }
+    }
+    Ok(true)
 }

@@ -1,20 +1,20 @@
 //! Examples whose files are made by numbers.
 ghost use Rattle.std.specs.Prelude.{◌≤◌};
 
-use crate::example::{BUILDING, CHECK, Example, PAIR, PAIRS, PING_PONG, RUN, is_right};
+use crate::example::{CHECK, HEAD, PAIR, PAIRS, PING_PONG, RUN, comes_to, push};
+use crate::telling::{counted, told};
 use join_base::{Bytes, NoMemory};
 use join_command::Status;
 use std::alloc::Global;
 use std::sync::Wait;
 use std::thread::Threads;
 
-// Appends the piece. It tells nothing of the bytes, so that a proof of safety has nothing of them to carry.
-fn push(text: &mut Bytes, piece: &[u8]) -> Result<(), NoMemory> {
-    text.push_all(piece)
-}
-
-// Appends the pieces, each behind its number.
-fn push_numbered(alloc: Global, text: &mut Bytes, pieces: &[(u64, &[u8])]) -> Result<(), NoMemory> {
+/// Appends the pieces, each behind its number.
+pub fn push_numbered(
+    alloc: Global,
+    text: &mut Bytes,
+    pieces: &[(u64, &[u8])],
+) -> Result<(), NoMemory> {
     for (number, piece) in pieces {
         push(text, number.to_string(alloc)?.as_bytes())?;
         push(text, piece)?;
@@ -38,10 +38,7 @@ fn thousand_rows(alloc: Global) -> Result<Bytes, NoMemory> {
 
 fn thousand_arrivals(alloc: Global) -> Result<Bytes, NoMemory> {
     let mut log = Bytes::new(alloc);
-    push(
-        &mut log,
-        b"joinlog 2 arrivals 50000 partials 65536 feeds 1\nactor m\n",
-    )?;
+    push(&mut log, HEAD)?;
     for pair in 0u64..500 {
         let first = 2 * pair + 1;
         let second = 2 * pair + 2;
@@ -61,6 +58,50 @@ fn thousand_arrivals(alloc: Global) -> Result<Bytes, NoMemory> {
     }
     push(&mut log, b"end running left - partials 1\n")?;
     Ok(log)
+}
+
+// Names, and words that join the rows.
+const JOINING: &[(&str, &[&str])] = &[
+    ("thousand rows", RUN),
+    (
+        "thousand rows ring of one",
+        &["run", "--ring", "1", "--workers", "1", "script", "input"],
+    ),
+    (
+        "thousand rows eight workers",
+        &["run", "--ring", "64", "--workers", "8", "script", "input"],
+    ),
+    (
+        "thousand rows most workers",
+        &["run", "--ring=4096", "--workers=64", "script", "input"],
+    ),
+];
+
+fn are_joined<R: Threads + Wait + Sync>(
+    rt: &R,
+    alloc: Global,
+    words: &[&str],
+) -> Result<bool, NoMemory> {
+    let feed = thousand_rows(alloc)?;
+    let log = thousand_arrivals(alloc)?;
+    let files = [("script", PAIRS), ("input", feed.bytes())];
+    comes_to(rt, alloc, words, &files, Status::Done, log.bytes())
+}
+
+fn tell_joining<R: Print + Threads + Wait + Sync>(
+    rt: &R,
+    alloc: Global,
+    rows: &[(&str, &[&str])],
+) -> bool {
+    let mut all = true;
+    for (name, words) in rows {
+        all &= told(rt, name, are_joined(rt, alloc, words));
+    }
+    counted(rt, "thousands of rows", rows.len(), all)
+}
+
+fn thousands_are_joined<R: Print + Threads + Wait + Sync>(rt: &R, alloc: Global) -> bool {
+    tell_joining(rt, alloc, JOINING)
 }
 
 // The arrivals that are allowed where no word says so.
@@ -116,143 +157,13 @@ fn answers_to_the_limit(alloc: Global) -> Result<Bytes, NoMemory> {
     Ok(log)
 }
 
-// What a row of the building says of its room: a motion, a light and a contact of one room come in turn.
-fn push_row(
+fn actors_answer_to_the_limit<R: Threads + Wait + Sync>(
+    rt: &R,
     alloc: Global,
-    text: &mut Bytes,
-    row: u64,
-    open: &[u8],
-    close: &[u8],
-) -> Result<(), NoMemory>
-    requires { row ≤ 5000 }
-{
-    let kind: &[u8] = match row % 3 {
-        0 => b"motion",
-        1 => b"light",
-        _ => b"contact",
-    };
-    push(text, kind)?;
-    push(text, open)?;
-    push_numbered(alloc, text, &[(room_of(row), b",")])?;
-    if row % 3 == 1 {
-        push_numbered(alloc, text, &[(light_of(row), b",")])?;
-    }
-    push_numbered(alloc, text, &[(10 * row, close)])
-}
-
-fn room_of(row: u64) -> u64 {
-    row / 3 % 7
-}
-
-fn light_of(row: u64) -> u64 {
-    10 * (row / 3 % 8)
-}
-
-fn building_rows(alloc: Global) -> Result<Bytes, NoMemory> {
-    let mut feed = Bytes::new(alloc);
-    for row in 0u64..5000 {
-        push(&mut feed, b"hall,")?;
-        push_row(alloc, &mut feed, row, b",", b"\n")?;
-    }
-    Ok(feed)
-}
-
-// What the hall posts to the desk, and what the desk prints of it. Both fire the definition of the same number.
-#[derive(Clone, Copy)]
-struct Told {
-    rule: &'static [u8],
-    message: &'static [u8],
-    printed: &'static [u8],
-}
-
-const LIGHT_ON: Told = Told {
-    rule: b"fire rule 1 take ",
-    message: b"on(",
-    printed: b"print \"light on in ",
-};
-
-const ALARM: Told = Told {
-    rule: b"fire rule 2 take ",
-    message: b"alarm(",
-    printed: b"print \"alarm in ",
-};
-
-// What follows from a row. Only three rows in turn have one room and times that are close enough: the room comes again
-// 210 later. The light takes the motion where it is dark, and else the contact does.
-fn told_of(row: u64) -> Option<Told> {
-    let dark = light_of(row) < 40;
-    match row % 3 {
-        1 if dark => Some(LIGHT_ON),
-        2 if !dark => Some(ALARM),
-        _ => None,
-    }
-}
-
-// What the hall records. Nothing but the feed sends to it, so each stamp is the arrival's number.
-fn push_hall(alloc: Global, log: &mut Bytes) -> Result<(), NoMemory> {
-    for row in 0u64..5000 {
-        let pieces: [(u64, &[u8]); 2] = [(row + 1, b" at "), (row + 1, b" from feed 1 ")];
-        push_numbered(alloc, log, &pieces)?;
-        push_row(alloc, log, row, b"(", b")\n")?;
-        if let Some(told) = told_of(row) {
-            push(log, told.rule)?;
-            let motion = row / 3 * 3 + 1;
-            push_numbered(alloc, log, &[(motion, b","), (row + 1, b"\npost desk ")])?;
-            push(log, told.message)?;
-            push_numbered(alloc, log, &[(room_of(row), b")\n")])?;
-        }
-    }
-    Ok(())
-}
-
-// Of three rows the light or the contact stays with the hall. The last two rows have no contact, and leave nothing.
-fn push_left(alloc: Global, log: &mut Bytes) -> Result<(), NoMemory> {
-    let mut before: &[u8] = b"end running left ";
-    for row in 0u64..5000 {
-        if row % 3 != 0 && told_of(row).is_none() {
-            push(log, before)?;
-            push_numbered(alloc, log, &[(row + 1, b"")])?;
-            before = b",";
-        }
-    }
-    Ok(())
-}
-
-// What the desk records: one post for three rows, whose stamp is one above that of the row from which it follows.
-fn push_desk(alloc: Global, log: &mut Bytes) -> Result<(), NoMemory> {
-    for row in 0u64..5000 {
-        if let Some(told) = told_of(row) {
-            let number = row / 3 + 1;
-            push_numbered(
-                alloc,
-                log,
-                &[(number, b" at "), (row + 2, b" from actor hall ")],
-            )?;
-            push(log, told.message)?;
-            push_numbered(alloc, log, &[(room_of(row), b")\n")])?;
-            push(log, told.rule)?;
-            push_numbered(alloc, log, &[(number, b"\n")])?;
-            push(log, told.printed)?;
-            push_numbered(alloc, log, &[(room_of(row), b"\"\n")])?;
-        }
-    }
-    Ok(())
-}
-
-// One feed sends to the hall and the hall alone to the desk, so there is one log. The hall's partial matches are the
-// two empty ones and the 834 contacts that it keeps; a light where it is not dark begins none.
-fn building_log(alloc: Global) -> Result<Bytes, NoMemory> {
-    let mut log = Bytes::new(alloc);
-    push(
-        &mut log,
-        b"joinlog 2 arrivals 50000 partials 65536 feeds 1\nactor hall\n",
-    )?;
-    push_hall(alloc, &mut log)?;
-    push_left(alloc, &mut log)?;
-    push(&mut log, b" partials 836\nactor desk\n")?;
-    push_desk(alloc, &mut log)?;
-    push(&mut log, b"end running left - partials 2\n")?;
-    Ok(log)
+) -> Result<bool, NoMemory> {
+    let log = answers_to_the_limit(alloc)?;
+    let files: [(&str, &[u8]); 2] = [("script", PING_PONG), ("input", b"p,ping,0\n")];
+    comes_to(rt, alloc, RUN, &files, Status::Limits, log.bytes())
 }
 
 // Its proof has the count as it is: a number that stands in the call would be counted out.
@@ -271,80 +182,47 @@ fn brackets(alloc: Global, count: usize) -> Result<Bytes, NoMemory> {
     Ok(script)
 }
 
-pub fn thousand_rows_are_joined<R: Threads + Wait + Sync>(
-    rt: &R,
-    alloc: Global,
-) -> Result<bool, NoMemory> {
-    let feed = thousand_rows(alloc)?;
-    let log = thousand_arrivals(alloc)?;
-    let example = Example {
-        name: "thousand rows",
-        words: RUN,
-        files: &[("script", PAIRS), ("feed", feed.bytes())],
-        status: Status::Done,
-        printed: log.bytes(),
-    };
-    is_right(rt, alloc, &example)
-}
-
-pub fn actors_answer_to_the_limit<R: Threads + Wait + Sync>(
-    rt: &R,
-    alloc: Global,
-) -> Result<bool, NoMemory> {
-    let log = answers_to_the_limit(alloc)?;
-    let example = Example {
-        name: "answers to the limit",
-        words: RUN,
-        files: &[("script", PING_PONG), ("feed", b"p,ping,0\n")],
-        status: Status::Limits,
-        printed: log.bytes(),
-    };
-    is_right(rt, alloc, &example)
-}
-
-pub fn a_building_is_run<R: Threads + Wait + Sync>(
-    rt: &R,
-    alloc: Global,
-) -> Result<bool, NoMemory> {
-    let feed = building_rows(alloc)?;
-    let log = building_log(alloc)?;
-    let example = Example {
-        name: "a building",
-        words: RUN,
-        files: &[("script", BUILDING), ("feed", feed.bytes())],
-        status: Status::Done,
-        printed: log.bytes(),
-    };
-    is_right(rt, alloc, &example)
-}
-
-pub fn brackets_are_refused<R: Threads + Wait + Sync>(
-    rt: &R,
-    alloc: Global,
-) -> Result<bool, NoMemory> {
+fn brackets_are_refused<R: Threads + Wait + Sync>(rt: &R, alloc: Global) -> Result<bool, NoMemory> {
     let script = brackets(alloc, 200_000)?;
-    let example = Example {
-        name: "hundred thousands of brackets",
-        words: CHECK,
-        files: &[("script", script.bytes())],
-        status: Status::ScriptRefused,
-        printed: b"refused script 73 BadSyntax\n",
-    };
-    is_right(rt, alloc, &example)
+    let refused = b"refused script 73 BadSyntax\n";
+    let files = [("script", script.bytes())];
+    comes_to(rt, alloc, CHECK, &files, Status::ScriptRefused, refused)
 }
 
-/// Words over a script of so many spaces, and what they come to.
+fn a_feed_is_too_long<R: Threads + Wait + Sync>(rt: &R, alloc: Global) -> Result<bool, NoMemory> {
+    let spaces = repeated(alloc, b' ', 16_777_217)?;
+    let files = [("script", PAIRS), ("input", spaces.bytes())];
+    comes_to(
+        rt,
+        alloc,
+        RUN,
+        &files,
+        Status::TooLong,
+        b"refused file 2 too long\n",
+    )
+}
+
+fn tell_large<R: Print + Threads + Wait + Sync>(rt: &R, alloc: Global) -> bool {
+    let answers = actors_answer_to_the_limit(rt, alloc);
+    let answers = told(rt, "answers to the limit", answers);
+    let brackets = brackets_are_refused(rt, alloc);
+    let brackets = told(rt, "hundred thousands of brackets", brackets);
+    let feed = told(rt, "a feed over the limit", a_feed_is_too_long(rt, alloc));
+    counted(rt, "large files", 3, answers && brackets && feed)
+}
+
+// Words over a script of so many spaces, and what they come to.
 #[derive(Clone, Copy)]
-pub struct Spaces {
-    pub name: &'static str,
+struct Spaces {
+    name: &'static str,
     words: &'static [&'static str],
     count: usize,
     status: Status,
     printed: &'static [u8],
 }
 
-/// A file may have 16,777,216 bytes.
-pub const SPACES: &[Spaces] = &[
+// A file may have 16,777,216 bytes.
+const SPACES: &[Spaces] = &[
     Spaces {
         name: "check spaces at the limit",
         words: CHECK,
@@ -375,34 +253,43 @@ pub const SPACES: &[Spaces] = &[
     },
 ];
 
-pub fn spaces_are_right<R: Threads + Wait + Sync>(
+fn are_refused<R: Threads + Wait + Sync>(
     rt: &R,
     alloc: Global,
     spaces: &Spaces,
 ) -> Result<bool, NoMemory> {
     let script = repeated(alloc, b' ', spaces.count)?;
-    let feed: (&str, &[u8]) = ("feed", PAIR);
-    let example = Example {
-        name: spaces.name,
-        words: spaces.words,
-        files: &[("script", script.bytes()), feed],
-        status: spaces.status,
-        printed: spaces.printed,
-    };
-    is_right(rt, alloc, &example)
+    let files = [("script", script.bytes()), ("input", PAIR)];
+    comes_to(
+        rt,
+        alloc,
+        spaces.words,
+        &files,
+        spaces.status,
+        spaces.printed,
+    )
 }
 
-pub fn a_feed_is_too_long<R: Threads + Wait + Sync>(
+fn tell_spaces<R: Print + Threads + Wait + Sync>(
     rt: &R,
     alloc: Global,
-) -> Result<bool, NoMemory> {
-    let spaces = repeated(alloc, b' ', 16_777_217)?;
-    let example = Example {
-        name: "a feed over the limit",
-        words: RUN,
-        files: &[("script", PAIRS), ("feed", spaces.bytes())],
-        status: Status::TooLong,
-        printed: b"refused file 2 too long\n",
-    };
-    is_right(rt, alloc, &example)
+    scripts: &[Spaces],
+) -> bool {
+    let mut all = true;
+    for spaces in scripts {
+        all &= told(rt, spaces.name, are_refused(rt, alloc, spaces));
+    }
+    counted(rt, "scripts of spaces", scripts.len(), all)
+}
+
+fn spaces_are_refused<R: Print + Threads + Wait + Sync>(rt: &R, alloc: Global) -> bool {
+    tell_spaces(rt, alloc, SPACES)
+}
+
+/// Tells of all these, and answers whether all of them come to what they should.
+pub fn are_right<R: Print + Threads + Wait + Sync>(rt: &R, alloc: Global) -> bool {
+    let thousands = thousands_are_joined(rt, alloc);
+    let large = tell_large(rt, alloc);
+    let spaces = spaces_are_refused(rt, alloc);
+    thousands && large && spaces
 }

@@ -1,22 +1,18 @@
-//! Words that are a command or none.
+//! Words that are a command, and words that are none.
 
-use crate::example::{Example, HIT_LOG, PAIR, PAIRS};
+use crate::example::{HIT, PAIR, PAIRS, comes_to, joined};
+use crate::telling::{counted, told};
+use join_base::NoMemory;
 use join_command::Status;
+use std::alloc::Global;
+use std::sync::Wait;
+use std::thread::Threads;
 
-// The log of the pair where five arrivals are allowed.
-const FIVE_ALLOWED: &[u8] = b"joinlog 2 arrivals 5 partials 65536 feeds 1\n\
-      actor m\n\
-      1 at 1 from feed 1 a(1)\n\
-      2 at 2 from feed 1 b(2)\n\
-      fire rule 1 take 1,2\n\
-      print \"hit 12\"\n\
-      end running left - partials 1\n";
+// A name, and words.
+type Refused = (&'static str, &'static [&'static str]);
 
-// The files that are there where words are refused.
-const REFUSED_FILES: &[(&str, &[u8])] = &[("s", PAIRS), ("f", PAIR)];
-
-/// Words that are refused as no command.
-pub const REFUSED: &[(&str, &[&str])] = &[
+// Words with an option that is none, or none of its command.
+const OPTIONS: &[Refused] = &[
     ("arrivals empty value", &["run", "--arrivals=", "s", "f"]),
     (
         "arrivals too big",
@@ -29,23 +25,11 @@ pub const REFUSED: &[(&str, &[&str])] = &[
     ("arrivals with sign", &["run", "--arrivals", "+5", "s", "f"]),
     ("arrivals without value", &["run", "s", "f", "--arrivals"]),
     ("arrivals zero", &["run", "--arrivals", "0", "s", "f"]),
-    ("ask is no command", &["ask", "s", "f"]),
-    ("ask without a feed is no command", &["ask", "s"]),
-    ("check two words", &["check", "s", "t"]),
-    ("check with option", &["check", "--arrivals", "5", "s"]),
     ("help option", &["run", "--help", "s", "f"]),
-    ("help word", &["help"]),
-    ("lint two words", &["lint", "s", "t"]),
-    ("load too big", &["load", "20001"]),
-    ("load with option", &["load", "--workers", "2", "3"]),
-    ("load with sign", &["load", "+3"]),
-    ("load without number", &["load"]),
-    ("load zero", &["load", "0"]),
     (
         "monitors without watch",
         &["run", "--monitors", "2", "s", "f"],
     ),
-    ("no word", &[]),
     (
         "partials too big",
         &["run", "--partials", "1000001", "s", "f"],
@@ -53,7 +37,10 @@ pub const REFUSED: &[(&str, &[&str])] = &[
     ("partials zero", &["run", "--partials", "0", "s", "f"]),
     ("pool of no kind", &["run", "--pool", "other", "s", "f"]),
     ("pool is no option", &["run", "--pool", "steal", "s", "f"]),
-    ("replay without log", &["replay", "s"]),
+    (
+        "pool queue is no option",
+        &["run", "--pool", "queue", "s", "f"],
+    ),
     ("ring too big", &["run", "--ring", "4097", "s", "f"]),
     (
         "ring twice",
@@ -61,6 +48,27 @@ pub const REFUSED: &[(&str, &[&str])] = &[
     ),
     ("ring with sign", &["run", "--ring", "+5", "s", "f"]),
     ("ring zero", &["run", "--ring", "0", "s", "f"]),
+    ("single dash option", &["run", "-x", "s", "f"]),
+    ("unknown option", &["run", "--rings", "5", "s", "f"]),
+    ("workers too many", &["run", "--workers", "65", "s", "f"]),
+    ("workers zero", &["run", "--workers", "0", "s", "f"]),
+];
+
+// Words with too few or too many files, or of no command.
+const OTHERS: &[Refused] = &[
+    ("ask is no command", &["ask", "s", "f"]),
+    ("ask without a feed is no command", &["ask", "s"]),
+    ("check two words", &["check", "s", "t"]),
+    ("check with option", &["check", "--arrivals", "5", "s"]),
+    ("help word", &["help"]),
+    ("lint two words", &["lint", "s", "t"]),
+    ("load too big", &["load", "20001"]),
+    ("load with option", &["load", "--workers", "2", "3"]),
+    ("load with sign", &["load", "+3"]),
+    ("load without number", &["load"]),
+    ("load zero", &["load", "0"]),
+    ("no word", &[]),
+    ("replay without log", &["replay", "s"]),
     ("run alone", &["run"]),
     ("run without feed", &["run", "s"]),
     (
@@ -70,8 +78,6 @@ pub const REFUSED: &[(&str, &[&str])] = &[
             "f", "f",
         ],
     ),
-    ("single dash option", &["run", "-x", "s", "f"]),
-    ("unknown option", &["run", "--rings", "5", "s", "f"]),
     ("version option", &["--version"]),
     ("watch no monitor", &["watch", "--monitors", "0", "s", "f"]),
     ("watch is no command", &["watch", "s", "f"]),
@@ -80,61 +86,207 @@ pub const REFUSED: &[(&str, &[&str])] = &[
         &["watch", "--monitors", "9", "s", "f"],
     ),
     ("watch without feed", &["watch", "s"]),
-    ("workers too many", &["run", "--workers", "65", "s", "f"]),
-    ("workers zero", &["run", "--workers", "0", "s", "f"]),
 ];
 
-pub fn refused<'a>(name: &'a str, words: &'a [&'a str]) -> Example<'a> {
-    Example {
-        name,
-        words,
-        files: REFUSED_FILES,
-        status: Status::Usage,
-        printed: b"refused usage\n",
-    }
+// The script is the file s.
+const FILES: &[(&str, &[u8])] = &[("s", PAIRS), ("f", PAIR), ("-", PAIR), ("--partials", PAIR)];
+
+// Whether the words are refused.
+fn is_refused<R: Threads + Wait + Sync>(
+    rt: &R,
+    alloc: Global,
+    words: &[&str],
+    files: &[(&str, &[u8])],
+) -> Result<bool, NoMemory> {
+    comes_to(rt, alloc, words, files, Status::Usage, b"refused usage\n")
 }
 
-pub const TAKEN: &[Example<'static>] = &[
-    Example {
-        name: "arrivals after files",
-        words: &["run", "s", "f", "--arrivals", "5"],
-        files: &[("s", PAIRS), ("f", PAIR)],
-        status: Status::Done,
-        printed: FIVE_ALLOWED,
-    },
-    Example {
-        name: "arrivals and double dash",
-        words: &["run", "--arrivals", "5", "--", "s", "f"],
-        files: &[("s", PAIRS), ("f", PAIR)],
-        status: Status::Done,
-        printed: FIVE_ALLOWED,
-    },
-    Example {
-        name: "arrivals before files",
-        words: &["run", "--arrivals", "5", "s", "f"],
-        files: &[("s", PAIRS), ("f", PAIR)],
-        status: Status::Done,
-        printed: FIVE_ALLOWED,
-    },
-    Example {
-        name: "arrivals with equals sign",
-        words: &["run", "--arrivals=05", "s", "f"],
-        files: &[("s", PAIRS), ("f", PAIR)],
-        status: Status::Done,
-        printed: FIVE_ALLOWED,
-    },
-    Example {
-        name: "double dash then dashed name",
-        words: &["run", "--", "-s", "f"],
-        files: &[("-s", PAIRS), ("f", PAIR)],
-        status: Status::Done,
-        printed: HIT_LOG,
-    },
-    Example {
-        name: "single dash is a name",
-        words: &["run", "-", "f"],
-        files: &[("-", PAIRS), ("f", PAIR)],
-        status: Status::Done,
-        printed: HIT_LOG,
-    },
+fn tell_refused<R: Print + Threads + Wait + Sync>(
+    rt: &R,
+    alloc: Global,
+    heading: &str,
+    files: &[(&str, &[u8])],
+    rows: &[Refused],
+) -> bool {
+    let mut all = true;
+    for (name, words) in rows {
+        all &= told(rt, name, is_refused(rt, alloc, words, files));
+    }
+    counted(rt, heading, rows.len(), all)
+}
+
+fn options_are_refused<R: Print + Threads + Wait + Sync>(rt: &R, alloc: Global) -> bool {
+    tell_refused(rt, alloc, "options that are refused", FILES, OPTIONS)
+}
+
+fn others_are_refused<R: Print + Threads + Wait + Sync>(rt: &R, alloc: Global) -> bool {
+    tell_refused(rt, alloc, "other words that are refused", FILES, OTHERS)
+}
+
+// A name, words that run the pair, and the limits in the first line of the log.
+type Taken = (&'static str, &'static [&'static str], &'static [u8]);
+
+const USUAL: &[u8] = b"arrivals 50000 partials 65536";
+
+const FIVE: &[u8] = b"arrivals 5 partials 65536";
+
+const BOTH: &[u8] = b"arrivals 2000 partials 40000";
+
+const TAKEN: &[Taken] = &[
+    (
+        "arrivals after files",
+        &["run", "s", "f", "--arrivals", "5"],
+        FIVE,
+    ),
+    (
+        "arrivals and double dash",
+        &["run", "--arrivals", "5", "--", "s", "f"],
+        FIVE,
+    ),
+    (
+        "arrivals before files",
+        &["run", "--arrivals", "5", "s", "f"],
+        FIVE,
+    ),
+    (
+        "arrivals with equals sign",
+        &["run", "--arrivals=05", "s", "f"],
+        FIVE,
+    ),
+    ("ring after files", &["run", "s", "f", "--ring", "5"], USUAL),
+    (
+        "ring and double dash",
+        &["run", "--ring", "5", "--", "s", "f"],
+        USUAL,
+    ),
+    (
+        "ring before files",
+        &["run", "--ring", "5", "s", "f"],
+        USUAL,
+    ),
+    (
+        "ring with equals sign",
+        &["run", "--ring=05", "s", "f"],
+        USUAL,
+    ),
+    (
+        "limits around the files",
+        &["run", "--arrivals", "2000", "s", "f", "--partials=40000"],
+        BOTH,
+    ),
+    (
+        "four options among the files",
+        &[
+            "run",
+            "--workers=3",
+            "s",
+            "--ring",
+            "05",
+            "f",
+            "--partials=40000",
+            "--arrivals=2000",
+        ],
+        BOTH,
+    ),
+    (
+        "most workers and places",
+        &[
+            "run",
+            "--workers=064",
+            "--ring=4096",
+            "--partials=40000",
+            "--arrivals=2000",
+            "--",
+            "s",
+            "-",
+        ],
+        BOTH,
+    ),
+    (
+        "single dash is a feed",
+        &["run", "--partials=040000", "s", "--arrivals", "2000", "-"],
+        BOTH,
+    ),
+    (
+        "limits and double dash",
+        &[
+            "run",
+            "--arrivals=2000",
+            "--partials",
+            "40000",
+            "--",
+            "s",
+            "f",
+        ],
+        BOTH,
+    ),
+    (
+        "double dash then an option",
+        &[
+            "run",
+            "--arrivals=2000",
+            "--partials",
+            "40000",
+            "--",
+            "s",
+            "--partials",
+        ],
+        BOTH,
+    ),
 ];
+
+const DASHED: &[Taken] = &[
+    (
+        "double dash then dashed name",
+        &["run", "--", "-s", "f"],
+        USUAL,
+    ),
+    ("single dash is a name", &["run", "-", "f"], USUAL),
+];
+
+// The script has a name with a dash in front.
+const DASHED_FILES: &[(&str, &[u8])] = &[("-s", PAIRS), ("-", PAIRS), ("f", PAIR)];
+
+// Whether the words print the log of the pair with these limits.
+fn is_taken<R: Threads + Wait + Sync>(
+    rt: &R,
+    alloc: Global,
+    words: &[&str],
+    files: &[(&str, &[u8])],
+    limits: &[u8],
+) -> Result<bool, NoMemory> {
+    let pieces: [&[u8]; 4] = [b"joinlog 2 ", limits, b" feeds 1\nactor m\n", HIT];
+    let log = joined(alloc, &pieces)?;
+    comes_to(rt, alloc, words, files, Status::Done, log.bytes())
+}
+
+fn tell_taken<R: Print + Threads + Wait + Sync>(
+    rt: &R,
+    alloc: Global,
+    heading: &str,
+    files: &[(&str, &[u8])],
+    rows: &[Taken],
+) -> bool {
+    let mut all = true;
+    for (name, words, limits) in rows {
+        all &= told(rt, name, is_taken(rt, alloc, words, files, limits));
+    }
+    counted(rt, heading, rows.len(), all)
+}
+
+fn options_are_taken<R: Print + Threads + Wait + Sync>(rt: &R, alloc: Global) -> bool {
+    tell_taken(rt, alloc, "options that are taken", FILES, TAKEN)
+}
+
+fn dashes_are_taken<R: Print + Threads + Wait + Sync>(rt: &R, alloc: Global) -> bool {
+    tell_taken(rt, alloc, "scripts with a dash", DASHED_FILES, DASHED)
+}
+
+/// Tells of all words, and answers whether all of them come to what they should.
+pub fn are_right<R: Print + Threads + Wait + Sync>(rt: &R, alloc: Global) -> bool {
+    let options = options_are_refused(rt, alloc);
+    let others = others_are_refused(rt, alloc);
+    let taken = options_are_taken(rt, alloc);
+    let dashes = dashes_are_taken(rt, alloc);
+    options && others && taken && dashes
+}
