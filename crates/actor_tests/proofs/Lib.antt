@@ -1,2 +1,4 @@
 pub mod CellLemmas
+pub mod FeedLemmas
 pub mod PlanLemmas
+pub mod PoolLemmas

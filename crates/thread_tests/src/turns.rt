@@ -64,34 +64,52 @@ fn idle_turn(turns: &Lock, seat: &mut NumbersSeat) -> Result<bool, u64>
     }
 }
 
-// The words that another seat finds before and after a flag during a turn, and what the release answers.
-fn flagged_turn(turns: &Lock, s: &mut NumbersSeat, t: &mut NumbersSeat) -> bool
+// Whether t finds s at its turn before and after it asks for one, and s, which appends a number, is told of that.
+fn flagged_turn(turns: &Lock, s: &mut NumbersSeat, t: &mut NumbersSeat, number: u64) -> bool
     requires own { IsOf turns.now s.old × IsOf turns.now t.old }
     requires exists { 0 < cell_count turns.now }
     requires free { ((view_of s.old).turn ≡ Free) × ((view_of t.old).turn ≡ Free) }
     ensures first { IsStill s.old s.new }
     ensures second { IsStill t.old t.new }
 {
-    let held = match turns.try_turn(s, 0) {
+    let mut held = match turns.try_turn(s, 0) {
         Ok(held) => held,
         Err(_) => return false,
     };
     let before = idle_turn(turns, t);
-    turns.flag(s, 0);
-    turns.unmark(t, 0);
+    turns.flag(t, 0);
     let after = idle_turn(turns, t);
+    let appended = held.cell().items.push(number).is_ok();
     let flagged = turns.release(s, held);
-    flagged && before == Err(2) && after == Err(3)
+    appended && flagged && before == Err(2) && after == Err(3)
+}
+
+// Whether the seat gets the turn, finds the number last, and is not told of another request.
+fn finds_last(turns: &Lock, seat: &mut NumbersSeat, number: u64) -> bool
+    requires own { IsOf turns.now seat.old }
+    requires exists { 0 < cell_count turns.now }
+    requires free { (view_of seat.old).turn ≡ Free }
+    ensures { IsStill seat.old seat.new }
+{
+    match turns.try_turn(seat, 0) {
+        Ok(mut held) => {
+            let found = held.cell().items.as_slice().ends_with(&[number]);
+            let flagged = turns.release(seat, held);
+            found && !flagged
+        }
+        Err(_) => false,
+    }
 }
 
 fn a_flag_during_a_turn_is_told_at_its_end(alloc: Global) -> Result<bool, NoMemory> {
     let (turns, mut s) = one_cell(alloc)?;
     let mut t = turns.split_seat(&mut s)?;
-    let flagged = flagged_turn(&turns, &mut s, &mut t);
-    let last = idle_turn(&turns, &mut t);
+    let flagged = flagged_turn(&turns, &mut s, &mut t, 5);
+    let found = finds_last(&turns, &mut t, 5);
+    turns.unmark(&mut t, 0);
     turns.join_seat(&mut s, t);
     let cells = turns.close(s);
-    Ok(flagged && last == Ok(false) && cells.len() == 1)
+    Ok(flagged && found && cells.len() == 1)
 }
 
 fn a_mark_outlives_a_turn(alloc: Global) -> Result<bool, NoMemory> {
