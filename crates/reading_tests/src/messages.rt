@@ -27,8 +27,7 @@ const SCRIPTS_TOLD: &[Told] = &[
     (
         b"message a(x: int) actor m { when a(x) { print \"it is open; } }",
         b"refused script 46 BadToken\n",
-        b"home:1:47: BadToken: no text begins here: it does not end, an escape is wrong or missing, or it \
-          has more than 120 bytes
+        b"home:1:47: BadToken: the `\"` that ends this text is missing
     message a(x: int) actor m { when a(x) { print \"it is open; } }
                                                   ^
 ",
