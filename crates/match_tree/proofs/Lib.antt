@@ -19,6 +19,8 @@
 -- - a node that fails its row's screen has no takers behind it (`lacks_key`, `fails_one`, `is_another`, `disagrees`),
 --   and is passed as it is (`passed_quiet`), many in one step too (`walk_to`): ScreenLemmas, VisitLemmas, SkipLemmas
 -- - which conjuncts are decided is the same for all numbers of a row (`tests_alike`): ScreenLemmas
+-- - a number that an index has not under a look-up's value is not worth a visit (`key_looks`, `text_looks`), and those that
+--   are left of the index have all that are (`left_before`, `left_behind`): LookLemmas
 -- - a fact of each item of a list, by membership (`all_in`, `all_members`): FirstLemmas
 pub mod Examples
 pub mod SlotsLemmas
@@ -38,6 +40,7 @@ pub mod RowsLemmas
 pub mod PruneLemmas
 pub mod LeafLemmas
 pub mod KeyLemmas
+pub mod LookLemmas
 pub mod CountLemmas
 pub mod OpenLemmas
 pub mod SkipLemmas

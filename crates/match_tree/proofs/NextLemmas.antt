@@ -1,5 +1,5 @@
 -- The paths of a tree may be offered the number behind the one that they were offered.
-use Rattle.std.proofs.Common.{◌≡◌, inl, inr, ◌∙◌, ℕ, ◌+◌, ◌<◌, ◌≤◌, List, [], ◌∷◌, ◌++◌, map, length, Bool, Option, None, Some, sym, subst, arith}
+use Rattle.std.proofs.Common.{◌≡◌, inl, inr, ◌∙◌, ℕ, ◌+◌, ◌<◌, ◌≤◌, List, [], ◌∷◌, ◌++◌, map, length, Bool, Option, None, Some, refl, sym, subst, arith}
 use Rattle.std.specs.Prelude.{MatchOption}
 use Rattle.std.specs.List.{filter, AllByRecursion}
 use Rattle.join_base.specs.declared.message.Message.{Message}
@@ -9,6 +9,7 @@ use Rattle.pattern_core.specs.declared.definition.Definition.{Definition}
 use Rattle.pattern_core.specs.Members.{IsIn}
 use Rattle.pattern_core.specs.Window.{SeesLatest, oldest_seen}
 use Rattle.pattern_core.proofs.MembersLemmas.{IsIn-append_cases, IsIn-map_from, IsIn-filter_from, IsIn-flat_map_from}
+use Rattle.value_index.specs.Index.{no_index}
 use Rattle.match_tree.specs.Routes.{with_number}
 use Rattle.match_tree.specs.Offers.{Offered, places, may_take, takers, leaves_one_free, growing}
 use Rattle.match_tree.specs.Below.{AreBelow}
@@ -16,6 +17,7 @@ use Rattle.match_tree.specs.Offering.{CanOffer}
 use Rattle.match_tree.specs.Tree.{Tree, Reserve, offer_to, seen_paths, is_path_seen, extensions, SameMembers, IsReserved}
 use Rattle.match_tree.proofs.SlotsLemmas.{below_further}
 use Rattle.match_tree.proofs.FirstLemmas.{all_in, all_members}
+use Rattle.match_tree.proofs.LookLemmas.{unindexed}
 use Rattle.match_tree.proofs.MatchLemmas.{suits_with, agrees_with}
 
 below_next : (n : ℕ) (slots : Assignment) → AreBelow n slots → AreBelow (n + 1) slots
@@ -26,8 +28,8 @@ below_next n (Some k ∷ slots) h = (let l = h.0 in omega arith, below_next n sl
 -- the same path, and the number behind
 can_next : (t u : Tree) (letters : List Message) (n : ℕ) (slots : Assignment) → u.definition ≡ t.definition → n < length letters → CanOffer (offer_to t letters n) slots → CanOffer (offer_to u letters (n + 1)) slots
 can_next t u letters n slots same within can =
-    let Suits : Definition → Type 0 = λ d. CanOffer (record { letters = letters; definition = d; rule = u.rule; number = n + 1; oldest = oldest_seen d.window (n + 1) }) slots in
-    subst Suits (sym same) (record { definition = can.definition; suits = can.suits; agreeable = can.agreeable; recorded = (omega arith, omega arith); below = below_next n slots can.below })
+    let Suits : Definition → Type 0 = λ d. CanOffer (record { letters = letters; index = no_index; definition = d; rule = u.rule; number = n + 1; oldest = oldest_seen d.window (n + 1) }) slots in
+    subst Suits (sym same) (record { definition = can.definition; suits = can.suits; agreeable = can.agreeable; indexed = unindexed no_index letters slots refl; recorded = (omega arith, omega arith); below = below_next n slots can.below })
 
 -- a path that has the number, and the number behind
 can_grown : (t u : Tree) (letters : List Message) (n p : ℕ) (slots : Assignment) → u.definition ≡ t.definition → n < length letters → CanOffer (offer_to t letters n) slots → IsIn p (growing (offer_to t letters n) slots)
@@ -36,11 +38,12 @@ can_grown t u letters n p slots same within can m =
     let o : Offered = offer_to t letters n in
     let taken = IsIn-filter_from (leaves_one_free o slots) p (takers o slots) m in
     let may = (IsIn-filter_from (may_take o slots) p (places 0 o.definition.patterns) taken.0).1 in
-    let Suits : Definition → Type 0 = λ d. CanOffer (record { letters = letters; definition = d; rule = u.rule; number = n + 1; oldest = oldest_seen d.window (n + 1) }) (with_number slots p n) in
+    let Suits : Definition → Type 0 = λ d. CanOffer (record { letters = letters; index = no_index; definition = d; rule = u.rule; number = n + 1; oldest = oldest_seen d.window (n + 1) }) (with_number slots p n) in
     subst Suits (sym same) (record {
       definition = can.definition;
       suits = suits_with o slots p can may;
       agreeable = agrees_with o slots p may;
+      indexed = unindexed no_index letters (with_number slots p n) refl;
       recorded = (omega arith, omega arith);
       below = below_further slots p n (n + 1) (below_next n slots can.below) (omega arith);
     })

@@ -23,7 +23,7 @@ use Rattle.guard_bound.specs.Same.{is_same}
 use Rattle.guard_bound.proofs.SameLemmas.{same_said}
 use Rattle.guard_bound.specs.declared.same.Same.{Same}
 use Rattle.match_tree.specs.Rows.{node_at}
-use Rattle.match_tree.specs.Screen.{AreTests, AreWorthless, IsBound, IsDecidedAt, IsSaid, IsWorthless, Screens, as_bound, key_of, passes}
+use Rattle.match_tree.specs.Screen.{AreTests, AreWorthless, IsBound, IsDecidedAt, IsOther, IsSaid, IsWorthless, Screens, as_bound, key_of, passes}
 use Rattle.match_tree.specs.declared.screen.Screen.{Screen}
 use Rattle.guard_bound.specs.declared.bound.Bound.{Bound}
 use Rattle.match_tree.specs.declared.screen.Key.{Key}
@@ -46,7 +46,7 @@ in_at (y ∷ xs) (suc i) x e = inr (in_at xs i x e)
 
 -- ---- what an agreeable assignment decides
 
-number_set : (slots : Assignment) (p n : ℕ) → is_free slots p ≡ true → number_at (with_number slots p n) p ≡ Some n
+pub number_set : (slots : Assignment) (p n : ℕ) → is_free slots p ≡ true → number_at (with_number slots p n) p ≡ Some n
 number_set [] p n free = absurd cc
 number_set (slot ∷ slots) zero n free = refl
 number_set (slot ∷ slots) (suc p) n free = number_set slots p n free
@@ -70,24 +70,35 @@ filter_all {X} p (x ∷ xs) = by (p x) refl (filter_all p xs)
     by true e later = (e, later)
     by false e later = later
 
+all_two : {X : Type 0} (P Q R : X → Type 0) → ((x : X) → P x → Q x → R x) → (xs : List X) → AllByRecursion P xs → AllByRecursion Q xs → AllByRecursion R xs
+all_two P Q R f [] a b = tt
+all_two P Q R f (x ∷ xs) a b = (f x a.0 b.0, all_two P Q R f xs a.1 b.1)
+
 module _ (o : Offered) (slots : Assignment) (q : ℕ) where
   abbrev pub others : List ℕ
   others = filter (λ p. not (p == q)) (takers o slots)
 
-  -- the one other pattern that may take the number
+  -- another pattern that may take the number
   pub record Other (p : ℕ) : Type 0 where
     pub free : is_free slots p ≡ true
     pub apart : not (p == q) ≡ true
     pub of_kind : is_of_kind (letter_at o.letters o.number) (slice_index o.definition.patterns p) ≡ true
 
-  pub other_of : (p : ℕ) → others ≡ p ∷ [] → Other p
-  other_of p alone =
-      let may = (subst (λ (ps : List ℕ). AllByRecursion (λ x. may_take o slots x ≡ true) ps) alone (all_filter (λ x. may_take o slots x ≡ true) (λ x. not (x == q)) (takers o slots) (all_take o slots (places 0 o.definition.patterns)))).0 in
-      let apart = (subst (λ (ps : List ℕ). AllByRecursion (λ x. not (x == q) ≡ true) ps) alone (filter_all (λ x. not (x == q)) (takers o slots))).0 in
+  pub other_at : (p : ℕ) → IsOther o slots q p → Other p
+  other_at p is =
       let kind : Bool = is_of_kind (letter_at o.letters o.number) (slice_index o.definition.patterns p) in
       let agreeable : Bool = is_agreeable o.letters o.definition.conjuncts (with_number slots p o.number) in
-      let parts = both_true (is_free slots p) (kind && agreeable) may in
-      record { free = parts.0; apart = apart; of_kind = (both_true kind agreeable parts.1).0 }
+      let parts = both_true (is_free slots p) (kind && agreeable) is.may in
+      record { free = parts.0; apart = is.apart; of_kind = (both_true kind agreeable parts.1).0 }
+
+  pub all_others : AllByRecursion (IsOther o slots q) others
+  all_others =
+      all_two (λ x. may_take o slots x ≡ true) (λ x. not (x == q) ≡ true) (IsOther o slots q) (λ x may apart. record { may = may; apart = apart }) others
+      (all_filter (λ x. may_take o slots x ≡ true) (λ x. not (x == q)) (takers o slots) (all_take o slots (places 0 o.definition.patterns)))
+      (filter_all (λ x. not (x == q)) (takers o slots))
+
+  pub other_of : (p : ℕ) → others ≡ p ∷ [] → Other p
+  other_of p alone = other_at p (subst (λ (ps : List ℕ). AllByRecursion (IsOther o slots q) ps) alone all_others).0
 
 -- ---- what may be left out
 
@@ -106,11 +117,14 @@ module _ (o : Offered) (slots : Assignment) (q m : ℕ) where
   and_never true false = refl
   and_never false b = refl
 
-  -- where a decided conjunct is false beside the offered number, no pattern may take it
-  pub disagrees : (p : ℕ) → is_free slots q ≡ true → others o slots q ≡ p ∷ [] → is_agreeable o.letters o.definition.conjuncts (with_number longer p o.number) ≡ false → takers o longer ≡ []
-  disagrees p free alone fails =
+  -- where a decided conjunct is false beside the offered number, the pattern may not take it
+  pub denied : (p : ℕ) → is_agreeable o.letters o.definition.conjuncts (with_number longer p o.number) ≡ false → may_take o longer p ≡ false
+  denied p fails =
       let kind : Bool = is_of_kind (letter_at o.letters o.number) (slice_index o.definition.patterns p) in
-      none_taken p free alone ((λ i. is_free longer p && (kind && fails i)) ∙ and_never (is_free longer p) kind)
+      (λ i. is_free longer p && (kind && fails i)) ∙ and_never (is_free longer p) kind
+
+  pub disagrees : (p : ℕ) → is_free slots q ≡ true → others o slots q ≡ p ∷ [] → is_agreeable o.letters o.definition.conjuncts (with_number longer p o.number) ≡ false → takers o longer ≡ []
+  disagrees p free alone fails = none_taken p free alone (denied p fails)
 
   pub other_free : (p : ℕ) → others o slots q ≡ p ∷ [] → slice_get longer p ≡ Some None
   other_free p alone =
@@ -160,46 +174,59 @@ not_agreeable o slots c true e is_in decided fails =
 
 -- ---- a number that fails a bound
 
-module _ (o : Offered) (slots : Assignment) (q m p : ℕ) (free : is_free slots q ≡ true) (alone : others o slots q ≡ p ∷ []) where
+module _ (o : Offered) (slots : Assignment) (q m p : ℕ) (free : is_free slots q ≡ true) (other : Other o slots q p) where
   abbrev both : ℕ → Assignment
   both n = with_number (with_number slots q n) p o.number
 
   beside : IsPair o.number q p m (both m)
   beside =
-      let other = other_of o slots q p alone in
       let left : is_free (with_number slots q m) p ≡ true = free_further slots q m p ∙ and_of (is_free slots p) (not (p == q)) other.free other.apart in
       let first : number_at (with_number slots q m) q ≡ Some m = number_set slots q m free in
       record { here = extends_one (with_number slots q m) p o.number left q (ap is_slot_filled first) ∙ first; there = number_set (with_number slots q m) p o.number left }
 
-  unmet : (bound : Bound) → IsBound o (both o.number) q p bound → meets o.letters bound m ≡ false → takers o (with_number slots q m) ≡ []
+  unmet : (bound : Bound) → IsBound o (both o.number) q p bound → meets o.letters bound m ≡ false → may_take o (with_number slots q m) p ≡ false
   unmet bound is fails =
       let c = is.conjunct in
       let decided : is_decided (both m) c ≡ true = (λ i. has_some (needs_of c) && all_alike slots q m o.number p o.number (needs_of c) i) ∙ is.decided in
       let untrue : is_true o.letters (both m) c ≡ false = is.says m (both m) beside ∙ fails in
-      disagrees o slots q m p free alone (not_agreeable o (both m) c (is_agreeable o.letters o.definition.conjuncts (both m)) refl is.is_in decided untrue)
+      denied o slots q m p (not_agreeable o (both m) c (is_agreeable o.letters o.definition.conjuncts (both m)) refl is.is_in decided untrue)
 
-  -- where a number has not the key's value, no pattern may take the offered one behind it
-  pub lacks_key : (key : Option Key) → IfSome key (λ k. IsBound o (both o.number) q p (as_bound k)) → passes o.letters key m ≡ false → takers o (with_number slots q m) ≡ []
-  lacks_key None is fails = absurd cc
-  lacks_key (Some k) is fails = unmet (as_bound k) is fails
+  -- where a number has not the key's value, the pattern may not take the offered one behind it
+  pub misses_key : (key : Option Key) → IfSome key (λ k. IsBound o (both o.number) q p (as_bound k)) → passes o.letters key m ≡ false → may_take o (with_number slots q m) p ≡ false
+  misses_key None is fails = absurd cc
+  misses_key (Some k) is fails = unmet (as_bound k) is fails
 
-  -- where it fails one of the bounds, none may either
-  pub fails_one : (bounds : List Bound) → AllByRecursion (IsBound o (both o.number) q p) bounds → list_all (λ b. meets o.letters b m) bounds ≡ false → takers o (with_number slots q m) ≡ []
-  fails_one [] h fails = absurd cc
-  fails_one (b ∷ bounds) h fails = by (meets o.letters b m) refl (fails_one bounds h.1)
+  -- where it fails one of the bounds, it may not either
+  pub misses_one : (bounds : List Bound) → AllByRecursion (IsBound o (both o.number) q p) bounds → list_all (λ b. meets o.letters b m) bounds ≡ false → may_take o (with_number slots q m) p ≡ false
+  misses_one [] h fails = absurd cc
+  misses_one (b ∷ bounds) h fails = by (meets o.letters b m) refl (misses_one bounds h.1)
     where
-      by : (t : Bool) → meets o.letters b m ≡ t → (list_all (λ x. meets o.letters x m) bounds ≡ false → takers o (with_number slots q m) ≡ []) → takers o (with_number slots q m) ≡ []
+      by : (t : Bool) → meets o.letters b m ≡ t → (list_all (λ x. meets o.letters x m) bounds ≡ false → may_take o (with_number slots q m) p ≡ false) → may_take o (with_number slots q m) p ≡ false
       by true e later = later (sym (λ i. e i && list_all (λ x. meets o.letters x m) bounds) ∙ fails)
       by false e later = unmet b h.0 e
 
-  -- where its text is another one, none may either
-  pub is_another : (same : Option Same) → IfSome same (IsSaid o (both o.number) q p) → is_same o.letters o.number same m ≡ false → takers o (with_number slots q m) ≡ []
-  is_another None h fails = absurd cc
-  is_another (Some same) h fails =
+  -- where its text is another one, it may not either
+  pub misses_text : (same : Option Same) → IfSome same (IsSaid o (both o.number) q p) → is_same o.letters o.number same m ≡ false → may_take o (with_number slots q m) p ≡ false
+  misses_text None h fails = absurd cc
+  misses_text (Some same) h fails =
       let c = h.conjunct in
       let decided : is_decided (both m) c ≡ true = (λ i. has_some (needs_of c) && all_alike slots q m o.number p o.number (needs_of c) i) ∙ h.decided in
       let untrue : is_true o.letters (both m) c ≡ false = same_said o.letters o.number q p m (both m) c same h.says beside ∙ fails in
-      disagrees o slots q m p free alone (not_agreeable o (both m) c (is_agreeable o.letters o.definition.conjuncts (both m)) refl h.is_in decided untrue)
+      denied o slots q m p (not_agreeable o (both m) c (is_agreeable o.letters o.definition.conjuncts (both m)) refl h.is_in decided untrue)
+
+-- where it is the one wanted pattern, none may
+module _ (o : Offered) (slots : Assignment) (q m p : ℕ) (free : is_free slots q ≡ true) (alone : others o slots q ≡ p ∷ []) where
+  abbrev beside_offered : Assignment
+  beside_offered = with_number (with_number slots q o.number) p o.number
+
+  pub lacks_key : (key : Option Key) → IfSome key (λ k. IsBound o beside_offered q p (as_bound k)) → passes o.letters key m ≡ false → takers o (with_number slots q m) ≡ []
+  lacks_key key is fails = none_taken o slots q m p free alone (misses_key o slots q m p free (other_of o slots q p alone) key is fails)
+
+  pub fails_one : (bounds : List Bound) → AllByRecursion (IsBound o beside_offered q p) bounds → list_all (λ b. meets o.letters b m) bounds ≡ false → takers o (with_number slots q m) ≡ []
+  fails_one bounds is fails = none_taken o slots q m p free alone (misses_one o slots q m p free (other_of o slots q p alone) bounds is fails)
+
+  pub is_another : (same : Option Same) → IfSome same (IsSaid o beside_offered q p) → is_same o.letters o.number same m ≡ false → takers o (with_number slots q m) ≡ []
+  is_another same is fails = none_taken o slots q m p free alone (misses_text o slots q m p free (other_of o slots q p alone) same is fails)
 
 -- ---- a screen with a test more
 

@@ -13,7 +13,8 @@ use Rattle.match_tree.specs.Screen.{AreOffered, AreWorthless, IsOffered, IsWorth
 use Rattle.match_tree.specs.Rows.{leaf, node_at}
 use Rattle.match_tree.proofs.LeadLemmas.{Leads, lead_node, lead_below}
 use Rattle.match_tree.proofs.VisitLemmas.{Passed, Stays, passed_both, passed_none}
-use Rattle.match_tree.proofs.ScreenLemmas.{passed_worthless}
+use Rattle.match_tree.proofs.ScreenLemmas.{others, passed_worthless}
+use Rattle.match_tree.proofs.TriesLemmas.{tried_further}
 use Rattle.match_tree.proofs.WalkLemmas.{all_at, counts_all, counts_on, left_item, left_more, left_set, passed_on, row_length, stays_sound, stopped, tries_most, tries_on}
 use Rattle.match_tree.proofs.OpenLemmas.{open_all, open_both, open_node, open_on, open_one}
 
@@ -28,13 +29,13 @@ pub record Walked (o : Offered) (slots : Assignment) (q : ℕ) (nodes items : Li
   pub counted : count + length (row_routes q (take place nodes)) ≡ count_before + length (row_routes q (take place items))
   pub stepped : steps ≤ steps_before + tries_behind o slots (row_routes q (take place nodes))
 
-module _ (o : Offered) (slots : Assignment) (q : ℕ) (nodes items : List Branch) (count_before count steps_before steps : ℕ) (sound : IsSoundRow nodes) (lead : LeadOn o slots (row_routes q nodes)) (opened : AreOpen slots (row_routes q nodes)) where
-  abbrev At : ℕ → Type 0
-  At place = Walked o slots q nodes items count_before count steps_before steps place
+module _ (o : Offered) (slots : Assignment) (q : ℕ) (nodes items : List Branch) (count_before count steps_before : ℕ) (sound : IsSoundRow nodes) (lead : LeadOn o slots (row_routes q nodes)) (opened : AreOpen slots (row_routes q nodes)) (wanted : 1 ≤ length (others o slots q)) where
+  abbrev At : ℕ → ℕ → Type 0
+  At steps place = Walked o slots q nodes items count_before count steps_before steps place
 
-  -- a node more that is not worth a visit
-  walk_on : (i : ℕ) → i < length nodes → IsWorthless o slots q (node_at items i).number → At i → At (i + 1)
-  walk_on i within worthless before =
+  -- a node more that is not worth a visit: it was looked at, in place of a try
+  walk_on : (steps i : ℕ) → i < length nodes → IsWorthless o slots q (node_at items i).number → At steps i → At (steps + 1) (i + 1)
+  walk_on steps i within worthless before =
       let d : Branch = leaf 0 in
       let node : Branch = node_at nodes i in
       let is : node_at items i ≡ node = left_item items nodes i d before.left in
@@ -48,27 +49,37 @@ module _ (o : Offered) (slots : Assignment) (q : ℕ) (nodes items : List Branch
       let length_nodes = ap (λ (xs : List Branch). length (row_routes q xs)) nodes_is ∙ row_length q (take i nodes) node in
       let length_items = ap (λ (xs : List Branch). length (row_routes q xs)) items_is ∙ row_length q (take i items) node in
       let tried_on = tries_on o slots q nodes items i node d within refl in
+      let leads = lead_below o slots q node (lead_node o slots q nodes i d within lead) in
+      let tries : length (others o slots q) ≡ length (tried o (with_number slots q node.number)) = ap (λ (ps : List ℕ). length ps) (tried_further o slots q node.number leads.free leads.below) in
       record {
         passed = subst (λ (xs : List Branch). Passed o slots q (take (i + 1) nodes) xs) (sym items_is) (subst (λ (xs : List Branch). Passed o slots q xs (take i items ++ node ∷ [])) (sym nodes_is) both);
         opens = subst (λ (xs : List Branch). AreOpen slots (row_routes q xs)) (sym items_is) open_here;
         left = left_more items nodes i before.left;
         long = before.long;
         counted = omega (arith, before.counted, length_nodes, length_items);
-        stepped = omega (arith, before.stepped, tried_on);
+        stepped = omega (arith, before.stepped, tried_on, tries, wanted);
       }
 
   -- so many nodes more that are not
-  walk_far : (k i : ℕ) → i + k ≤ length nodes → AreWorthless o slots q items i (i + k) → At i → At (i + k)
-  walk_far zero i within none before = let same : i ≡ i + 0 = omega arith in subst At same before
-  walk_far (suc k) i within none before =
+  walk_far : (k steps i : ℕ) → i + k ≤ length nodes → AreWorthless o slots q items i (i + k) → At steps i → At (steps + k) (i + k)
+  walk_far zero steps i within none before =
+      let same : i ≡ i + 0 = omega arith in
+      let still : steps ≡ steps + 0 = omega arith in
+      subst (λ (n : ℕ). At n (i + 0)) still (subst (λ (p : ℕ). At steps p) same before)
+  walk_far (suc k) steps i within none before =
       let more : (i + 1) + k ≡ i + suc k = omega arith in
-      subst At more (walk_far k (i + 1) (omega arith) (λ j from to. none j (omega arith) (omega arith)) (walk_on i (omega arith) (none i (omega arith) (omega arith)) before))
+      let stepped : (steps + 1) + k ≡ steps + suc k = omega arith in
+      let on = walk_on steps i (omega arith) (none i (omega arith) (omega arith)) before in
+      let far = walk_far k (steps + 1) (i + 1) (omega arith) (λ j from to. none j (omega arith) (omega arith)) on in
+      subst (λ (n : ℕ). At n (i + suc k)) stepped (subst (λ (p : ℕ). At ((steps + 1) + k) p) more far)
 
-  pub walk_to : (i to : ℕ) → i ≤ to → to ≤ length nodes → AreWorthless o slots q items i to → At i → At to
-  walk_to i to from within none before =
+  -- up to a place, where at most as many were looked at as there are
+  pub walk_to : (steps now i to : ℕ) → i ≤ to → to ≤ length nodes → now + i ≤ steps + to → AreWorthless o slots q items i to → At steps i → At now to
+  walk_to steps now i to from within few none before =
       let k : ℕ = to - i in
       let is : i + k ≡ to = omega arith in
-      subst At is (walk_far k i (omega arith) (λ j l m. none j l (omega arith)) before)
+      let far = subst (λ (p : ℕ). At (steps + k) p) is (walk_far k steps i (omega arith) (λ j l m. none j l (omega arith)) before) in
+      record { passed = far.passed; opens = far.opens; left = far.left; long = far.long; counted = far.counted; stepped = omega (arith, far.stepped, few, is) }
 
 -- at the first nodes nothing was passed
 pub walk_first : (o : Offered) (slots : Assignment) (q : ℕ) (nodes : List Branch) (count steps : ℕ) → Walked o slots q nodes nodes count count steps steps 0

@@ -17,3 +17,4 @@ pub mod Behind
 pub mod Pruned
 pub mod Kept
 pub mod Screen
+pub mod Look

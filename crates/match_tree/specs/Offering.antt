@@ -1,7 +1,9 @@
 -- When a number may be offered to paths.
 use Rattle.std.specs.Prelude.{◌≡◌, ℕ, List, true, Some, None, slice_get}
 use Rattle.std.specs.List.{AllByRecursion}
-use Rattle.guard_eval.specs.Meaning.{Assignment}
+use Rattle.join_base.specs.declared.message.Message.{Message}
+use Rattle.guard_eval.specs.Meaning.{Assignment, number_at}
+use Rattle.value_index.specs.Index.{Index, Has}
 use Rattle.pattern_core.specs.Matches.{is_agreeable}
 use Rattle.pattern_core.specs.Suits.{DefinitionSuits, IsRecorded, SlotsSuit}
 use Rattle.match_tree.specs.Routes.{Route, filled}
@@ -10,13 +12,19 @@ use Rattle.match_tree.specs.Below.{AreBelow, Climbs}
 use Rattle.match_tree.specs.declared.offer.Offer.{Offer}
 
 abbrev pub offered : Offer → Offered
-offered offer = record { letters = offer.letters.now; definition = offer.definition.now; rule = offer.rule; number = offer.number; oldest = offer.oldest }
+offered offer = record { letters = offer.letters.now; index = offer.index.now; definition = offer.definition.now; rule = offer.rule; number = offer.number; oldest = offer.oldest }
 
--- the definition and the path suit the messages, the path is agreeable, and the number is recorded and after all of its numbers
+-- the index has each number of the path
+abbrev pub AreIndexed : Index → List Message → Assignment → Type 0
+AreIndexed index letters slots = (pattern number : ℕ) → number_at slots pattern ≡ Some number → Has index letters number
+
+-- the definition and the path suit the messages, the path is agreeable and indexed, and the number is recorded and after
+-- all of its numbers
 pub record CanOffer (o : Offered) (slots : Assignment) : Type 0 where
   pub definition : DefinitionSuits o.letters o.definition
   pub suits : SlotsSuit o.letters o.definition.patterns slots
   pub agreeable : is_agreeable o.letters o.definition.conjuncts slots ≡ true
+  pub indexed : AreIndexed o.index o.letters slots
   pub recorded : IsRecorded o.letters o.number
   pub below : AreBelow o.number slots
 

@@ -7,11 +7,14 @@ use Rattle.pattern_core.specs.declared.definition.Definition.{Definition}
 use Rattle.pattern_core.specs.declared.candidate.Candidate.{Candidate}
 use Rattle.pattern_core.specs.Matches.{is_of_kind, is_agreeable, is_full, is_complete_match}
 use Rattle.pattern_core.specs.Choice.{candidate_of}
+use Rattle.value_index.specs.Index.{Index}
 use Rattle.match_tree.specs.Routes.{Route, step, with_number, filled, is_seen}
 
--- a number of the recorded messages that is offered to the paths of a definition, which sees none before the oldest
+-- a number of the recorded messages that is offered to the paths of a definition, which sees none before the oldest; an
+-- index has messages by their values
 pub record Offered : Type 0 where
   pub letters : List Message
+  pub index : Index
   pub definition : Definition
   pub rule : ℕ
   pub number : ℕ

@@ -1,5 +1,5 @@
 -- A test of the numbers of a row: behind those that fail it, no wanted pattern may take the offered number.
-use Rattle.std.specs.Prelude.{false, ◌≡◌, ◌⊎◌, ℕ, List, [], ◌∷◌, Bool, true, Option, Some, None, IfSome, slice_get, slice_index, length, nat_le, ◌<◌, ◌≤◌}
+use Rattle.std.specs.Prelude.{false, ◌≡◌, ◌⊎◌, ℕ, List, [], ◌∷◌, Bool, true, Option, Some, None, IfSome, slice_get, slice_index, length, nat_le, not, ◌==◌, ◌<◌, ◌≤◌}
 use Rattle.std.specs.List.{AllByRecursion}
 use Rattle.std.specs.Ordering.{int_eq}
 use Rattle.join_base.specs.declared.message.Message.{Message}
@@ -15,7 +15,7 @@ use Rattle.match_tree.specs.Routes.{Branch, with_number}
 use Rattle.guard_bound.specs.Bound.{Says, int_at}
 use Rattle.guard_bound.specs.Same.{SaysSame}
 use Rattle.match_tree.specs.Rows.{node_at}
-use Rattle.match_tree.specs.Offers.{Offered, is_free, takers}
+use Rattle.match_tree.specs.Offers.{Offered, is_free, may_take, takers}
 use Rattle.match_tree.specs.Offering.{CanOffer}
 
 -- the equality as a bound
@@ -48,6 +48,11 @@ pub record AreTests (o : Offered) (whole : Assignment) (pattern : ℕ) (screen :
   pub bounds : AllByRecursion (IsBound o whole pattern screen.other) screen.bounds
   pub same : IfSome screen.same (IsSaid o whole pattern screen.other)
   pub tests : AllByRecursion (IsDecidedAt o whole) screen.tests
+
+-- the pattern is another than the row's, and may take the offered number
+pub record IsOther (o : Offered) (slots : Assignment) (pattern other : ℕ) : Type 0 where
+  pub may : may_take o slots other ≡ true
+  pub apart : not (other == pattern) ≡ true
 
 -- one pattern is wanted, and the screen's tests are decided where it and the row's pattern have a number
 pub record Screens (o : Offered) (slots : Assignment) (pattern : ℕ) (wanted : List ℕ) (screen : Screen) : Type 0 where

@@ -8,6 +8,7 @@ use Rattle.pattern_core.specs.declared.candidate.Candidate.{Candidate}
 use Rattle.pattern_core.specs.Members.{IsIn}
 use Rattle.pattern_core.specs.Choice.{least}
 use Rattle.pattern_core.specs.Window.{oldest_seen}
+use Rattle.value_index.specs.Index.{no_index}
 use Rattle.match_tree.specs.Routes.{with_number}
 use Rattle.join_base.specs.Taken.{contains_number}
 use Rattle.match_tree.specs.Offers.{Offered, growing, matches_at}
@@ -30,7 +31,7 @@ empty_of definition = replicate (length definition.patterns) None
 
 -- a number of these messages, offered to the paths of a tree
 abbrev pub offer_to : Tree → List Message → ℕ → Offered
-offer_to tree letters number = record { letters = letters; definition = tree.definition; rule = tree.rule; number = number; oldest = oldest_seen tree.definition.window number }
+offer_to tree letters number = record { letters = letters; index = no_index; definition = tree.definition; rule = tree.rule; number = number; oldest = oldest_seen tree.definition.window number }
 
 abbrev pub is_slot_seen : ℕ → Option ℕ → Bool
 is_slot_seen oldest None = true

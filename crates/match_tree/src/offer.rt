@@ -11,11 +11,14 @@ ghost use Rattle.match_tree.specs.Offering.{offered, CanOffer, MayTry, MayTake};
 use join_base::{Message, NoMemory, Numbers, Slots, Steps};
 use pattern_core::{Candidate, Definition, better, complete, is_full, try_extend};
 use std::sync::ledger::Ledger;
+use value_index::ValueIndex;
 
-/// A number of the recorded messages, the definition and its number, and the oldest number that the definition sees.
+/// A number of the recorded messages, an index of their values, the definition and its number, and the oldest number
+/// that the definition sees.
 #[derive(Drop)]
 pub struct Offer<'a> {
     pub letters: &'a [Message],
+    pub index: &'a ValueIndex,
     pub definition: &'a Definition,
     pub rule: u32,
     pub number: u32,

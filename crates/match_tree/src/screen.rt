@@ -1,7 +1,7 @@
-//! Tests of the numbers of a row that are cheaper than a try. Which conjuncts are decided by the row's pattern and the wanted one
-//! is found once for the row, and only these are looked at. Where such a conjunct compares one field of the row with what is known,
-//! it is enough to read that field, and an equality is looked at first.
-ghost use Rattle.std.specs.Prelude.{◌≡◌, ◌⊎◌, ◌<◌, ◌≤◌, ◌++◌, ◌∷◌, [], length, map, slice_get, Some, None, true, false, not, ◌==◌, nat_le, IfSome};
+//! Tests of the numbers of a row that are cheaper than a try. Which conjuncts tie the row's pattern to the wanted one and are
+//! decided is found once for the row, and only these are looked at. Where such a conjunct compares one field of the row with what
+//! is known, it is enough to read that field, and an equality is looked at first.
+ghost use Rattle.std.specs.Prelude.{◌≡◌, ◌⊎◌, ◌+◌, ◌<◌, ◌≤◌, ◌++◌, ◌∷◌, [], length, map, slice_get, Some, None, true, false, not, ◌==◌, nat_le, IfSome};
 ghost use Rattle.std.specs.List.{filter, AllByRecursion};
 ghost use Rattle.pattern_core.specs.Matches.{is_agreeable};
 ghost use Rattle.pattern_core.specs.Suits.{DefinitionSuits, SlotsSuit};
@@ -10,16 +10,21 @@ ghost use Rattle.match_tree.specs.Offers.{takers};
 ghost use Rattle.match_tree.specs.Offering.{offered, CanOffer};
 ghost use Rattle.match_tree.specs.RowNumbers.{numbers_in};
 ghost use Rattle.match_tree.specs.Rows.{node_at};
+ghost use Rattle.match_tree.specs.Order.{Rise};
+ghost use Rattle.match_tree.specs.Look.{LooksUp};
 ghost use Rattle.match_tree.specs.Screen.{AreLacking, AreOffered, AreTests, AreWorthless, IsDecidedAt, IsWith, Screens, as_bound, key_of, passes};
 
+use crate::look::{Look, next_looked};
 use crate::node::Node;
 use crate::offer::Offer;
 use crate::row::Row;
 use crate::row_numbers::RowNumbers;
+use crate::ties::is_tied;
 use guard_bound::{Bound, Bounds, Same, bound_of, int_at, is_same, meets_all, same_of};
 use guard_eval::{decided, holds};
-use join_base::{Message, Numbers, Relation, Slots};
+use join_base::{Message, Numbers, Relation, Slots, Steps};
 use std::collections::VecDeque;
+use std::sync::ledger::Ledger;
 
 /// The value that a number of the row has to have at a field.
 #[derive(Clone, Copy, PartialEq, Eq, Debug)]
@@ -129,13 +134,23 @@ fn add_test(offer: &Offer<'_>, whole: &Slots, pattern: u32, place: u32, screen: 
     }
 }
 
-// The screen of the conjuncts that the longer of two assignments decides and the shorter doesn't.
-fn tests_of(offer: &Offer<'_>, pattern: u32, other: u32, shorter: &Slots, longer: &Slots) -> Screen
+// Whether the conjunct at the place ties the patterns.
+fn has_tie(offer: &Offer<'_>, pattern: u32, other: u32, place: u32) -> bool
+    requires within { place < length offer.now.definition.now.conjuncts }
+{
+    is_tied(
+        offer.definition.conjuncts.at(place as usize),
+        pattern,
+        other,
+    )
+}
+
+// The screen of the conjuncts that tie the two patterns, and that the assignment decides, which has the number at both.
+fn tests_of(offer: &Offer<'_>, pattern: u32, other: u32, whole: &Slots) -> Screen
     requires definition { DefinitionSuits offer.now.letters.now offer.now.definition.now }
-    requires short { length shorter.now ≡ length offer.now.definition.now.patterns }
-    requires long { length longer.now ≡ length offer.now.definition.now.patterns }
+    requires long { length whole.now ≡ length offer.now.definition.now.patterns }
     ensures other { result.other ≡ other }
-    ensures tests { AreTests (offered offer.now) longer.now pattern result }
+    ensures tests { AreTests (offered offer.now) whole.now pattern result }
 {
     let mut screen = Screen {
         other,
@@ -146,8 +161,8 @@ fn tests_of(offer: &Offer<'_>, pattern: u32, other: u32, shorter: &Slots, longer
     };
     let count = offer.definition.conjuncts.len().min(64) as u32;
     for place in 0..count {
-        if decides(offer, longer, place) && !decides(offer, shorter, place) {
-            add_test(offer, longer, pattern, place, &mut screen);
+        if has_tie(offer, pattern, other, place) && decides(offer, whole, place) {
+            add_test(offer, whole, pattern, place, &mut screen);
         }
     }
     screen
@@ -171,9 +186,9 @@ pub fn screen_of(
         return None;
     };
     let patterns = offer.definition.patterns.len();
-    let shorter = with_free(slots, patterns, pattern, offer.number)?;
-    let longer = with_free(&shorter, patterns, *other, offer.number)?;
-    Some(tests_of(offer, pattern, *other, &shorter, &longer))
+    let longer = with_free(slots, patterns, pattern, offer.number)?;
+    let whole = with_free(&longer, patterns, *other, offer.number)?;
+    Some(tests_of(offer, pattern, *other, &whole))
 }
 
 // The screen's key.
@@ -230,9 +245,9 @@ fn agrees(offer: &Offer<'_>, slots: &Slots, pattern: u32, screen: &Screen, numbe
     all_hold(offer, &whole, &screen.tests)
 }
 
-// Whether a number of a row that has the screen's key is worth a visit. It isn't where the definition no longer sees it, or no
-// pattern may take the offered number behind it.
-fn is_worth(
+/// Whether a number of a row that has the screen's key is worth a visit. It isn't where the definition no longer sees it, or no
+/// pattern may take the offered number behind it.
+pub fn is_worth(
     offer: &Offer<'_>,
     slots: &Slots,
     pattern: u32,
@@ -270,48 +285,103 @@ fn has_value(letters: &[Message], key: Key, number: u32) -> bool
     int_at(letters, number, key.field) == key.value
 }
 
-// The first place from this one on whose number has the key's value, or the end.
-fn find_in(letters: &[Message], key: Key, leaves: &[u32], from: usize) -> usize
+// Whether the number has the key's value, where there is a key.
+fn has_key(letters: &[Message], key: Option<Key>, number: u32) -> bool
+    ensures { result ≡ passes letters.now key number }
+{
+    match key {
+        None => true,
+        Some(key) => has_value(letters, key, number),
+    }
+}
+
+/// The same for a number that may lack the key's value.
+pub fn passes_screen(
+    offer: &Offer<'_>,
+    slots: &Slots,
+    pattern: u32,
+    screen: &Option<Screen>,
+    number: u32,
+) -> bool
+    requires can { CanOffer (offered offer.now) (with_number slots.now pattern number) }
+    requires free { slice_get slots.now pattern ≡ Some None }
+    requires screen { IfSome screen.now (Screens (offered offer.now) slots.now pattern (filter (λ p. not (p == pattern)) (takers (offered offer.now) slots.now))) }
+    ensures seen { result ≡ true → nat_le offer.now.oldest number ≡ true }
+    ensures left_out { result ≡ false → (nat_le offer.now.oldest number ≡ false) ⊎ (takers (offered offer.now) (with_number slots.now pattern number) ≡ []) }
+{
+    if !has_key(offer.letters, key_of(screen), number) {
+        return false;
+    }
+    is_worth(offer, slots, pattern, screen, number)
+}
+
+// The first place from this one on whose number has the key's value, or the end. Each number that is passed over counts.
+fn find_in<L: Ledger>(
+    letters: &[Message],
+    key: Key,
+    leaves: &[u32],
+    from: usize,
+    steps: &mut Steps<L>,
+) -> usize
     requires { from ≤ length leaves.now }
     ensures from { from ≤ result }
     ensures within { result ≤ length leaves.now }
     ensures lacking { AreLacking letters.now (Some key) leaves.now from result }
+    ensures counted { steps.new + from ≡ steps.old + result }
 {
     for place in from..leaves.len() {
         if has_value(letters, key, leaves[place]) {
             return place;
         }
+        steps.tick();
     }
     leaves.len()
 }
 
 // The same in two slices, one behind the other: this is the loop over waiting messages, and one slice is read faster.
-fn find_leaf(letters: &[Message], key: Key, front: &[u32], back: &[u32], from: usize) -> usize
+fn find_leaf<L: Ledger>(
+    letters: &[Message],
+    key: Key,
+    front: &[u32],
+    back: &[u32],
+    from: usize,
+    steps: &mut Steps<L>,
+) -> usize
     requires { from ≤ length (front.now ++ back.now) }
     ensures from { from ≤ result }
     ensures within { result ≤ length (front.now ++ back.now) }
     ensures lacking { AreLacking letters.now (Some key) (front.now ++ back.now) from result }
+    ensures counted { steps.new + from ≡ steps.old + result }
 {
-    if from < front.len() {
-        let place = find_in(letters, key, front, from);
-        if place < front.len() {
-            return place;
-        }
+    if from >= front.len() {
+        return front.len() + find_in(letters, key, back, from - front.len(), steps);
     }
-    front.len() + find_in(letters, key, back, from.saturating_sub(front.len()))
+    let place = find_in(letters, key, front, from, steps);
+    if place < front.len() {
+        return place;
+    }
+    front.len() + find_in(letters, key, back, 0, steps)
 }
 
 // The same among nodes.
-fn find_node(letters: &[Message], key: Key, nodes: &VecDeque<Node>, from: usize) -> usize
+fn find_node<L: Ledger>(
+    letters: &[Message],
+    key: Key,
+    nodes: &VecDeque<Node>,
+    from: usize,
+    steps: &mut Steps<L>,
+) -> usize
     requires { from ≤ length nodes.now.items }
     ensures from { from ≤ result }
     ensures within { result ≤ length nodes.now.items }
     ensures lacking { AreLacking letters.now (Some key) (map (λ node. node.number) nodes.now.items) from result }
+    ensures counted { steps.new + from ≡ steps.old + result }
 {
     for place in from..nodes.len() {
         if has_value(letters, key, nodes[place].number()) {
             return place;
         }
+        steps.tick();
     }
     nodes.len()
 }
@@ -319,38 +389,54 @@ fn find_node(letters: &[Message], key: Key, nodes: &VecDeque<Node>, from: usize)
 // The same among the numbers of a row, where there is a key. Without one each place will do, and a call would cost more
 // than the test at it.
 #[inline(always)]
-fn with_key(letters: &[Message], key: Option<Key>, numbers: &RowNumbers<'_>, from: usize) -> usize
+fn with_key<L: Ledger>(
+    letters: &[Message],
+    key: Option<Key>,
+    numbers: &RowNumbers<'_>,
+    from: usize,
+    steps: &mut Steps<L>,
+) -> usize
     requires { from ≤ length (numbers_in numbers.now) }
     ensures from { from ≤ result }
     ensures within { result ≤ length (numbers_in numbers.now) }
     ensures lacking { AreLacking letters.now key (numbers_in numbers.now) from result }
+    ensures counted { steps.new + from ≡ steps.old + result }
 {
     match key {
         None => from,
-        Some(key) => find_key(letters, key, numbers, from),
+        Some(key) => find_key(letters, key, numbers, from, steps),
     }
 }
 
-fn find_key(letters: &[Message], key: Key, numbers: &RowNumbers<'_>, from: usize) -> usize
+fn find_key<L: Ledger>(
+    letters: &[Message],
+    key: Key,
+    numbers: &RowNumbers<'_>,
+    from: usize,
+    steps: &mut Steps<L>,
+) -> usize
     requires { from ≤ length (numbers_in numbers.now) }
     ensures from { from ≤ result }
     ensures within { result ≤ length (numbers_in numbers.now) }
     ensures lacking { AreLacking letters.now (Some key) (numbers_in numbers.now) from result }
+    ensures counted { steps.new + from ≡ steps.old + result }
 {
     match numbers {
-        RowNumbers::Leaves(front, back) => find_leaf(letters, key, front, back, from),
-        RowNumbers::Nodes(nodes) => find_node(letters, key, nodes, from),
+        RowNumbers::Leaves(front, back) => find_leaf(letters, key, front, back, from, steps),
+        RowNumbers::Nodes(nodes) => find_node(letters, key, nodes, from, steps),
     }
 }
 
-/// The first place from this one on whose number is worth a visit, or the row's end.
-pub fn next_place(
+// The first place from this one on whose number is worth a visit, or the row's end, where all are gone through. Each
+// number that is passed over counts.
+fn next_scanned<L: Ledger>(
     offer: &Offer<'_>,
     slots: &Slots,
     pattern: u32,
     screen: &Option<Screen>,
     row: &Row,
     from: usize,
+    steps: &mut Steps<L>,
 ) -> usize
     requires offered { AreOffered (offered offer.now) slots.now pattern row.now from }
     requires screen { IfSome screen.now (Screens (offered offer.now) slots.now pattern (filter (λ p. not (p == pattern)) (takers (offered offer.now) slots.now))) }
@@ -359,16 +445,47 @@ pub fn next_place(
     ensures within { result ≤ length row.now }
     ensures seen { result < length row.now → nat_le offer.now.oldest (node_at row.now result).number ≡ true }
     ensures skipped { AreWorthless (offered offer.now) slots.now pattern row.now from result }
+    ensures counted { steps.new + from ≡ steps.old + result }
 {
     let numbers = RowNumbers::of(row);
     let end = numbers.len();
     let key = key_of(screen);
-    let mut place = with_key(offer.letters, key, &numbers, from);
+    let mut place = with_key(offer.letters, key, &numbers, from, steps);
     while place < end {
         if is_worth(offer, slots, pattern, screen, numbers.at(place)) {
             return place;
         }
-        place = with_key(offer.letters, key, &numbers, place + 1);
+        steps.tick();
+        place = with_key(offer.letters, key, &numbers, place + 1, steps);
     }
     end
+}
+
+/// The first place from this one on whose number is worth a visit, or the row's end. Each number that is looked at and
+/// passed over counts a step, so that there are at most as many steps as places before it.
+pub fn next_place<L: Ledger>(
+    offer: &Offer<'_>,
+    slots: &Slots,
+    pattern: u32,
+    screen: &Option<Screen>,
+    look: Option<Look>,
+    row: &Row,
+    from: usize,
+    steps: &mut Steps<L>,
+) -> usize
+    requires rise { Rise (map (λ node. node.number) row.now) }
+    requires offered { AreOffered (offered offer.now) slots.now pattern row.now from }
+    requires looks { IfSome look (LooksUp (offered offer.now) slots.now pattern) }
+    requires screen { IfSome screen.now (Screens (offered offer.now) slots.now pattern (filter (λ p. not (p == pattern)) (takers (offered offer.now) slots.now))) }
+    requires within { from ≤ length row.now }
+    ensures from { from ≤ result }
+    ensures within { result ≤ length row.now }
+    ensures seen { result < length row.now → nat_le offer.now.oldest (node_at row.now result).number ≡ true }
+    ensures skipped { AreWorthless (offered offer.now) slots.now pattern row.now from result }
+    ensures counted { steps.new + from ≤ steps.old + result }
+{
+    match look {
+        None => next_scanned(offer, slots, pattern, screen, row, from, steps),
+        Some(look) => next_looked(offer, slots, pattern, screen, look, row, from, steps),
+    }
 }

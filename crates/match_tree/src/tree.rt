@@ -3,7 +3,7 @@ ghost use Rattle.std.specs.Prelude.{◌≡◌, ◌+◌, ◌^◌, ◌-◌, ◌<�
 ghost use Rattle.std.specs.List.{filter, AllByRecursion};
 ghost use Rattle.match_tree.specs.Tree.{AreOnce, empty_of, offer_to, IsReserved, SameMembers, with_paths, is_path_seen, is_path_without};
 ghost use Rattle.pattern_core.specs.Window.{oldest_seen};
-ghost use Rattle.match_tree.specs.Offering.{CanOffer};
+ghost use Rattle.match_tree.specs.Offering.{AreIndexed, CanOffer};
 ghost use Rattle.match_tree.specs.Tries.{tries};
 
 use crate::expire::drop_unseen;
@@ -17,6 +17,7 @@ use pattern_core::{Candidate, Definition, oldest_seen};
 use std::alloc::Global;
 use std::marker::Model;
 use std::sync::ledger::Ledger;
+use value_index::ValueIndex;
 
 // A candidate like this one.
 fn copy_of(candidate: &Candidate) -> Candidate
@@ -97,17 +98,19 @@ impl MatchTree {
     }
 
     /// Offers a number to the paths: finds the least match that it completes, and where there is none sets aside what
-    /// it adds to them. `NoMemory` where there is no memory for that: then the tree is as it was. Nothing may be set
-    /// aside already.
+    /// it adds to them. The index has each number of the paths. `NoMemory` where there is no memory for what is set
+    /// aside: then the tree is as it was. Nothing may be set aside already.
     pub fn reserve_for<L: Ledger>(
         &mut self,
         letters: &[Message],
+        index: &ValueIndex,
         number: u32,
         steps: &mut Steps<L>,
     ) -> Result<(), NoMemory>
         requires few { number < 2 ^ 32 - 1 }
         requires settled { self.old.reserve ≡ None }
         requires can { AllByRecursion (CanOffer (offer_to self.old letters.now number)) self.old.paths }
+        requires indexed { AllByRecursion (AreIndexed index.now letters.now) self.old.paths }
         ensures definition { self.new.definition ≡ self.old.definition }
         ensures rule { self.new.rule ≡ self.old.rule }
         ensures paths { self.new.paths ≡ self.old.paths }
@@ -117,6 +120,7 @@ impl MatchTree {
     {
         let offer = Offer {
             letters,
+            index,
             definition: &self.definition,
             rule: self.rule,
             number,

@@ -14,6 +14,7 @@ ghost use Rattle.match_tree.specs.Growth.{Lasts, Grows};
 ghost use Rattle.match_tree.specs.Begins.{AreLess, Begins, IsLess};
 ghost use Rattle.match_tree.specs.Tries.{tries_behind};
 
+use crate::look::look_of;
 use crate::node::{Node, Shape};
 use crate::offer::{Offer, best_match, contains, growing, takers, without};
 use crate::row::{Nodes, Row};
@@ -341,7 +342,7 @@ fn visit_each<L: Ledger>(
 }
 
 // Offers the number to the paths of a row's nodes, in the order of their numbers, until a match is found. Those that
-// aren't worth a visit are left out.
+// aren't worth a visit are left out. One that was looked at for that counts a step, as the tries at it would.
 #[cycle(visit)]
 fn visit_row<L: Ledger>(
     alloc: Global,
@@ -373,14 +374,15 @@ fn visit_row<L: Ledger>(
     }
     let end = row.len();
     let screen = screen_of(offer, slots, pattern, wanted, end);
-    let mut place = next_place(offer, slots, pattern, &screen, row, 0);
+    let look = look_of(offer, slots, pattern, wanted, &screen, end);
+    let mut place = next_place(offer, slots, pattern, &screen, look, row, 0, steps);
     while place < end {
         let longer = slots.with(pattern, row.number_at(place));
         let found = visit_at(alloc, offer, &longer, wanted, row, place, count, steps)?;
         if found.is_some() {
             return Ok(found);
         }
-        place = next_place(offer, slots, pattern, &screen, row, place + 1);
+        place = next_place(offer, slots, pattern, &screen, look, row, place + 1, steps);
     }
     Ok(None)
 }

@@ -1,5 +1,5 @@
 -- Joins whose guards compare integers in the first fields of the first two patterns.
-use Rattle.std.proofs.Common.{◌≡◌, ℕ, zero, suc, ◌≤◌, List, [], ◌∷◌, ◌++◌, length, replicate, true, None, sym, subst, arith}
+use Rattle.std.proofs.Common.{◌≡◌, ℕ, zero, suc, ◌≤◌, List, [], ◌∷◌, ◌++◌, length, replicate, true, None, sym, subst, arith, refl}
 use Rattle.std.specs.Prelude.{slice_get, slice_index}
 use Rattle.std.specs.List.{AllByRecursion}
 use Rattle.join_base.specs.declared.message.Message.{Message}
@@ -10,6 +10,8 @@ use Rattle.pattern_core.specs.declared.definition.Definition.{Definition}
 use Rattle.pattern_core.specs.Suits.{DefinitionSuits, KindHas, NeedSuits}
 use Rattle.pattern_core.proofs.SuitsLemmas.{suits_empty}
 use Rattle.pattern_core.proofs.AgreeLemmas.{agreeable_empty}
+use Rattle.value_index.specs.Index.{no_index}
+use Rattle.match_tree.proofs.LookLemmas.{unindexed}
 use Rattle.matching_tests.specs.Samples.{IsSampleNeed, AreSamples, AreInts}
 use Rattle.match_tree.specs.Below.{AreBelow}
 use Rattle.match_tree.specs.Offering.{CanOffer}
@@ -43,6 +45,7 @@ first_can letters t suits some = record {
   definition = suits;
   suits = suits_empty letters t.definition.patterns;
   agreeable = agreeable_empty letters t.definition.conjuncts (length t.definition.patterns);
+  indexed = unindexed no_index letters (empty_of t.definition) refl;
   recorded = (omega arith, some);
   below = below_empty 1 (length t.definition.patterns);
 }

@@ -1,10 +1,12 @@
 -- The joins and messages of tests.
-use Rattle.std.specs.Prelude.{◌≡◌, ◌<◌, List, true, slice_get}
+use Rattle.std.specs.Prelude.{◌≡◌, ℕ, ◌<◌, ◌≤◌, List, true, slice_get}
 use Rattle.std.specs.List.{AllByRecursion}
 use Rattle.join_base.specs.declared.message.Message.{Message}
 use Rattle.join_base.specs.declared.message.Sort.{Sort}
 use Rattle.guard_eval.specs.Condition.{Condition}
 use Rattle.guard_eval.specs.Meaning.{Need, needs_of, has_sort}
+use Rattle.pattern_core.specs.Suits.{IsRecorded}
+use Rattle.value_index.specs.Index.{Index, Has}
 
 -- an integer in the first field of one of the first two patterns
 abbrev pub IsSampleNeed : Need → Type 0
@@ -17,3 +19,11 @@ AreSamples conjuncts = AllByRecursion (λ c. AllByRecursion IsSampleNeed (needs_
 -- each message has an integer in its first field
 abbrev pub AreInts : List Message → Type 0
 AreInts letters = AllByRecursion (λ m. has_sort Sort.Int (slice_get m.fields 0) ≡ true) letters
+
+-- the index has the messages up to this number
+abbrev pub HasUpTo : Index → List Message → ℕ → Type 0
+HasUpTo index letters last = (number : ℕ) → IsRecorded letters number → number ≤ last → Has index letters number
+
+-- the index has all messages
+abbrev pub HasAll : Index → List Message → Type 0
+HasAll index letters = (number : ℕ) → IsRecorded letters number → Has index letters number

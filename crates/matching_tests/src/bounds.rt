@@ -1,7 +1,7 @@
-use crate::made::comparison;
+use crate::made::{comparison, worded};
 use guard_bound::{Bound, Bounds, Same, bound_of, is_same, meets_all, same_of};
 use guard_eval::{Leaf, Operand, Place, Signed, Term, WordsLeaf};
-use join_base::{Fields, Items, Letters, Message, NoMemory, Relation, Text, Value};
+use join_base::{Items, Letters, Message, NoMemory, Relation};
 use std::alloc::Global;
 use std::test::Fail;
 
@@ -32,22 +32,17 @@ fn words(pattern: u32) -> Operand {
     Operand::Words(WordsLeaf::Field(Place { pattern, field: 1 }))
 }
 
-// A message with an integer and a text.
-fn letter(alloc: Global, value: i64, text: &[u8]) -> Result<Message, Fail> {
-    let mut fields = Fields::new(alloc);
-    let text = Text::from_bytes(alloc, text)?;
-    if fields.push(Value::Int(value)).is_err() || fields.push(Value::Words(text)).is_err() {
-        return Err(Fail::from(NoMemory));
-    }
-    Ok(Message { kind: 0, fields })
+fn push_letters(alloc: Global, letters: &mut Letters) -> Result<(), Fail> {
+    letters.push(worded(alloc, 0, 4, b"left")?)?;
+    letters.push(worded(alloc, 0, 5, b"right")?)?;
+    letters.push(worded(alloc, 0, 3, b"right")?)?;
+    Ok(())
 }
 
 // Numbers 1 to 3 with 4, 5 and 3.
 fn letters(alloc: Global) -> Result<Letters, Fail> {
     let mut letters = Items::new(alloc);
-    letters.push(letter(alloc, 4, b"left")?)?;
-    letters.push(letter(alloc, 5, b"right")?)?;
-    letters.push(letter(alloc, 3, b"right")?)?;
+    push_letters(alloc, &mut letters)?;
     Ok(letters)
 }
 
@@ -73,32 +68,39 @@ fn at(relation: Relation, value: i128) -> Option<Bound> {
     })
 }
 
-#[test]
-fn a_comparison_is_solved_for_the_one_field(rt: HostRuntime) -> Result<(), Fail> {
-    let alloc = rt.alloc();
+fn are_solved(alloc: Global) -> Result<bool, Fail> {
     let mine = field(false, 0);
     let other = field(false, 1);
     let raised = bound_beside(alloc, [mine, number(2)], Relation::LessEqual, other)?;
     let apart = bound_beside(alloc, [other, field(true, 0)], Relation::Less, number(1))?;
     let behind = bound_beside(alloc, [number(7), other], Relation::Less, mine)?;
-    let all = raised == at(Relation::LessEqual, 3)
-        && apart == at(Relation::Greater, 4)
-        && behind == at(Relation::Greater, 12);
-    assert!(rt; all);
+    Ok(
+        raised == at(Relation::LessEqual, 3)
+            && apart == at(Relation::Greater, 4)
+            && behind == at(Relation::Greater, 12),
+    )
+}
+
+#[test]
+fn a_comparison_is_solved_for_the_one_field(rt: HostRuntime) -> Result<(), Fail> {
+    assert!(rt; are_solved(rt.alloc())?);
     Ok(())
+}
+
+fn are_unsolved(alloc: Global) -> Result<bool, Fail> {
+    let mine = field(false, 0);
+    let other = field(false, 1);
+    let twice = bound_beside(alloc, [mine, mine], Relation::Less, number(1))?;
+    let never = bound_beside(alloc, [other, other], Relation::Less, number(1))?;
+    let third = bound_beside(alloc, [mine, other], Relation::Less, field(false, 2))?;
+    Ok(twice.is_none() && never.is_none() && third.is_none())
 }
 
 #[test]
 fn a_field_that_is_there_twice_or_never_or_beside_a_third_gives_no_bound(
     rt: HostRuntime,
 ) -> Result<(), Fail> {
-    let alloc = rt.alloc();
-    let mine = field(false, 0);
-    let other = field(false, 1);
-    let twice = bound_beside(alloc, [mine, mine], Relation::Less, number(1))?;
-    let never = bound_beside(alloc, [other, other], Relation::Less, number(1))?;
-    let third = bound_beside(alloc, [mine, other], Relation::Less, field(false, 2))?;
-    assert!(rt; twice.is_none() && never.is_none() && third.is_none());
+    assert!(rt; are_unsolved(rt.alloc())?);
     Ok(())
 }
 
@@ -118,15 +120,17 @@ fn bounds() -> Bounds {
     bounds
 }
 
+fn are_met(letters: &[Message]) -> bool {
+    let bounds = bounds();
+    meets_all(letters, &bounds, 1)
+        && !meets_all(letters, &bounds, 2)
+        && !meets_all(letters, &bounds, 3)
+}
+
 #[test]
 fn numbers_meet_all_bounds_or_fail_one(rt: HostRuntime) -> Result<(), Fail> {
     let letters = letters(rt.alloc())?;
-    let letters = letters.as_slice();
-    let bounds = bounds();
-    let all = meets_all(letters, &bounds, 1)
-        && !meets_all(letters, &bounds, 2)
-        && !meets_all(letters, &bounds, 3);
-    assert!(rt; all);
+    assert!(rt; are_met(letters.as_slice()));
     Ok(())
 }
 

@@ -1,3 +1,5 @@
+ghost use Rattle.std.specs.Prelude.{◌≡◌, ◌+◌, length, OnOk};
+
 use crate::made::{comparison, equality, number};
 use guard_eval::{
     Atom, Conjunct, ConjunctList, Leaf, Operand, Place, Signed, Term, WordsLeaf, decided, holds,
@@ -6,20 +8,28 @@ use join_base::{Items, NoMemory, Relation, Slots, Text};
 use std::alloc::Global;
 use std::test::Fail;
 
-// x - 3
-fn difference(alloc: Global) -> Result<Term, NoMemory> {
-    let mut leaves = Items::new(alloc);
+fn push_difference(leaves: &mut Items<Signed>) -> Result<(), NoMemory>
+    ensures { OnOk result (length leaves.new ≡ length leaves.old + 2) }
+{
+    let field = Leaf::Field(Place {
+        pattern: 1,
+        field: 2,
+    });
     leaves.push(Signed {
         minus: false,
-        leaf: Leaf::Field(Place {
-            pattern: 1,
-            field: 2,
-        }),
+        leaf: field,
     })?;
     leaves.push(Signed {
         minus: true,
         leaf: Leaf::Number(3),
     })?;
+    Ok(())
+}
+
+// x - 3
+fn difference(alloc: Global) -> Result<Term, NoMemory> {
+    let mut leaves = Items::new(alloc);
+    push_difference(&mut leaves)?;
     Ok(Term::new(leaves))
 }
 
@@ -32,14 +42,26 @@ fn less(alloc: Global) -> Result<Atom, NoMemory> {
     })
 }
 
+fn push_less(alloc: Global, conjunct: &mut Conjunct) -> Result<(), NoMemory> {
+    conjunct.push(less(alloc)?)
+}
+
+// !(x - 3 < x - 3)
+fn not_less(alloc: Global) -> Result<Atom, NoMemory> {
+    let mut inner = Conjunct::new(alloc);
+    push_less(alloc, &mut inner)?;
+    Ok(Atom::Not(Box::new(alloc, Atom::Group(inner))?))
+}
+
+fn push_both(alloc: Global, conjunct: &mut Conjunct) -> Result<(), NoMemory> {
+    conjunct.push(not_less(alloc)?)?;
+    push_less(alloc, conjunct)
+}
+
 // !(x - 3 < x - 3) || x - 3 < x - 3
 fn conjunct(alloc: Global) -> Result<Conjunct, NoMemory> {
-    let mut inner = Conjunct::new(alloc);
-    inner.push(less(alloc)?)?;
-    let group = Box::new(alloc, Atom::Group(inner))?;
     let mut outer = Conjunct::new(alloc);
-    outer.push(Atom::Not(group))?;
-    outer.push(less(alloc)?)?;
+    push_both(alloc, &mut outer)?;
     Ok(outer)
 }
 
@@ -58,10 +80,14 @@ fn are_operands_copied(alloc: Global) -> Result<bool, Fail> {
     )
 }
 
+fn push_conjuncts(alloc: Global, list: &mut ConjunctList) -> Result<(), NoMemory> {
+    list.push(conjunct(alloc)?.copy(alloc)?)?;
+    list.push(conjunct(alloc)?)
+}
+
 fn are_conjuncts_copied(alloc: Global) -> Result<bool, NoMemory> {
     let mut list = ConjunctList::new(alloc);
-    list.push(conjunct(alloc)?.copy(alloc)?)?;
-    list.push(conjunct(alloc)?)?;
+    push_conjuncts(alloc, &mut list)?;
     Ok(list.copy(alloc)?.as_slice().len() == 2)
 }
 

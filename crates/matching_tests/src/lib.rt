@@ -7,6 +7,8 @@ mod bounds;
 #[cfg(test)]
 mod guards;
 #[cfg(test)]
+mod indexes;
+#[cfg(test)]
 mod listing;
 #[cfg(test)]
 mod made;

@@ -4,8 +4,9 @@ ghost use Rattle.guard_eval.specs.Condition.{Compares, Either, Never};
 ghost use Rattle.guard_eval.specs.Shape.{conjunct_condition};
 
 use guard_eval::{Atom, Conjunct, Leaf, Operand, Place, Signed, Term};
-use join_base::{Fields, Items, Message, NoMemory, Relation, Value};
+use join_base::{Fields, Items, Message, NoMemory, Relation, Text, Value};
 use std::alloc::Global;
+use std::test::Fail;
 
 // The sum of one leaf.
 fn sum_of(alloc: Global, leaf: Leaf) -> Result<Operand, NoMemory>
@@ -65,4 +66,14 @@ pub fn message(alloc: Global, kind: u32, value: i64) -> Result<Message, NoMemory
         Ok(()) => Ok(Message { kind, fields }),
         Err(_) => Err(NoMemory),
     }
+}
+
+/// The message of a kind with an integer and a text.
+pub fn worded(alloc: Global, kind: u32, value: i64, text: &[u8]) -> Result<Message, Fail> {
+    let mut fields = Fields::new(alloc);
+    let text = Text::from_bytes(alloc, text)?;
+    if fields.push(Value::Int(value)).is_err() || fields.push(Value::Words(text)).is_err() {
+        return Err(Fail::from(NoMemory));
+    }
+    Ok(Message { kind, fields })
 }

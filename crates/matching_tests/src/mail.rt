@@ -33,12 +33,17 @@ fn receive(
     Ok(mailbox.append(source, Message { kind, fields }, came))
 }
 
+fn receive_three(alloc: Global, mailbox: &mut Mailbox) -> Result<(), NoMemory> {
+    receive(alloc, mailbox, Source::Feed(1), 5, 0)?;
+    receive(alloc, mailbox, Source::Actor(0), 6, 7)?;
+    receive(alloc, mailbox, Source::Feed(2), 7, 3)?;
+    Ok(())
+}
+
 // Three arrivals, of kinds 5, 6 and 7.
 fn three(alloc: Global) -> Result<Mailbox, NoMemory> {
     let mut mailbox = empty(alloc)?;
-    receive(alloc, &mut mailbox, Source::Feed(1), 5, 0)?;
-    receive(alloc, &mut mailbox, Source::Actor(0), 6, 7)?;
-    receive(alloc, &mut mailbox, Source::Feed(2), 7, 3)?;
+    receive_three(alloc, &mut mailbox)?;
     Ok(mailbox)
 }
 
@@ -157,6 +162,12 @@ fn consumed_numbers_are_no_longer_live(rt: HostRuntime) -> Result<(), Fail> {
     Ok(())
 }
 
+// Whether two late messages of the second feed and one of the actor are listed, and nothing is left.
+fn are_late_listed(parts: &Parts) -> bool {
+    parts.late.as_slice() == [(Source::Feed(2), 2), (Source::Actor(0), 1)].as_slice()
+        && parts.left.len() == 0
+}
+
 #[test]
 fn each_source_has_its_own_late_count(rt: HostRuntime) -> Result<(), Fail> {
     let mut mailbox = empty(rt.alloc())?;
@@ -166,26 +177,29 @@ fn each_source_has_its_own_late_count(rt: HostRuntime) -> Result<(), Fail> {
     let counts = mailbox.late(Source::Feed(1)) == 0
         && mailbox.late(Source::Feed(2)) == 2
         && mailbox.late(Source::Actor(0)) == 1;
-    let Parts { late, left, .. } = mailbox.into_parts();
-    let listed = late.as_slice() == [(Source::Feed(2), 2), (Source::Actor(0), 1)].as_slice();
-    assert!(rt; counts && listed && left.len() == 0);
+    let parts = mailbox.into_parts();
+    assert!(rt; counts && are_late_listed(&parts));
     Ok(())
+}
+
+// Whether three arrivals are given, of which the second is left.
+fn is_second_left(parts: &Parts) -> bool {
+    let lists = parts.letters.len() == 3
+        && parts.left.as_slice() == [2].as_slice()
+        && parts.late.len() == 0;
+    match parts.marks.as_slice() {
+        [_, second, _] => {
+            lists && second.source == Source::Actor(0) && second.stamp == 8 && second.came == 7
+        }
+        _ => false,
+    }
 }
 
 #[test]
 fn a_mailbox_gives_up_what_it_had(rt: HostRuntime) -> Result<(), Fail> {
     let mut mailbox = three(rt.alloc())?;
     consume_two(&mut mailbox);
-    let Parts {
-        letters,
-        marks,
-        left,
-        late,
-    } = mailbox.into_parts();
-    let lists = letters.len() == 3 && left.as_slice() == [2].as_slice() && late.len() == 0;
-    let marks = marks.as_slice();
-    assert!(rt; lists && marks.len() == 3);
-    let second = marks[1];
-    assert!(rt; second.source == Source::Actor(0) && second.stamp == 8);
+    let parts = mailbox.into_parts();
+    assert!(rt; is_second_left(&parts));
     Ok(())
 }

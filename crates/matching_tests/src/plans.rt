@@ -19,18 +19,27 @@ fn one(alloc: Global) -> Result<Term, NoMemory> {
     Ok(Term::new(leaves))
 }
 
-fn print(alloc: Global) -> Result<Statement, Fail> {
-    let mut items = Items::new(alloc);
+fn push_items(alloc: Global, items: &mut Items<Item>) -> Result<(), Fail> {
     items.push(Item::Words(WordsLeaf::Fixed(Text::from_bytes(alloc, b"hit ")?)))?;
     items.push(Item::Plain(FIRST))?;
     items.push(Item::Sum(one(alloc)?))?;
+    Ok(())
+}
+
+fn print(alloc: Global) -> Result<Statement, Fail> {
+    let mut items = Items::new(alloc);
+    push_items(alloc, &mut items)?;
     Ok(Statement::Print(items))
+}
+
+fn push_operands(alloc: Global, operands: &mut Items<Operand>) -> Result<(), NoMemory> {
+    operands.push(Operand::Sum(one(alloc)?))?;
+    operands.push(Operand::Words(WordsLeaf::Field(FIRST)))
 }
 
 fn post(alloc: Global) -> Result<Statement, NoMemory> {
     let mut operands = Items::new(alloc);
-    operands.push(Operand::Sum(one(alloc)?))?;
-    operands.push(Operand::Words(WordsLeaf::Field(FIRST)))?;
+    push_operands(alloc, &mut operands)?;
     Ok(Statement::Post {
         target: 1,
         kind: 2,
@@ -45,10 +54,14 @@ fn reply(alloc: Global) -> Result<Statement, NoMemory> {
     })
 }
 
+fn push_names(alloc: Global, row: &mut Items<Option<Name>>) -> Result<(), NoMemory> {
+    row.push(Some(Name::from_bytes(alloc, b"x")?))?;
+    row.push(None)
+}
+
 fn variables(alloc: Global) -> Result<Items<Items<Option<Name>>>, NoMemory> {
     let mut row = Items::new(alloc);
-    row.push(Some(Name::from_bytes(alloc, b"x")?))?;
-    row.push(None)?;
+    push_names(alloc, &mut row)?;
     let mut rows = Items::new(alloc);
     rows.push(row)?;
     Ok(rows)
@@ -65,12 +78,17 @@ fn definition(alloc: Global) -> Result<Definition, NoMemory> {
 }
 
 // A print, a post, a reply and a stop.
-fn body(alloc: Global) -> Result<Items<Statement>, Fail> {
-    let mut body = Items::new(alloc);
+fn push_statements(alloc: Global, body: &mut Items<Statement>) -> Result<(), Fail> {
     body.push(print(alloc)?)?;
     body.push(post(alloc)?)?;
     body.push(reply(alloc)?)?;
     body.push(Statement::Stop)?;
+    Ok(())
+}
+
+fn body(alloc: Global) -> Result<Items<Statement>, Fail> {
+    let mut body = Items::new(alloc);
+    push_statements(alloc, &mut body)?;
     Ok(body)
 }
 
@@ -85,9 +103,14 @@ fn rule(alloc: Global) -> Result<Rule, Fail> {
     })
 }
 
+fn is_rule_copied(alloc: Global) -> Result<bool, Fail> {
+    let rule = rule(alloc)?;
+    let copied = rule.copy(alloc)?;
+    Ok(copied.body.len() == 4 && copied.variables.len() == 1)
+}
+
 #[test]
 fn a_rule_is_copied_with_each_of_its_statements(rt: HostRuntime) -> Result<(), Fail> {
-    let copied = rule(rt.alloc())?.copy(rt.alloc())?;
-    assert!(rt; copied.body.len() == 4 && copied.variables.len() == 1);
+    assert!(rt; is_rule_copied(rt.alloc())?);
     Ok(())
 }

@@ -44,25 +44,30 @@ fn are_refused(alloc: Global, forms: &[&[u8]]) -> bool {
     true
 }
 
+const OTHER_FORMS: &[&[u8]] = &[
+    b"",
+    b"a",
+    b"\"",
+    b"\"a",
+    b"\"a\\",
+    b"\"\n\"",
+    b"\"\x7f\"",
+    b"\"\\a\"",
+    b"\"\\x0a\"",
+    b"\"\\x41\"",
+    b"\"\\x1F\"",
+    b"\"\\x1\"",
+    b"\"\\x80\"",
+    b"\"\xff\"",
+];
+
+fn forms_of_no_text() -> &'static [&'static [u8]] {
+    OTHER_FORMS
+}
+
 #[test]
 fn other_forms_are_refused(rt: HostRuntime) {
-    let forms: [&[u8]; 14] = [
-        b"",
-        b"a",
-        b"\"",
-        b"\"a",
-        b"\"a\\",
-        b"\"\n\"",
-        b"\"\x7f\"",
-        b"\"\\a\"",
-        b"\"\\x0a\"",
-        b"\"\\x41\"",
-        b"\"\\x1F\"",
-        b"\"\\x1\"",
-        b"\"\\x80\"",
-        b"\"\xff\"",
-    ];
-    assert!(rt; are_refused(rt.alloc(), &forms));
+    assert!(rt; are_refused(rt.alloc(), forms_of_no_text()));
 }
 
 // How many bytes the quoted text at place 1 has, and where it ends.
@@ -126,23 +131,33 @@ fn are_no_integers(cases: &[&[u8]]) -> bool {
     true
 }
 
+const INTEGERS: &[(&[u8], i64)] = &[
+    (b"007", 7),
+    (b"-0", 0),
+    (b"9223372036854775807", 9223372036854775807),
+    (b"-9223372036854775808", -9223372036854775808),
+];
+
+const NO_INTEGERS: &[&[u8]] = &[
+    b"9223372036854775808",
+    b"-9223372036854775809",
+    b"340282366920938463463374607431768211457",
+    b"+1",
+    b"",
+    b"1.5",
+];
+
+fn forms_of_integers() -> &'static [(&'static [u8], i64)] {
+    INTEGERS
+}
+
+fn forms_of_no_integer() -> &'static [&'static [u8]] {
+    NO_INTEGERS
+}
+
 #[test]
 fn integers_are_read(rt: HostRuntime) {
-    let integers: [(&[u8], i64); 4] = [
-        (b"007", 7),
-        (b"-0", 0),
-        (b"9223372036854775807", 9223372036854775807),
-        (b"-9223372036854775808", -9223372036854775808),
-    ];
-    let others: [&[u8]; 6] = [
-        b"9223372036854775808",
-        b"-9223372036854775809",
-        b"340282366920938463463374607431768211457",
-        b"+1",
-        b"",
-        b"1.5",
-    ];
-    assert!(rt; are_integers(&integers) && are_no_integers(&others));
+    assert!(rt; are_integers(forms_of_integers()) && are_no_integers(forms_of_no_integer()));
 }
 
 // How many bytes a copy of the text has that these bytes are.
@@ -164,16 +179,36 @@ fn is_word(alloc: Global, text: &str) -> Result<bool, NoMemory> {
     Ok(Word::from_text(alloc, text)?.as_str() == text)
 }
 
+fn letters(alloc: Global, count: usize) -> Result<Bytes, NoMemory> {
+    let mut bytes = Bytes::new(alloc);
+    for _ in 0..count {
+        bytes.push_all(b"k")?;
+    }
+    Ok(bytes)
+}
+
+// Whether a text has at most 120 bytes, and a line may have more.
+fn are_bounded(alloc: Global) -> Result<bool, NoMemory> {
+    let most = letters(alloc, 120)?;
+    let more = letters(alloc, 121)?;
+    Ok(
+        text_of(alloc, most.bytes()) == Ok(120)
+            && text_of(alloc, more.bytes()) == Err(TextFault::TooLong)
+            && line_of(alloc, more.bytes()) == Ok(121)
+            && line_of(alloc, b"\xff") == Err(TextFault::NotText),
+    )
+}
+
+fn is_long_line(alloc: Global) -> Result<bool, NoMemory> {
+    let long = [b'k'; 121];
+    Ok(Line::from_text(alloc, &long)?.bytes().len() == 121)
+}
+
 #[test]
 fn texts_names_and_words(rt: HostRuntime) -> Result<(), Fail> {
     let alloc = rt.alloc();
-    let long = [b'k'; 121];
-    let texts = text_of(alloc, &long[..120]) == Ok(120)
-        && text_of(alloc, &long) == Err(TextFault::TooLong)
-        && line_of(alloc, &long) == Ok(121)
-        && line_of(alloc, b"\xff") == Err(TextFault::NotText);
-    let lines = Line::from_text(alloc, &long)?.bytes().len() == 121;
-    assert!(rt; texts && lines && is_word(alloc, "run")? && is_name_kept(alloc)?);
+    let lines = are_bounded(alloc)? && is_long_line(alloc)?;
+    assert!(rt; lines && is_word(alloc, "run")? && is_name_kept(alloc)?);
     Ok(())
 }
 

@@ -1,7 +1,7 @@
 ghost use Rattle.std.specs.Prelude.{◌≡◌, ◌+◌, ◌-◌, ◌^◌, ◌<◌, ◌≤◌, length, IfOk, OnOk, None, true, slice_get};
 ghost use Rattle.std.specs.List.{AllByRecursion};
 ghost use Rattle.guard_eval.specs.Meaning.{has_sort};
-ghost use Rattle.matching_tests.specs.Samples.{AreInts, AreSamples};
+ghost use Rattle.matching_tests.specs.Samples.{AreInts, AreSamples, HasAll};
 ghost use Rattle.pattern_core.specs.Window.{SeesLatest, oldest_seen};
 ghost use Rattle.match_tree.specs.Tree.{offer_to};
 ghost use Rattle.match_tree.specs.Offering.{CanOffer};
@@ -16,6 +16,7 @@ use std::alloc::Global;
 use std::marker::Brand;
 use std::sync::ledger::{Blank, Ledger};
 use std::test::Fail;
+use value_index::{IndexedField, ValueIndex};
 
 // ---- the definition and the messages
 
@@ -90,12 +91,38 @@ fn letters(alloc: Global, arrivals: &[Arrival]) -> Result<Letters, NoMemory>
     Ok(letters)
 }
 
+// An index of the first fields, without a number.
+fn first_fields(alloc: Global) -> Result<ValueIndex, NoMemory> {
+    let mut index = ValueIndex::new(alloc);
+    for kind in 0..3 {
+        index.add_field(IndexedField {
+            kind,
+            field: 0,
+            words: false,
+        })?;
+    }
+    Ok(index)
+}
+
+// An index that has all messages, also those that are not offered yet, and those that have fired.
+fn index_of(alloc: Global, letters: &[Message]) -> Result<ValueIndex, NoMemory>
+    requires few { length letters.now < 100 }
+    ensures { IfOk result (λ index. HasAll index letters.now) }
+{
+    let mut index = first_fields(alloc)?;
+    for place in 0..letters.len() as u32 {
+        index.insert(letters, place + 1)?;
+    }
+    Ok(index)
+}
+
 // ---- the tree
 
 // Offers a message to the tree. Where it completes a match, that fires, and else the tree keeps the message.
 fn arrive<L: Ledger>(
     tree: &mut MatchTree,
     letters: &[Message],
+    index: &ValueIndex,
     number: u32,
     steps: &mut Steps<L>,
 ) -> Result<Option<Candidate>, NoMemory>
@@ -104,11 +131,12 @@ fn arrive<L: Ledger>(
     requires sees { oldest_seen tree.old.definition.window number ≤ number }
     requires settled { tree.old.reserve ≡ None }
     requires can { AllByRecursion (CanOffer (offer_to tree.old letters.now number)) tree.old.paths }
+    requires indexed { HasAll index.now letters.now }
     ensures definition { tree.new.definition ≡ tree.old.definition }
     ensures settled { OnOk result (tree.new.reserve ≡ None) }
     ensures can { OnOk result (AllByRecursion (CanOffer (offer_to tree.new letters.now (number + 1))) tree.new.paths) }
 {
-    tree.reserve_for(letters, number, steps)?;
+    tree.reserve_for(letters, index, number, steps)?;
     tree.expire(number);
     let found = tree.best_with();
     match &found {
@@ -136,6 +164,7 @@ fn offer_each<L: Ledger>(
     join: Join,
     arrivals: &[Arrival],
     letters: &[Message],
+    index: &ValueIndex,
     steps: &mut Steps<L>,
 ) -> Result<Outcome, NoMemory>
     requires few { length arrivals.now < 16 }
@@ -143,12 +172,13 @@ fn offer_each<L: Ledger>(
     requires sees { SeesLatest tree.old.definition.window }
     requires settled { tree.old.reserve ≡ None }
     requires can { AllByRecursion (CanOffer (offer_to tree.old letters.now 1)) tree.old.paths }
+    requires indexed { HasAll index.now letters.now }
 {
     let mut live = [true; 16];
     let mut last = None;
     let mut agrees = true;
     for number in 1..arrivals.len() as u32 + 1 {
-        let found = arrive(tree, letters, number, steps)?;
+        let found = arrive(tree, letters, index, number, steps)?;
         let same = is_listed(join, arrivals, &mut live, number, &found, tree.partials());
         agrees = agrees && same;
         if found.is_some() {
@@ -179,8 +209,10 @@ fn play<L: Ledger>(
     let mut steps = Steps::<L>::new(blank);
     let definition = definition(alloc, join)?;
     let letters = letters(alloc, arrivals)?;
+    let shown = letters.as_slice();
+    let index = index_of(alloc, shown)?;
     let mut tree = MatchTree::new(alloc, &definition, 1)?;
-    offer_each(&mut tree, join, arrivals, letters.as_slice(), &mut steps)
+    offer_each(&mut tree, join, arrivals, shown, &index, &mut steps)
 }
 
 fn brings(kind: u32, value: i64) -> Arrival {
@@ -249,25 +281,37 @@ fn kinds_by(seed: u32) -> [u32; 3] {
     }
 }
 
-fn script(seed: u32, kinds: [u32; 3]) -> [Arrival; 10] {
-    let mut arrivals = [brings(0, 0); 10];
+// The first kind, or one by chance.
+fn kind_by(state: u32, kinds: [u32; 3], first: bool) -> u32 {
+    if first {
+        kinds[0]
+    } else {
+        kinds[(state >> 24) as usize % 3]
+    }
+}
+
+// Arrivals by chance, of which the first so many are of the first kind. Rows of eight and more are looked up.
+fn script(seed: u32, kinds: [u32; 3], crowd: usize) -> [Arrival; 14] {
+    let mut arrivals = [brings(0, 0); 14];
     let mut state = seed;
-    for place in 0..10 {
+    for place in 0..14 {
         state = state.wrapping_mul(1664525).wrapping_add(1013904223);
-        let kind = kinds[(state >> 24) as usize % 3];
-        arrivals[place] = brings(kind, ((state >> 16) % 2) as i64);
+        let kind = kind_by(state, kinds, place < crowd);
+        arrivals[place] = brings(kind, ((state >> 16) % 3) as i64);
     }
     arrivals
 }
 
-// Whether the listing says the same of the script of the seed.
+// Whether the listing says the same of the script of the seed. In each other one ten messages of the first kind come
+// first.
 fn agrees_on(alloc: Global, seed: u32) -> Result<bool, NoMemory>
     requires { seed < 60 }
 {
+    let crowd = if seed % 4 < 2 { 10 } else { 0 };
     let window = if seed % 5 == 1 { Some(4) } else { None };
     let mut join = join_of(2 + seed % 2, seed % 3 > 0, seed % 8 == 1, window);
     join.kinds = kinds_by(seed);
-    let outcome = play::<Brand>(alloc, join, &script(seed, join.kinds), Blank::new(1))?;
+    let outcome = play::<Brand>(alloc, join, &script(seed, join.kinds, crowd), Blank::new(1))?;
     Ok(outcome.agrees)
 }
 

@@ -1,8 +1,9 @@
 -- A further message may be offered to each path of a tree that holds.
-use Rattle.std.proofs.Common.{◌∙◌, ℕ, List, [], ◌∷◌, length, not, Option, Some, None, ap, arith, length-append}
+use Rattle.std.proofs.Common.{◌≡◌, ◌∙◌, ℕ, ℤ, zero, suc, true, List, [], ◌∷◌, length, not, Option, Some, None, refl, ap, subst, sym, arith, length-append}
+use Rattle.std.specs.Prelude.{pos, if◌then◌else◌}
 use Rattle.std.specs.List.{AllByRecursion}
 use Rattle.join_base.specs.declared.message.Message.{Message}
-use Rattle.guard_eval.specs.Meaning.{Assignment}
+use Rattle.guard_eval.specs.Meaning.{Assignment, field_of, int_of, letter_at, number_at, words_of}
 use Rattle.guard_eval.proofs.ExtendLemmas.{both_true}
 use Rattle.pattern_core.specs.declared.definition.Definition.{Definition}
 use Rattle.pattern_core.specs.Assigns.{Assigns}
@@ -15,9 +16,14 @@ use Rattle.pattern_core.proofs.MembersLemmas.{IsIn-filter_from}
 use Rattle.match_tree.specs.Below.{AreBelow}
 use Rattle.match_tree.specs.Offering.{CanOffer}
 use Rattle.match_tree.specs.Tree.{Tree}
+use Rattle.value_index.specs.declared.field.IndexedField.{IndexedField}
+use Rattle.value_index.specs.Index.{Index, Has, Lacks, entry, no_index}
+use Rattle.value_index.specs.Values.{text_value}
+use Rattle.match_tree.specs.Offering.{AreIndexed}
 use Rattle.match_tree.proofs.FirstLemmas.{all_members}
+use Rattle.match_tree.proofs.LookLemmas.{unindexed}
 use Rattle.tree_law.specs.Partials.{AreLive, letters_more, number_more, offer_more}
-use Rattle.tree_law.specs.Trees.{Holds}
+use Rattle.tree_law.specs.Trees.{HasPaths, Holds}
 use Rattle.tree_law.proofs.EvalLemmas.{letter_at-more, letter_of-more, agreeable-same}
 use Rattle.tree_law.proofs.AssignLemmas.{Assigns-recorded}
 
@@ -65,6 +71,54 @@ can_offer letters message live tree are_live suits h = all_members (CanOffer (of
           definition = suits;
           suits = suits_more letters message seen recorded d.patterns x assigns;
           agreeable = agreeable-same letters (letters_more letters message) x (λ p. letter_of-more letters (message ∷ []) x p known) d.conjuncts ∙ agrees;
+          indexed = unindexed no_index (letters_more letters message) x refl;
           recorded = (omega arith, omega arith);
           below = below_more letters message seen recorded d.patterns x assigns;
         }
+
+-- ---- what an index has of a tree that holds
+
+-- the numbers of an assignment are among those that are seen
+assigned_seen : (letters : List Message) (seen kinds : List ℕ) (slots : Assignment) (p n : ℕ) → Assigns letters seen kinds slots → number_at slots p ≡ Some n → IsIn n seen
+assigned_seen letters seen [] [] p n h at = absurd cc
+assigned_seen letters seen [] (slot ∷ slots) p n h at = absurd h
+assigned_seen letters seen (kind ∷ kinds) [] p n h at = absurd h
+assigned_seen letters seen (kind ∷ kinds) (None ∷ slots) zero n h at = absurd cc
+assigned_seen letters seen (kind ∷ kinds) (Some k ∷ slots) zero n h at = let same : k ≡ n = cc in subst (λ (m : ℕ). IsIn m seen) same h.0.is_live
+assigned_seen letters seen (kind ∷ kinds) (None ∷ slots) (suc p) n h at = assigned_seen letters seen kinds slots p n h at
+assigned_seen letters seen (kind ∷ kinds) (Some k ∷ slots) (suc p) n h at = assigned_seen letters seen kinds slots p n h.1 at
+
+abbrev value_in : Option Message → IndexedField → ℤ
+value_in m indexed = if indexed.words then pos (text_value (words_of (field_of m indexed.field))) else int_of (field_of m indexed.field)
+
+-- a further message changes no value of a recorded number
+pub has_more : (index : Index) (letters : List Message) (message : Message) (n : ℕ) → IsRecorded letters n → Has index letters n → Has index (letters_more letters message) n
+has_more index letters message n recorded has place indexed get kind =
+    let same = letter_at-more letters (message ∷ []) n recorded in
+    let of_kind : is_of_kind (letter_at letters n) indexed.kind ≡ true = sym (ap (λ (m : Option Message). is_of_kind m indexed.kind) same) ∙ kind in
+    let value = ap (λ (m : Option Message). value_in m indexed) same in
+    subst (λ (v : ℤ). IsIn (entry place v n) index.entries) (sym value) (has place indexed get of_kind)
+
+pub lacks_more : (index : Index) (letters : List Message) (message : Message) (n : ℕ) → IsRecorded letters n → Lacks index letters n → Lacks index (letters_more letters message) n
+lacks_more index letters message n recorded lacks place indexed get kind there =
+    let same = letter_at-more letters (message ∷ []) n recorded in
+    let of_kind : is_of_kind (letter_at letters n) indexed.kind ≡ true = sym (ap (λ (m : Option Message). is_of_kind m indexed.kind) same) ∙ kind in
+    let value = ap (λ (m : Option Message). value_in m indexed) same in
+    lacks place indexed get of_kind (subst (λ (v : ℤ). IsIn (entry place v n) index.entries) value there)
+
+-- where it has the live numbers, it has those of the paths, also beside a further message
+pub indexed_paths : (index : Index) (letters : List Message) (message : Message) (live : List ℕ) (tree : Tree) → AreLive letters live → ((n : ℕ) → IsIn n live → Has index letters n) → Holds letters live tree → HasPaths index (letters_more letters message) tree
+indexed_paths index letters message live tree are_live has h = all_members (AreIndexed index (letters_more letters message)) tree.paths one
+  where
+    d : Definition
+    d = tree.definition
+
+    seen : List ℕ
+    seen = seen_of d (length letters) live
+
+    one : (x : Assignment) → IsIn x tree.paths → AreIndexed index (letters_more letters message) x
+    one x m p n at =
+        let partial = IsIn-filter_from (is_partial_match letters d) x (assignments letters seen d.patterns) (h.partial.to x m) in
+        let assigns = Assigns-from_IsIn letters seen d.patterns x partial.0 in
+        let is_live = (IsIn-filter_from (is_seen d.window (length letters)) n live (assigned_seen letters seen d.patterns x p n assigns at)).0 in
+        has_more index letters message n (are_live n is_live) (has n is_live)

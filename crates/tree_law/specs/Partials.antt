@@ -9,6 +9,7 @@ use Rattle.pattern_core.specs.Suits.{IsRecorded}
 use Rattle.pattern_core.specs.Window.{oldest_seen}
 use Rattle.std.specs.List.{filter}
 use Rattle.join_base.specs.Taken.{contains_number}
+use Rattle.value_index.specs.Index.{no_index}
 use Rattle.match_tree.specs.Offers.{Offered}
 use Rattle.match_tree.specs.Tree.{SameMembers}
 
@@ -38,6 +39,7 @@ live_more letters live = live ++ number_more letters ∷ []
 abbrev pub offer_more : List Message → Message → Definition → ℕ → Offered
 offer_more letters message definition rule = record {
   letters = letters_more letters message;
+  index = no_index;
   definition = definition;
   rule = rule;
   number = number_more letters;

@@ -8,7 +8,8 @@ use Rattle.pattern_core.specs.Choice.{lesser_of}
 use Rattle.pattern_core.specs.Matches.{partial_matches}
 use Rattle.pattern_core.specs.Window.{SeesLatest, oldest_seen}
 use Rattle.match_tree.specs.Tree.{Tree, AreOnce, Reserve, SameMembers, IsReserved, seen_paths, is_path_seen, is_path_without, empty_of, offer_to, with_paths}
-use Rattle.match_tree.specs.Offering.{CanOffer}
+use Rattle.value_index.specs.Index.{Index}
+use Rattle.match_tree.specs.Offering.{AreIndexed, CanOffer}
 use Rattle.match_tree.specs.Tries.{tries}
 use Rattle.tree_law.specs.Partials.{ArePartial, NoneWaits, offer_more}
 
@@ -97,6 +98,10 @@ pruned_tree numbers tree = with_paths tree (filter (is_path_without numbers) tre
 -- the tree has a reserve for the number of the last of these messages
 abbrev pub IsReservedAt : List Message → ℕ → Tree → Type 0
 IsReservedAt letters number tree = IsReserved (offer_to tree letters number) tree.paths tree.reserve
+
+-- the index has the numbers of the tree's paths
+abbrev pub HasPaths : Index → List Message → Tree → Type 0
+HasPaths index letters tree = AllByRecursion (AreIndexed index letters) tree.paths
 
 -- the number may be offered to each path of the tree
 abbrev pub CanOfferTo : List Message → ℕ → Tree → Type 0

@@ -2,6 +2,7 @@
 //! matches.
 //!
 //! - `reserve_all` offers a number to all trees. It alone takes memory, and without memory the trees are as they were.
+//!   It is given an index that has the numbers of their paths.
 //! - `best_of` gives the least of the matches that the trees found.
 //! - `expire_all`, `prune_all`, `clear_all` and `forget_all` do in each tree what the calls of `match_tree` do in one,
 //!   `keep_all` expires and extends each, and `count_paths` counts the paths of all.

@@ -1,52 +1,58 @@
 //! Calls over all trees of an actor.
 ghost use Rattle.std.specs.Prelude.{◌≡◌, ◌+◌, ◌-◌, ◌^◌, ◌<◌, ◌≤◌, map, min, None, OnErr, OnOk};
 ghost use Rattle.std.specs.List.{AllByRecursion};
-ghost use Rattle.tree_law.specs.Trees.{AreKeptAt, AreSettled, CanOfferTo, HasOnce, HasReserve, IsReservedAt, best_of, cleared_tree, expired_tree, path_count, pruned_tree, settled_tree, tries_at};
+ghost use Rattle.tree_law.specs.Trees.{AreKeptAt, AreSettled, CanOfferTo, HasOnce, HasPaths, HasReserve, IsReservedAt, best_of, cleared_tree, expired_tree, path_count, pruned_tree, settled_tree, tries_at};
 
 use join_base::{Message, NoMemory, Numbers, Steps};
 use match_tree::MatchTree;
 use pattern_core::{Candidate, better};
 use std::sync::ledger::Ledger;
+use value_index::ValueIndex;
 
 // Offers a number to the trees, until one finds no memory.
 fn reserve_each<L: Ledger>(
     trees: &mut [MatchTree],
     letters: &[Message],
+    index: &ValueIndex,
     number: u32,
     steps: &mut Steps<L>,
 ) -> Result<(), NoMemory>
     requires few { number < 2 ^ 32 - 1 }
     requires settled { AreSettled trees.old }
     requires can { AllByRecursion (CanOfferTo letters.now number) trees.old }
+    requires indexed { AllByRecursion (HasPaths index.now letters.now) trees.old }
 
     ensures same { map settled_tree trees.new ≡ map settled_tree trees.old }
     ensures reserved { OnOk result (AllByRecursion (IsReservedAt letters.now number) trees.new) }
     ensures stepped { steps.new ≤ steps.old + tries_at letters.now number trees.old }
 {
     for tree in trees.iter_mut() {
-        tree.reserve_for(letters, number, steps)?;
+        tree.reserve_for(letters, index, number, steps)?;
     }
     Ok(())
 }
 
-/// Offers a number to all trees: each finds the least match that it completes, or sets aside what it adds. Where there
-/// is no memory, the trees are as they were. Nothing may be set aside already.
+/// Offers a number to all trees: each finds the least match that it completes, or sets aside what it adds. The index has
+/// each number of the trees' paths. Where there is no memory, the trees are as they were. Nothing may be set aside
+/// already.
 pub fn reserve_all<L: Ledger>(
     trees: &mut [MatchTree],
     letters: &[Message],
+    index: &ValueIndex,
     number: u32,
     steps: &mut Steps<L>,
 ) -> Result<(), NoMemory>
     requires few { number < 2 ^ 32 - 1 }
     requires settled { AreSettled trees.old }
     requires can { AllByRecursion (CanOfferTo letters.now number) trees.old }
+    requires indexed { AllByRecursion (HasPaths index.now letters.now) trees.old }
 
     ensures same { map settled_tree trees.new ≡ trees.old }
     ensures reserved { OnOk result (AllByRecursion (IsReservedAt letters.now number) trees.new) }
     ensures unchanged { OnErr result (trees.new ≡ trees.old) }
     ensures stepped { steps.new ≤ steps.old + tries_at letters.now number trees.old }
 {
-    match reserve_each(trees, letters, number, steps) {
+    match reserve_each(trees, letters, index, number, steps) {
         Ok(()) => Ok(()),
         Err(refused) => {
             forget_all(trees);

@@ -9,7 +9,7 @@ use Rattle.match_tree.proofs.KeyLemmas.{number_there}
 use Rattle.match_tree.proofs.screen.find_node.Goals as goal
 
 pub loop-place-preserved : goal.loop-place-preserved
-loop-place-preserved c =
+loop-place-preserved g c =
     let a = c.args in
     let nodes = a.nodes.now.items in
     let numbers : List ℕ = map (λ (node : Branch). node.number) nodes in
@@ -18,9 +18,13 @@ loop-place-preserved c =
     let node : c.index.result.now ≡ node_at nodes place = c.index.ensures ∙ get_or_default nodes place c.index.result.now (leaf 0) within in
     let number : c.number.result ≡ slice_index numbers place = c.number.ensures ∙ ap (λ (n : Branch). n.number) node ∙ sym (number_there nodes numbers place refl) in
     let here : passes a.letters.now (Some a.key) (slice_index numbers place) ≡ false = subst (λ (n : ℕ). passes a.letters.now (Some a.key) n ≡ false) number (sym c.has_value.ensures ∙ c.if-has_value.false) in
-    λ i l m. elim (cases_lt i place) [
-      | inl below ↦ c.loop-place.invariant i l below
-      | inr above ↦
-          let at : place ≡ i = omega (arith, m, above) in
-          subst (λ (k : ℕ). passes a.letters.now (Some a.key) (slice_index numbers k) ≡ false) at here
-    ]
+    let before = c.loop-place.invariant in
+    record {
+      lacking = λ i l m. elim (cases_lt i place) [
+        | inl below ↦ before.lacking i l below
+        | inr above ↦
+            let at : place ≡ i = omega (arith, m, above) in
+            subst (λ (k : ℕ). passes a.letters.now (Some a.key) (slice_index numbers k) ≡ false) at here
+      ];
+      counted = omega (arith, before.counted, c.tick.ensures);
+    }

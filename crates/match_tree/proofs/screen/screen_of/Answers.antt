@@ -18,16 +18,10 @@ pub with_free-requires-2 : goal.with_free-requires-2
 with_free-requires-2 c =
     let a = c.args in
     let o = offered a.offer.now in
-    with_long a.slots.now c.in_ok-shorter.shorter a.pattern o.number c.in_ok-shorter.ensures ∙ length-SlotsSuit o.letters o.definition.patterns a.slots.now c.requires.can.suits ∙ sym c.len-patterns.ensures.count
-
-pub tests_of-requires-clause-short : goal.tests_of-requires-clause-short
-tests_of-requires-clause-short c =
-    let a = c.args in
-    let o = offered a.offer.now in
-    with_long a.slots.now c.in_ok-shorter.shorter a.pattern o.number c.in_ok-shorter.ensures ∙ length-SlotsSuit o.letters o.definition.patterns a.slots.now c.requires.can.suits
+    with_long a.slots.now c.in_ok-longer.longer a.pattern o.number c.in_ok-longer.ensures ∙ length-SlotsSuit o.letters o.definition.patterns a.slots.now c.requires.can.suits ∙ sym c.len-patterns.ensures.count
 
 pub tests_of-requires-clause-long : goal.tests_of-requires-clause-long
 tests_of-requires-clause-long c =
     let a = c.args in
     let o = offered a.offer.now in
-    with_long c.in_ok-shorter.shorter c.in_ok-longer.longer _ o.number c.in_ok-longer.ensures ∙ with_long a.slots.now c.in_ok-shorter.shorter a.pattern o.number c.in_ok-shorter.ensures ∙ length-SlotsSuit o.letters o.definition.patterns a.slots.now c.requires.can.suits
+    with_long c.in_ok-longer.longer c.in_ok-whole.whole _ o.number c.in_ok-whole.ensures ∙ with_long a.slots.now c.in_ok-longer.longer a.pattern o.number c.in_ok-longer.ensures ∙ length-SlotsSuit o.letters o.definition.patterns a.slots.now c.requires.can.suits

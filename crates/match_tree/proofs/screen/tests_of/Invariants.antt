@@ -6,5 +6,5 @@ use Rattle.match_tree.proofs.screen.tests_of.Given as goal
 abbrev pub invariant-loop-place : goal.invariant-loop-place
 invariant-loop-place l = record {
   other : l.screen.other ≡ l.other;
-  tests : AreTests (offered l.offer) l.longer l.pattern l.screen;
+  tests : AreTests (offered l.offer) l.whole l.pattern l.screen;
 }

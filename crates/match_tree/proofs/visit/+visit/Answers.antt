@@ -1,5 +1,5 @@
 use Rattle.std.specs.declared.collections.VecDeque.{VecDeque}
-use Rattle.std.proofs.Common.{Vec, length-append, ◌≡◌, ◌∙◌, ◌<◌, ◌≤◌, ◌+◌, ap, sym, subst, arith, ℕ, List, None, refl, zero-add, take, drop, get_or, set, length}
+use Rattle.std.proofs.Common.{Vec, length-append, ◌≡◌, ◌∙◌, ◌<◌, ◌≤◌, ◌+◌, ap, sym, subst, arith, ℕ, List, None, refl, zero-add, take, drop, get_or, set, length, map}
 use Rattle.std.specs.Prelude.{IfOk, IfSome, ◌==◌, not, [], ◌∷◌, ◌++◌}
 use Rattle.std.specs.List.{filter, AllByRecursion}
 use Rattle.std.specs.declared.alloc.Global.{Global}
@@ -9,7 +9,7 @@ use Rattle.match_tree.specs.Growth.{Grows, Lasts}
 use Rattle.match_tree.specs.Begins.{AreLess}
 use Rattle.match_tree.specs.Tries.{tries_behind}
 use Rattle.pattern_core.specs.Choice.{least}
-use Rattle.match_tree.specs.Order.{AreOrdered, IsSoundRow, AreSound}
+use Rattle.match_tree.specs.Order.{AreOrdered, IsSoundRow, AreSound, Rise}
 use Rattle.std.proofs.lemmas.List.{nil_from_length, take_all, take_at, append-nil, drop-set-lt, get_or_default, length-set}
 use Rattle.match_tree.proofs.GrowLemmas.{grows_none}
 use Rattle.match_tree.proofs.BeginLemmas.{grows_begun, no_value, no_ok}
@@ -24,12 +24,13 @@ use Rattle.match_tree.proofs.LeadLemmas.{lead_lasts, lead_row}
 use Rattle.match_tree.proofs.VisitLemmas.{passed_seen, stays_node, matches_node, quiet_row, quiet_least, quiet_grows, tries_further, all_take, nothing_here, nothing_grows}
 use Rattle.match_tree.proofs.WalkLemmas.{some_of, none_of, steps_behind, all_at, left_item, left_more, found_first}
 use Rattle.match_tree.specs.Screen.{Screens}
+use Rattle.match_tree.proofs.LookLemmas.{numbers_set}
 use Rattle.match_tree.proofs.SkipLemmas.{Stopped, Walked, go_on, reach, stop_at, walk_first, walk_to, walked_offers}
 use Rattle.match_tree.proofs.OrderLemmas.{rows_ordered_behind, rows_sound}
 use Rattle.match_tree.proofs.SlotsLemmas.{free_is_none}
 use Rattle.match_tree.proofs.TakeLemmas.{takers_further}
 use Rattle.match_tree.proofs.visit.+visit.Goals as goal
-use Rattle.match_tree.proofs.visit.+visit.Goals.{visit_at-After-visit_leaf_at-in-Leaves, visit_rows-After-visit_each, visit_rows-In_ok-best}
+use Rattle.match_tree.proofs.visit.+visit.Goals.{visit_row-After-visit_at, visit_at-After-visit_leaf_at-in-Leaves, visit_rows-After-visit_each, visit_rows-In_ok-best}
 use denote.Param.Weighed.{at_most}
 use Rattle.match_tree.specs.declared.node.Shape.{Shape}
 use Rattle.match_tree.specs.Shapes.{rows_behind, branches}
@@ -57,12 +58,23 @@ visit_row-returns-then-len-eq0-clause-grows g t c =
     let none = nil_from_length a.wanted.now (sym c.len.ensures.count ∙ c.if-len-eq0.true) in
     λ e. quiet_grows o a.slots.now (row_routes a.pattern a.row.now) (quiet_row o a.slots.now a.pattern a.row.now (sym c.requires.wanted ∙ none) c.requires.lead)
 
-pub visit_row-next_place-place-requires : goal.visit_row-next_place-place-requires
-visit_row-next_place-place-requires g t c =
+pub visit_row-next_place-place-requires-clause-rise : goal.visit_row-next_place-place-requires-clause-rise
+visit_row-next_place-place-requires-clause-rise g t c = c.requires.sound.rise
+
+pub visit_row-next_place-place-requires-clause-offered : goal.visit_row-next_place-place-requires-clause-offered
+visit_row-next_place-place-requires-clause-offered g t c = walked_offers c.args.row.now c.args.row.now 0 c.requires.lead refl refl
+
+pub visit_row-next_place-place-requires-clause-screen : goal.visit_row-next_place-place-requires-clause-screen
+visit_row-next_place-place-requires-clause-screen g t c =
     let a = c.args in
-    let o = offered a.offer.now in
-    let Is : List ℕ → Type 0 = λ ps. IfSome c.screen_of-screen.result (Screens o a.slots.now a.pattern ps) in
-    record { offered = walked_offers a.row.now a.row.now 0 c.requires.lead refl refl; screen = subst Is c.requires.wanted c.screen_of-screen.ensures; within = omega arith }
+    let Is : List ℕ → Type 0 = λ ps. IfSome c.screen_of-screen.result (Screens (offered a.offer.now) a.slots.now a.pattern ps) in
+    subst Is c.requires.wanted c.screen_of-screen.ensures
+
+pub visit_row-look_of-look-requires : goal.visit_row-look_of-look-requires
+visit_row-look_of-look-requires g t c =
+    let a = c.args in
+    let Is : List ℕ → Type 0 = λ ps. IfSome c.screen_of-screen.result (Screens (offered a.offer.now) a.slots.now a.pattern ps) in
+    record { can = c.requires.can; wanted = c.requires.wanted; screen = subst Is c.requires.wanted c.screen_of-screen.ensures }
 
 pub visit_row-loop-place-init : goal.visit_row-loop-place-init
 visit_row-loop-place-init g t c =
@@ -70,9 +82,12 @@ visit_row-loop-place-init g t c =
     let o = offered a.offer.now in
     let row : List Branch = a.row.now in
     let e = c.next_place-place.ensures in
+    let steps : ℕ = c.next_place-place.new.steps in
+    let wanted = subst (λ (ps : List ℕ). 1 ≤ length ps) c.requires.wanted (omega (arith, c.len.ensures.count, c.if-len-eq0.false)) in
     record {
-      walked = walk_to o a.slots.now a.pattern row row a.count.now a.count.now a.steps.now a.steps.now c.requires.sound c.requires.lead c.requires.free_left 0 c.next_place-place.result e.from e.within e.skipped (walk_first o a.slots.now a.pattern row a.count.now a.steps.now);
+      walked = walk_to o a.slots.now a.pattern row row a.count.now a.count.now a.steps.now c.requires.sound c.requires.lead c.requires.free_left wanted a.steps.now steps 0 c.next_place-place.result e.from e.within e.counted e.skipped (walk_first o a.slots.now a.pattern row a.count.now a.steps.now);
       seen = e.seen;
+      numbers = refl;
     }
 
 pub visit_row-with-longer-requires : goal.visit_row-with-longer-requires
@@ -280,6 +295,18 @@ visit_row-next_place-place-requires-in-loop-place-clause-offered g t c =
     let left : drop (i + 1) now ≡ drop (i + 1) a.row.now = ap (drop (i + 1)) placed ∙ drop-set-lt (i + 1) before i (node_at now i) (omega arith) ∙ left_more before a.row.now i walked.left in
     walked_offers a.row.now now (i + 1) c.requires.lead long left
 
+-- the numbers of the row are as they were
+numbers_now : (g : _) (t : _) (c : visit_row-After-visit_at g t) → map (λ node. node.number) c.visit_at.new.row ≡ map (λ node. node.number) c.args.row.now
+numbers_now g t c =
+    let i : ℕ = c.loop-place.place in
+    let e = c.visit_at.ensures in
+    ap (λ (xs : List Branch). map (λ (node : Branch). node.number) xs) e.placed ∙ numbers_set c.loop-place.row i (node_at c.visit_at.new.row i) e.number ∙ c.loop-place.invariant.numbers
+
+pub visit_row-next_place-place-requires-in-loop-place-clause-rise : goal.visit_row-next_place-place-requires-in-loop-place-clause-rise
+visit_row-next_place-place-requires-in-loop-place-clause-rise g t c =
+    let at = (goal.at.visit_row-next_place-place-requires-in-loop-place-clause-rise g t c).After-visit_at in
+    subst Rise (sym (numbers_now g t at)) c.requires.sound.rise
+
 pub visit_row-loop-place-preserved : goal.visit_row-loop-place-preserved
 visit_row-loop-place-preserved g t c =
     let a = c.args in
@@ -302,9 +329,12 @@ visit_row-loop-place-preserved g t c =
     let Walks : List Branch → Type 0 = λ xs. Walked o a.slots.now a.pattern a.row.now xs a.count.now c.visit_at.new.count a.steps.now c.visit_at.new.steps (i + 1) in
     let on = subst Walks (sym e.placed) (go_on now c.visit_at.new.count c.visit_at.new.steps walked at here opens e.counted stepped) in
     let p = c.next_place-place-in-loop-place.ensures in
+    let steps : ℕ = c.next_place-place-in-loop-place.new.steps in
+    let wanted = subst (λ (ps : List ℕ). 1 ≤ length ps) c.requires.wanted (omega (arith, c.len.ensures.count, c.if-len-eq0.false)) in
     record {
-      walked = walk_to o a.slots.now a.pattern a.row.now c.visit_at.new.row a.count.now c.visit_at.new.count a.steps.now c.visit_at.new.steps c.requires.sound c.requires.lead c.requires.free_left (i + 1) c.next_place-place-in-loop-place.result p.from (omega (arith, p.within, on.long)) p.skipped on;
+      walked = walk_to o a.slots.now a.pattern a.row.now c.visit_at.new.row a.count.now c.visit_at.new.count a.steps.now c.requires.sound c.requires.lead c.requires.free_left wanted c.visit_at.new.steps steps (i + 1) c.next_place-place-in-loop-place.result p.from (omega (arith, p.within, on.long)) p.counted p.skipped on;
       seen = p.seen;
+      numbers = numbers_now g t (goal.at.visit_row-loop-place-preserved g t c).After-visit_at;
     }
 
 pub visit_each-best_match-best-requires-clause-may : goal.visit_each-best_match-best-requires-clause-may

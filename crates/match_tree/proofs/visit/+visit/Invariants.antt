@@ -1,4 +1,4 @@
-use Rattle.std.proofs.Common.{◌≡◌, ◌<◌, true, nat_le, ◌+◌, ◌-◌, ◌*◌, ◌≤◌, [], ◌∷◌, length, take, drop, None}
+use Rattle.std.proofs.Common.{◌≡◌, ◌<◌, true, nat_le, ◌+◌, ◌-◌, ◌*◌, ◌≤◌, [], ◌∷◌, length, take, drop, map, None}
 use Rattle.pattern_core.specs.Choice.{least}
 use Rattle.match_tree.specs.declared.node.Node.TheDeep.{size-Node}
 use Rattle.match_tree.specs.Routes.{rows_routes}
@@ -33,8 +33,9 @@ decreases-visit_node g l = 4 * goal.size-visit_node g l
 -- the nodes so far were passed without a match, the others are as they were, and the definition sees the next
 abbrev pub invariant-visit_row-loop-place : goal.invariant-visit_row-loop-place
 invariant-visit_row-loop-place g l = record {
-  walked : Walked (offered l.offer) l.slots l.pattern l.initial.row l.row l.initial.count l.count l.initial.steps l.steps l.place;
+  walked : Walked (offered l.offer) l.slots l.pattern l.initial.row l.row l.initial.count l.count l.fn.steps l.steps l.place;
   seen : l.place < length l.row → nat_le l.offer.oldest (node_at l.row l.place).number ≡ true;
+  numbers : map (λ node. node.number) l.row ≡ map (λ node. node.number) l.initial.row;
 }
 
 -- the rows so far were visited, and the others are as they were

@@ -5,6 +5,7 @@ use Rattle.match_tree.specs.Offering.{CanOffer}
 use Rattle.match_tree.specs.Tree.{Tree, Reserve, offer_to, is_path_seen, is_path_without, IsReserved}
 use Rattle.pattern_core.specs.Window.{oldest_seen}
 use Rattle.match_tree.proofs.NextLemmas.{kept_can, left_can, both_gains}
+use Rattle.matching_tests.proofs.IndexLemmas.{all_indexed}
 use Rattle.matching_tests.proofs.trees.arrive.Goals as goal
 use Rattle.matching_tests.proofs.trees.arrive.Goals.{in-None, in-Some}
 
@@ -34,3 +35,6 @@ returns-clause-can g c =
           let same = ap (λ (u : Tree). u.definition) w.prune.ensures ∙ ap (λ (u : Tree). u.definition) w.forget.ensures ∙ definition in
           subst Can (sym w.tree-is) (left_can t after letters n p q c.requires.recorded c.requires.can paths same)
     ]
+
+pub reserve_for-requires-clause-indexed : goal.reserve_for-requires-clause-indexed
+reserve_for-requires-clause-indexed g c = all_indexed c.args.index.now c.args.letters.now c.args.tree.now c.args.number c.requires.indexed c.requires.can

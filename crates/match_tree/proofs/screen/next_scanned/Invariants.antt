@@ -1,15 +1,16 @@
-use Rattle.std.specs.Prelude.{◌-◌, ◌≤◌}
+use Rattle.std.specs.Prelude.{◌≡◌, ◌+◌, ◌-◌, ◌≤◌}
 use Rattle.match_tree.specs.Offering.{offered}
 use Rattle.match_tree.specs.Screen.{AreWorthless}
-use Rattle.match_tree.proofs.screen.next_place.Given as goal
+use Rattle.match_tree.proofs.screen.next_scanned.Given as goal
 
--- the numbers so far are not worth a visit
+-- the numbers so far are not worth a visit, and each was counted
 abbrev pub invariant-loop-place : goal.invariant-loop-place
-invariant-loop-place l = record {
+invariant-loop-place g l = record {
   from : l.from ≤ l.place;
   within : l.place ≤ l.end;
   worthless : AreWorthless (offered l.offer) l.slots l.pattern l.row l.from l.place;
+  counted : l.steps + l.from ≡ l.fn.steps + l.place;
 }
 
 abbrev pub decreases-loop-place : goal.decreases-loop-place
-decreases-loop-place l = l.end - l.place
+decreases-loop-place g l = l.end - l.place

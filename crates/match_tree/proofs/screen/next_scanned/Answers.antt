@@ -10,15 +10,15 @@ use Rattle.match_tree.specs.declared.screen.Key.{Key}
 use Rattle.match_tree.proofs.SlotsLemmas.{free_is_none}
 use Rattle.match_tree.proofs.ScreenLemmas.{worthless_on}
 use Rattle.match_tree.proofs.KeyLemmas.{lacking_on, number_there}
-use Rattle.match_tree.proofs.screen.next_place.Goals as goal
-use Rattle.match_tree.proofs.screen.next_place.Goals.{After-at, After-with_key-place}
+use Rattle.match_tree.proofs.screen.next_scanned.Goals as goal
+use Rattle.match_tree.proofs.screen.next_scanned.Goals.{After-at, After-with_key-place}
 
 -- the row has as many nodes as there are numbers
-ends : (c : After-with_key-place) → c.len-end.result ≡ length c.args.row.now
-ends c = c.len-end.ensures ∙ ap (λ (ns : List ℕ). length ns) c.of-numbers.ensures ∙ length-map c.args.row.now (λ (node : Branch). node.number)
+ends : (g : _) (c : After-with_key-place g) → c.len-end.result ≡ length c.args.row.now
+ends g c = c.len-end.ensures ∙ ap (λ (ns : List ℕ). length ns) c.of-numbers.ensures ∙ length-map c.args.row.now (λ (node : Branch). node.number)
 
 pub loop-place-init : goal.loop-place-init
-loop-place-init c =
+loop-place-init g c =
     let a = c.args in
     let o = offered a.offer.now in
     let e = c.with_key-place.ensures in
@@ -27,12 +27,13 @@ loop-place-init c =
     record {
       from = e.from;
       within = omega (arith, e.within, c.len-end.ensures);
-      worthless = lacking_on o a.slots.now a.pattern a.row.now (numbers_in c.of-numbers.result) a.screen.now a.from a.from to c.of-numbers.ensures c.requires.offered c.requires.screen (omega arith) (omega (arith, e.within, c.len-end.ensures, ends c)) (λ i l m. absurd (omega arith)) lacking;
+      worthless = lacking_on o a.slots.now a.pattern a.row.now (numbers_in c.of-numbers.result) a.screen.now a.from a.from to c.of-numbers.ensures c.requires.offered c.requires.screen (omega arith) (omega (arith, e.within, c.len-end.ensures, ends g c)) (λ i l m. absurd (omega arith)) lacking;
+      counted = e.counted;
     }
 
 -- the number there may be tried
-offered_there : (c : After-at) → IsOffered (offered c.args.offer.now) c.args.slots.now c.args.pattern c.at.result
-offered_there c =
+offered_there : (g : _) (c : After-at g) → IsOffered (offered c.args.offer.now) c.args.slots.now c.args.pattern c.at.result
+offered_there g c =
     let a = c.args in
     let place : ℕ = c.loop-place.place in
     let number : (node_at a.row.now place).number ≡ c.at.result = sym (number_there a.row.now (numbers_in c.of-numbers.result) place c.of-numbers.ensures) ∙ sym c.at.ensures in
@@ -40,13 +41,13 @@ offered_there c =
     subst (IsOffered (offered a.offer.now) a.slots.now a.pattern) number (c.requires.offered place c.loop-place.invariant.from within)
 
 pub is_worth-requires-clause-can : goal.is_worth-requires-clause-can
-is_worth-requires-clause-can c = (offered_there c).can
+is_worth-requires-clause-can g c = (offered_there g c).can
 
 pub is_worth-requires-clause-free : goal.is_worth-requires-clause-free
-is_worth-requires-clause-free c = free_is_none c.args.slots.now c.args.pattern (offered_there c).free
+is_worth-requires-clause-free g c = free_is_none c.args.slots.now c.args.pattern (offered_there g c).free
 
 pub loop-place-preserved : goal.loop-place-preserved
-loop-place-preserved c =
+loop-place-preserved g c =
     let a = c.args in
     let o = offered a.offer.now in
     let e = c.with_key-place-in-loop-place.ensures in
@@ -61,4 +62,5 @@ loop-place-preserved c =
       from = omega (arith, c.loop-place.invariant.from, e.from);
       within = omega (arith, e.within, c.len-end.ensures);
       worthless = lacking_on o a.slots.now a.pattern a.row.now (numbers_in c.of-numbers.result) a.screen.now a.from (place + 1) to c.of-numbers.ensures c.requires.offered c.requires.screen (omega (arith, c.loop-place.invariant.from)) within before lacking;
+      counted = omega (arith, c.loop-place.invariant.counted, c.tick.ensures, e.counted);
     }

@@ -1,0 +1,13 @@
+use Rattle.std.proofs.Common.{◌∙◌, inr, sym}
+use Rattle.match_tree.specs.Offering.{offered}
+use Rattle.match_tree.proofs.SlotsLemmas.{none_is_free}
+use Rattle.match_tree.proofs.ScreenLemmas.{lacks_screen}
+use Rattle.match_tree.proofs.screen.passes_screen.Goals as goal
+
+pub returns-then-not-has_key-clause-left_out : goal.returns-then-not-has_key-clause-left_out
+returns-then-not-has_key-clause-left_out c =
+    let a = c.args in
+    let o = offered a.offer.now in
+    let free = none_is_free a.slots.now a.pattern c.requires.free in
+    let fails = sym c.has_key.ensures ∙ c.if-not-has_key.true in
+    λ no. inr (lacks_screen o a.slots.now a.pattern a.number a.screen.now c.key_of.result free c.requires.screen c.key_of.ensures fails)

@@ -1,0 +1,35 @@
+-- Numbers of a row that are looked up in an index.
+use Rattle.std.specs.Prelude.{◌≡◌, ◌⊎◌, ℕ, ◌≤◌, ◌<◌, List, [], length, Bool, true, false, ◌&&◌, Option, Some, None}
+use Rattle.std.specs.List.{list_all}
+use Rattle.guard_eval.specs.Meaning.{Assignment}
+use Rattle.pattern_core.specs.Members.{IsIn}
+use Rattle.guard_bound.specs.Bound.{meets}
+use Rattle.guard_bound.specs.Same.{is_same}
+use Rattle.value_index.specs.Index.{Index, entry}
+use Rattle.match_tree.specs.declared.look.Look.{Look}
+use Rattle.match_tree.specs.declared.screen.Screen.{Screen}
+use Rattle.match_tree.specs.Routes.{Branch, with_number}
+use Rattle.match_tree.specs.Rows.{node_at}
+use Rattle.match_tree.specs.Offers.{Offered, may_take, takers}
+use Rattle.match_tree.specs.Screen.{IsOffered, IsOther, IsWorthless}
+
+-- the index has no entry of the number with the value
+abbrev pub IsAbsent : Index → Look → ℕ → Type 0
+IsAbsent index look number = ¬ IsIn (entry look.place look.value number) index.entries
+
+-- a number of the row that has none has no takers behind it
+abbrev pub LooksUp : Offered → Assignment → ℕ → Look → Type 0
+LooksUp o slots pattern look = (number : ℕ) → IsOffered o slots pattern number → IsAbsent o.index look number → takers o (with_number slots pattern number) ≡ []
+
+-- behind a number of the row that has none, the wanted pattern may not take the offered one
+abbrev pub LooksUpAt : Offered → Assignment → ℕ → ℕ → Look → Type 0
+LooksUpAt o slots pattern other look = IsOther o slots pattern other → (number : ℕ) → IsOffered o slots pattern number → IsAbsent o.index look number → may_take o (with_number slots pattern number) other ≡ false
+
+-- the number passes the bounds and the text of the screen
+abbrev pub may_meet : Offered → Option Screen → ℕ → Bool
+may_meet o None number = true
+may_meet o (Some screen) number = list_all (λ bound. meets o.letters bound number) screen.bounds && is_same o.letters o.number screen.same number
+
+-- from the place on, a number that is worth a visit is among those that are left
+abbrev pub AreLeft : Offered → Assignment → ℕ → List Branch → ℕ → List ℕ → Type 0
+AreLeft o slots pattern row from left = (i : ℕ) → from ≤ i → i < length row → IsWorthless o slots pattern (node_at row i).number ⊎ IsIn (node_at row i).number left

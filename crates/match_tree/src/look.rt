@@ -1,0 +1,357 @@
+//! Looking the numbers of a row up by the value that they have to have, where the index knows the field.
+ghost use Rattle.std.specs.Prelude.{◌≡◌, ◌+◌, ◌≤◌, ◌<◌, ◌&&◌, ℕ, length, map, slice_get, slice_index, Some, None, true, false, nat_le, not, ◌==◌, IfSome};
+ghost use Rattle.std.specs.List.{filter};
+ghost use Rattle.std.specs.Ordering.{int_eq};
+ghost use Rattle.match_tree.specs.Offers.{takers};
+ghost use Rattle.match_tree.specs.Offering.{CanOffer, offered};
+ghost use Rattle.match_tree.specs.Order.{Rise};
+ghost use Rattle.match_tree.specs.RowNumbers.{numbers_in};
+ghost use Rattle.match_tree.specs.Rows.{node_at};
+ghost use Rattle.match_tree.specs.Look.{LooksUp, LooksUpAt, may_meet};
+ghost use Rattle.match_tree.specs.Routes.{with_number};
+ghost use Rattle.match_tree.specs.Screen.{AreOffered, AreTests, AreWorthless, IsWorthless, Screens};
+
+use crate::offer::Offer;
+use crate::row::Row;
+use crate::row_numbers::RowNumbers;
+use crate::screen::{Screen, passes_screen, screen_of};
+use guard_bound::{is_same, meets_all};
+use join_base::{Numbers, Slots, Steps};
+use std::sync::ledger::Ledger;
+use value_index::{IndexedField, value_at};
+
+/// The place of a field in the index, and the value that a number of the row has to have there.
+#[derive(Clone, Copy, PartialEq, Eq, Debug)]
+pub struct Look {
+    pub place: u32,
+    pub value: i64,
+}
+
+// A row of fewer numbers is gone through.
+const FEWEST: usize = 8;
+
+// The look-up by the screen's key.
+fn by_key(
+    offer: &Offer<'_>,
+    slots: &Slots,
+    pattern: u32,
+    kind: u32,
+    screen: &Screen,
+) -> Option<Look>
+    requires kind { slice_get offer.now.definition.now.patterns pattern ≡ Some kind }
+    requires tested { AreTests (offered offer.now) (with_number (with_number slots.now pattern offer.now.number) screen.now.other offer.now.number) pattern screen.now }
+    ensures { IfSome result (LooksUpAt (offered offer.now) slots.now pattern screen.now.other) }
+{
+    let key = screen.key?;
+    let place = offer.index.place_of(IndexedField {
+        kind,
+        field: key.field,
+        words: false,
+    })?;
+    Some(Look {
+        place,
+        value: key.value,
+    })
+}
+
+// The look-up by the text that has to be the offered number's.
+fn by_text(
+    offer: &Offer<'_>,
+    slots: &Slots,
+    pattern: u32,
+    kind: u32,
+    screen: &Screen,
+) -> Option<Look>
+    requires kind { slice_get offer.now.definition.now.patterns pattern ≡ Some kind }
+    requires tested { AreTests (offered offer.now) (with_number (with_number slots.now pattern offer.now.number) screen.now.other offer.now.number) pattern screen.now }
+    ensures { IfSome result (LooksUpAt (offered offer.now) slots.now pattern screen.now.other) }
+{
+    let same = screen.same?;
+    let place = offer.index.place_of(IndexedField {
+        kind,
+        field: same.field,
+        words: true,
+    })?;
+    let other = IndexedField {
+        kind,
+        field: same.other,
+        words: true,
+    };
+    Some(Look {
+        place,
+        value: value_at(offer.letters, offer.number, other),
+    })
+}
+
+// The look-up by a screen: by its key, or by its text, where the index knows that field.
+fn look_by(offer: &Offer<'_>, slots: &Slots, pattern: u32, screen: &Screen) -> Option<Look>
+    requires tested { AreTests (offered offer.now) (with_number (with_number slots.now pattern offer.now.number) screen.now.other offer.now.number) pattern screen.now }
+    ensures { IfSome result (LooksUpAt (offered offer.now) slots.now pattern screen.now.other) }
+{
+    let patterns = offer.definition.patterns.as_slice();
+    if pattern as usize >= patterns.len() {
+        return None;
+    }
+    let kind = *offer.definition.patterns.at(pattern as usize);
+    if let Some(look) = by_key(offer, slots, pattern, kind, screen) {
+        return Some(look);
+    }
+    by_text(offer, slots, pattern, kind, screen)
+}
+
+// The look-up for one of several wanted patterns of a row with so many numbers.
+fn look_at(
+    offer: &Offer<'_>,
+    slots: &Slots,
+    pattern: u32,
+    other: u32,
+    numbers: usize,
+) -> Option<Look>
+    requires can { CanOffer (offered offer.now) slots.now }
+    ensures { IfSome result (LooksUpAt (offered offer.now) slots.now pattern other) }
+{
+    let mut one = Numbers::new();
+    one.push(other);
+    let screen = screen_of(offer, slots, pattern, &one, numbers)?;
+    look_by(offer, slots, pattern, &screen)
+}
+
+// Whether two look-ups are one.
+fn is_one(left: Look, right: Look) -> bool
+    ensures { result ≡ ((left.place == right.place) && int_eq left.value right.value) }
+{
+    left.place == right.place && left.value == right.value
+}
+
+// Whether the look-up is that of the wanted pattern.
+fn is_looked(
+    offer: &Offer<'_>,
+    slots: &Slots,
+    pattern: u32,
+    other: u32,
+    look: Look,
+    numbers: usize,
+) -> bool
+    requires can { CanOffer (offered offer.now) slots.now }
+    ensures { result ≡ true → LooksUpAt (offered offer.now) slots.now pattern other look }
+{
+    match look_at(offer, slots, pattern, other, numbers) {
+        None => false,
+        Some(known) => is_one(known, look),
+    }
+}
+
+// The look-up for the first of several wanted patterns.
+fn first_look(
+    offer: &Offer<'_>,
+    slots: &Slots,
+    pattern: u32,
+    wanted: &Numbers,
+    numbers: usize,
+) -> Option<Look>
+    requires can { CanOffer (offered offer.now) slots.now }
+{
+    if wanted.len() < 2 {
+        return None;
+    }
+    look_at(offer, slots, pattern, wanted.at(0), numbers)
+}
+
+// The look-up of a row where several patterns are wanted, if it is one for all of them.
+fn common_look(
+    offer: &Offer<'_>,
+    slots: &Slots,
+    pattern: u32,
+    wanted: &Numbers,
+    numbers: usize,
+) -> Option<Look>
+    requires can { CanOffer (offered offer.now) slots.now }
+    requires wanted { wanted.now ≡ filter (λ p. not (p == pattern)) (takers (offered offer.now) slots.now) }
+    ensures { IfSome result (LooksUp (offered offer.now) slots.now pattern) }
+{
+    let look = first_look(offer, slots, pattern, wanted, numbers)?;
+    for other in wanted.as_slice() {
+        if !is_looked(offer, slots, pattern, *other, look, numbers) {
+            return None;
+        }
+    }
+    Some(look)
+}
+
+/// How the numbers of a row with so many are looked up: by the key of its screen, or by its text, where the index knows
+/// that field. Where several patterns are wanted, each of them has to ask for the same value.
+pub fn look_of(
+    offer: &Offer<'_>,
+    slots: &Slots,
+    pattern: u32,
+    wanted: &Numbers,
+    screen: &Option<Screen>,
+    numbers: usize,
+) -> Option<Look>
+    requires can { CanOffer (offered offer.now) slots.now }
+    requires wanted { wanted.now ≡ filter (λ p. not (p == pattern)) (takers (offered offer.now) slots.now) }
+    requires screen { IfSome screen.now (Screens (offered offer.now) slots.now pattern (filter (λ p. not (p == pattern)) (takers (offered offer.now) slots.now))) }
+    ensures { IfSome result (LooksUp (offered offer.now) slots.now pattern) }
+{
+    if numbers < FEWEST {
+        return None;
+    }
+    match screen {
+        None => common_look(offer, slots, pattern, wanted, numbers),
+        Some(screen) => look_by(offer, slots, pattern, screen),
+    }
+}
+
+// The first place from this one on whose number is at least so great.
+fn place_from(numbers: &RowNumbers<'_>, from: usize, number: u32) -> usize
+    requires rise { Rise (numbers_in numbers.now) }
+    requires within { from ≤ length (numbers_in numbers.now) }
+    ensures from { from ≤ result }
+    ensures within { result ≤ length (numbers_in numbers.now) }
+    ensures less { (i : ℕ) → from ≤ i → i < result → slice_index (numbers_in numbers.now) i < number }
+    ensures reached { result < length (numbers_in numbers.now) → number ≤ slice_index (numbers_in numbers.now) result }
+{
+    let mut low = from;
+    let mut high = numbers.len();
+    while low < high {
+        let middle = low + (high - low) / 2;
+        if numbers.at(middle) < number {
+            low = middle + 1;
+        } else {
+            high = middle;
+        }
+    }
+    low
+}
+
+// The same in a row. Where few values wait, it is often the place itself.
+fn place_in(row: &Row, from: usize, number: u32) -> usize
+    requires rise { Rise (map (λ node. node.number) row.now) }
+    requires within { from ≤ length row.now }
+    ensures from { from ≤ result }
+    ensures within { result ≤ length row.now }
+    ensures less { (i : ℕ) → from ≤ i → i < result → (node_at row.now i).number < number }
+    ensures reached { result < length row.now → number ≤ (node_at row.now result).number }
+{
+    if from >= row.len() {
+        return from;
+    }
+    if number <= row.number_at(from) {
+        return from;
+    }
+    let numbers = RowNumbers::of(row);
+    place_from(&numbers, from, number)
+}
+
+// Whether a number passes the bounds and the text of the screen.
+fn may_meet(offer: &Offer<'_>, screen: &Option<Screen>, number: u32) -> bool
+    ensures { result ≡ may_meet (offered offer.now) screen.now number }
+{
+    match screen {
+        None => true,
+        Some(screen) => {
+            meets_all(offer.letters, &screen.bounds, number)
+                && is_same(offer.letters, offer.number, screen.same, number)
+        }
+    }
+}
+
+// Whether a number fails the bounds or the text, where fewer numbers were looked at than places were passed. Then it is
+// passed over without a search for its place, and counts a step.
+fn fails_early<L: Ledger>(
+    offer: &Offer<'_>,
+    screen: &Option<Screen>,
+    number: u32,
+    looked: usize,
+    place: usize,
+    steps: &mut Steps<L>,
+) -> bool
+    ensures spare { result ≡ true → looked < place }
+    ensures fails { result ≡ true → may_meet (offered offer.now) screen.now number ≡ false }
+    ensures counted { result ≡ true → steps.new ≡ steps.old + 1 }
+    ensures uncounted { result ≡ false → steps.new ≡ steps.old }
+{
+    if looked >= place {
+        return false;
+    }
+    if may_meet(offer, screen, number) {
+        return false;
+    }
+    steps.tick();
+    true
+}
+
+// Whether a number of the row is worth a visit. One that isn't was looked at, and counts a step.
+fn looks_worth<L: Ledger>(
+    offer: &Offer<'_>,
+    slots: &Slots,
+    pattern: u32,
+    screen: &Option<Screen>,
+    number: u32,
+    steps: &mut Steps<L>,
+) -> bool
+    requires can { CanOffer (offered offer.now) (with_number slots.now pattern number) }
+    requires free { slice_get slots.now pattern ≡ Some None }
+    requires screen { IfSome screen.now (Screens (offered offer.now) slots.now pattern (filter (λ p. not (p == pattern)) (takers (offered offer.now) slots.now))) }
+    ensures seen { result ≡ true → nat_le offer.now.oldest number ≡ true }
+    ensures left_out { result ≡ false → IsWorthless (offered offer.now) slots.now pattern number }
+    ensures counted { result ≡ false → steps.new ≡ steps.old + 1 }
+    ensures uncounted { result ≡ true → steps.new ≡ steps.old }
+{
+    if passes_screen(offer, slots, pattern, screen, number) {
+        return true;
+    }
+    steps.tick();
+    false
+}
+
+/// The first place from this one on whose number is worth a visit, or the row's end, where the numbers are looked up. Each
+/// number that is looked at and passed over counts a step. There are at most as many as places before the answer, also
+/// where the index has numbers that do not stand in the row.
+pub fn next_looked<L: Ledger>(
+    offer: &Offer<'_>,
+    slots: &Slots,
+    pattern: u32,
+    screen: &Option<Screen>,
+    look: Look,
+    row: &Row,
+    from: usize,
+    steps: &mut Steps<L>,
+) -> usize
+    requires rise { Rise (map (λ node. node.number) row.now) }
+    requires offered { AreOffered (offered offer.now) slots.now pattern row.now from }
+    requires looks { LooksUp (offered offer.now) slots.now pattern look }
+    requires screen { IfSome screen.now (Screens (offered offer.now) slots.now pattern (filter (λ p. not (p == pattern)) (takers (offered offer.now) slots.now))) }
+    requires within { from ≤ length row.now }
+    ensures from { from ≤ result }
+    ensures within { result ≤ length row.now }
+    ensures seen { result < length row.now → nat_le offer.now.oldest (node_at row.now result).number ≡ true }
+    ensures skipped { AreWorthless (offered offer.now) slots.now pattern row.now from result }
+    ensures counted { steps.new + from ≤ steps.old + result }
+{
+    let end = row.len();
+    if from >= end {
+        return end;
+    }
+    let first = row.number_at(from);
+    let mut left = offer.index.numbers_from(look.place, look.value, first);
+    let mut place = from;
+    let mut looked = from;
+    while let Some(number) = left.next() {
+        if fails_early(offer, screen, number, looked, place, steps) {
+            looked += 1;
+            continue;
+        }
+        place = place_in(row, place, number);
+        if place >= end {
+            return end;
+        }
+        let there = row.number_at(place);
+        if looks_worth(offer, slots, pattern, screen, there, steps) {
+            return place;
+        }
+        place += 1;
+        looked += 1;
+    }
+    end
+}
