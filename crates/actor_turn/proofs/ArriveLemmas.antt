@@ -281,6 +281,10 @@ module _ (actors : ℕ) (setting : Setting) (m : Mail) (firings : List (Option F
             let same : number_more letters ≡ length state.entries + 1 = ap (λ (n : ℕ). n + 1) (length-map state.entries (λ (e : Entry). e.message)) in
             one_of_in chosen.taken (length state.entries + 1) (subst (λ (n : ℕ). contains_number chosen.taken n ≡ true) same (best_takes letters message offered chosen reserved best))
 
+        -- it takes the newest number
+        pub takes_newest : contains_number chosen.taken (length m.arrivals + 1) ≡ true
+        takes_newest = subst (λ (n : ℕ). contains_number chosen.taken n ≡ true) number_same (best_takes letters message offered chosen reserved best)
+
         goes_on : (firing : Option Firing) → TakesNewest (entry_with arrival firing) → fair_step setting state source message stamp ≡ (recorded arrival firing (without (live_with arrival) chosen.taken) ending.Running, outcome.Fired)
             → IsDone setting arrival firing (with_live mail_with (without mail_with.live chosen.taken)) (firings ++ firing ∷ []) ending.Running (map (fired_at (number_more letters) chosen.taken) offered) outcome.Fired
         goes_on firing takes step =

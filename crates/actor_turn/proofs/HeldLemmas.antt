@@ -24,7 +24,7 @@ use Rattle.fair_semantics.specs.Fair.{rules_of, setting_of}
 use Rattle.fair_semantics.specs.Step.{Setting, State, definitions_of, letters_of}
 use Rattle.actor_turn.specs.Held.{AreLimits, Held, new_actor, new_trees}
 use Rattle.actor_turn.specs.Inside.{IsAtRest}
-use Rattle.actor_turn.specs.Parts.{state_of}
+use Rattle.actor_turn.specs.Parts.{history_in, state_of}
 use Rattle.actor_turn.specs.Rest.{HoldsPartialMatches, NoMatchWaits}
 use Rattle.actor_turn.proofs.RestLemmas.{actor_at, new_rest, new_told}
 
@@ -72,7 +72,7 @@ none_complete letters live rule (d ∷ definitions) (t ∷ trees) are hold =
 
 module _ (setting : Setting) (m : Mail) (firings : List (Option Firing)) (end : Ending) (trees : List Tree) (outbox : List (List Stamped)) (lent : List Bool) (rest : IsAtRest setting m firings end trees) where
   abbrev held : Held
-  held = record { setting = setting; state = state_of m firings end; trees = trees; outbox = outbox; lent = lent }
+  held = record { setting = setting; state = state_of m firings end; history = history_in m.arrivals; trees = trees; outbox = outbox; lent = lent }
 
   abbrev letters : List Message
   letters = letters_of held.state.entries
@@ -94,7 +94,7 @@ module _ (setting : Setting) (m : Mail) (firings : List (Option Firing)) (end : 
 -- the posts of an actor are no part of it
 pub same_partial : (before after : Held) → after.setting ≡ before.setting → after.state ≡ before.state → after.trees ≡ before.trees → HoldsPartialMatches before → HoldsPartialMatches after
 same_partial before after setting state trees h =
-    subst (λ (x : Setting × State × List Tree). HoldsPartialMatches (record { setting = x.0; state = x.1; trees = x.2; outbox = after.outbox; lent = after.lent })) (λ i. (sym setting i, sym state i, sym trees i)) (record {
+    subst (λ (x : Setting × State × List Tree). HoldsPartialMatches (record { setting = x.0; state = x.1; history = after.history; trees = x.2; outbox = after.outbox; lent = after.lent })) (λ i. (sym setting i, sym state i, sym trees i)) (record {
       of_rules = h.of_rules;
       partial = h.partial;
       once = h.once;

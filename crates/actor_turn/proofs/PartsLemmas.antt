@@ -58,7 +58,7 @@ module _ (m : Mail) (firings : List (Option Firing)) (end : Ending) (source : So
       let count = entries_count 1 m.arrivals firings fired in
       let number : length (entries_of 1 m.arrivals firings) + 1 ≡ 1 + length m.arrivals = omega arith in
       let stamps = entries_latest 1 0 m.arrivals firings fired in
-      let new : Received = record { source = source; message = message; stamp = max (latest m.arrivals) stamp + 1 } in
+      let new : Received = record { source = source; message = message; stamp = max (latest m.arrivals) stamp + 1; came = stamp } in
       let entries =
       entries_more 1 (length (entries_of 1 m.arrivals firings) + 1) m.arrivals firings new firing fired number
       ∙ (λ i. entries_of 1 m.arrivals firings ++ record { number = length (entries_of 1 m.arrivals firings) + 1; source = source; message = message; stamp = max (sym stamps i) stamp + 1; firing = firing } ∷ [])

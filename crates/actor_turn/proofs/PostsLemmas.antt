@@ -13,7 +13,7 @@ use Rattle.fair_semantics.specs.declared.run.Firing.{Firing}
 use Rattle.fair_semantics.specs.declared.run.Entry.{Entry}
 use Rattle.fair_semantics.specs.Linked.{effect_for, entry_posts, firing_effects}
 use Rattle.fair_semantics.specs.Step.{Setting, State}
-use Rattle.actor_turn.specs.Held.{Held, first_of, posts_behind, posts_for, with_first, without_first}
+use Rattle.actor_turn.specs.Held.{Held, History, first_of, posts_behind, posts_for, with_first, without_first}
 use Rattle.actor_turn.specs.Outbox.{Queue, is_lent_after}
 use Rattle.actor_turn.specs.Sent.{delivered, sent_by}
 
@@ -22,9 +22,9 @@ at_map f [] i d e within = absurd (omega arith)
 at_map f (x ∷ xs) zero d e within = refl
 at_map f (x ∷ xs) (suc i) d e within = at_map f xs i d e (omega arith)
 
-module _ (setting : Setting) (state : State) (trees : List Tree) (boxes : List Queue) (target : ℕ) (d now : Queue) (within : target < length boxes) (is : d ≡ get_or boxes target d) where
+module _ (setting : Setting) (state : State) (history : History) (trees : List Tree) (boxes : List Queue) (target : ℕ) (d now : Queue) (within : target < length boxes) (is : d ≡ get_or boxes target d) where
   abbrev held : List Queue → Held
-  held bs = record { setting = setting; state = state; trees = trees; outbox = map (λ o. o.posts) bs; lent = map (λ o. o.lent) bs }
+  held bs = record { setting = setting; state = state; history = history; trees = trees; outbox = map (λ o. o.posts) bs; lent = map (λ o. o.lent) bs }
 
   waiting : posts_for (held boxes).outbox target ≡ d.posts
   waiting = at_map (λ (o : Queue). o.posts) boxes target d [] within ∙ ap (λ (o : Queue). o.posts) (sym is)
@@ -39,20 +39,20 @@ module _ (setting : Setting) (state : State) (trees : List Tree) (boxes : List Q
           let same_lent : now.lent ≡ d.lent = lent ∙ ap (λ (ps : List Stamped). is_lent_after ps d.lent) e in
           let outbox = map-set_same (λ (o : Queue). o.posts) boxes target now d (same_posts ∙ ap (λ (o : Queue). o.posts) is) in
           let kept = map-set_same (λ (o : Queue). o.lent) boxes target now d (same_lent ∙ ap (λ (o : Queue). o.lent) is) in
-          λ i. record { setting = setting; state = state; trees = trees; outbox = outbox i; lent = kept i }
+          λ i. record { setting = setting; state = state; history = history; trees = trees; outbox = outbox i; lent = kept i }
       by (p ∷ ps) e =
           let first : now.posts ≡ ps = posts ∙ ap (drop 1) e in
           let kept : now.lent ≡ true = lent ∙ ap (λ (qs : List Stamped). is_lent_after qs d.lent) e in
           let outbox = map-set (λ (o : Queue). o.posts) boxes target now ∙ ap (slice_set (map (λ (o : Queue). o.posts) boxes) target) first in
           let lents = map-set (λ (o : Queue). o.lent) boxes target now ∙ ap (slice_set (map (λ (o : Queue). o.lent) boxes) target) kept in
-          λ i. record { setting = setting; state = state; trees = trees; outbox = outbox i; lent = lents i }
+          λ i. record { setting = setting; state = state; history = history; trees = trees; outbox = outbox i; lent = lents i }
 
   -- it is brought back
   pub returned_is : (post : Stamped) → now.posts ≡ post ∷ d.posts → now.lent ≡ false → held (slice_set boxes target now) ≡ with_first (held boxes) target post
   returned_is post posts lent =
       let outbox = map-set (λ (o : Queue). o.posts) boxes target now ∙ ap (slice_set (map (λ (o : Queue). o.posts) boxes) target) (posts ∙ ap (λ (ps : List Stamped). post ∷ ps) (sym waiting)) in
       let lents = map-set (λ (o : Queue). o.lent) boxes target now ∙ ap (slice_set (map (λ (o : Queue). o.lent) boxes) target) lent in
-      λ i. record { setting = setting; state = state; trees = trees; outbox = outbox i; lent = lents i }
+      λ i. record { setting = setting; state = state; history = history; trees = trees; outbox = outbox i; lent = lents i }
 
 -- ---- room, and posts that are delivered
 

@@ -1,7 +1,8 @@
 -- What an actor holds between two arrivals.
-use Rattle.std.specs.Prelude.{ℕ, ◌+◌, List, [], ◌∷◌, ◌++◌, Bool, true, false, not, ◌&&◌, Option, None, Some, drop, length, replicate, slice_set, slice_index_or}
+use Rattle.std.specs.Prelude.{ℕ, ◌+◌, List, [], ◌∷◌, ◌++◌, Bool, true, false, not, ◌&&◌, if◌then◌else◌, Option, None, Some, drop, length, replicate, slice_set, slice_index_or}
 use Rattle.std.specs.List.{flat_map}
 use Rattle.join_base.specs.declared.message.Message.{Message}
+use Rattle.join_base.specs.declared.message.Source.{Source}
 use Rattle.join_base.specs.declared.message.Stamped.{Stamped}
 use Rattle.pattern_core.specs.declared.definition.Definition.{Definition}
 use Rattle.match_tree.specs.Tree.{Tree, empty_of}
@@ -10,16 +11,21 @@ use Rattle.script_types.specs.declared.plan.Plan.{Plan}
 use Rattle.script_types.specs.declared.plan.Rule.{Rule}
 use Rattle.fair_semantics.specs.declared.run.Entry.{Entry}
 use Rattle.fair_semantics.specs.declared.run.Limits.{Limits}
-use Rattle.fair_semantics.specs.Fair.{setting_of}
+use Rattle.fair_semantics.specs.Fair.{Sent, setting_of}
 use Rattle.fair_semantics.specs.Fits.{IsFrom1To}
 use Rattle.fair_semantics.specs.Linked.{entry_posts}
 use Rattle.fair_semantics.specs.Step.{Setting, State, letters_of, definitions_of, opening, is_running, is_refused}
 
--- what it was told and its state; the trees, of partial matches, that it keeps; for each actor of the plan the posts that
--- wait for it, in order, and whether the post that was taken last may be brought back
+-- what was recorded, in order: each message with its source and the stamp that it carried
+abbrev pub History : Type 0
+History = List Sent
+
+-- what it was told, its state and its history; the trees, of partial matches, that it keeps; for each actor of the plan
+-- the posts that wait for it, in order, and whether the post that was taken last may be brought back
 pub record Held : Type 0 where
   pub setting : Setting
   pub state : State
+  pub history : History
   pub trees : List Tree
   pub outbox : List (List Stamped)
   pub lent : List Bool
@@ -39,6 +45,7 @@ abbrev pub new_actor : Plan → ℕ → Limits → ℕ → Held
 new_actor plan index limits feeds = record {
   setting = setting_of plan index limits;
   state = opening feeds (length plan.actors);
+  history = [];
   trees = new_trees 1 (definitions_of (setting_of plan index limits).rules);
   outbox = replicate (length plan.actors) [];
   lent = replicate (length plan.actors) false;
@@ -81,3 +88,11 @@ tries_for rules state message = tries_from (letters_of state.entries) message st
 -- whether the actor runs and takes the message
 abbrev pub is_taken : Setting → State → Message → ℕ → Bool
 is_taken setting state message stamp = is_running state.ending && not (is_refused setting state message stamp)
+
+-- a message of a source, with the stamp that it carries
+abbrev pub as_sent : Source → Message → ℕ → Sent
+as_sent source message stamp = (source, record { message = message; stamp = stamp })
+
+-- the history with a message behind it, if the actor takes that
+abbrev pub history_with : Held → Source → Message → ℕ → History
+history_with held source message stamp = if is_taken held.setting held.state message stamp then held.history ++ as_sent source message stamp ∷ [] else held.history

@@ -13,7 +13,8 @@ use Rattle.fair_semantics.specs.Step.{Setting, fits, is_running}
 use Rattle.run_fits.specs.RestLaw.{TakesNewest}
 use Rattle.actor_turn.specs.declared.actor.Actor.TheInside.{Inside}
 use Rattle.actor_turn.specs.Held.{Held, AreLimits}
-use Rattle.actor_turn.specs.Parts.{AreFired, state_of}
+use Rattle.actor_turn.specs.Indexed.{IsIndexOf}
+use Rattle.actor_turn.specs.Parts.{AreFired, history_in, state_of}
 use Rattle.actor_turn.specs.Steady.{IsSteady}
 
 abbrev pub setting_in : Inside → Setting
@@ -23,6 +24,7 @@ abbrev pub held_of : Inside → Held
 held_of a = record {
   setting = setting_in a;
   state = state_of a.mail.mail a.firings.items a.ending;
+  history = history_in a.mail.mail.arrivals;
   trees = a.trees.items;
   outbox = map (λ o. o.posts) a.outboxes.items;
   lent = map (λ o. o.lent) a.outboxes.items;
@@ -50,9 +52,11 @@ pub record IsAtRest (setting : Setting) (m : Mail) (firings : List (Option Firin
   pub few : path_count trees ≤ 1000000
   pub ended : is_running end ≡ false → m.live ≡ []
 
--- what is true of every actor; it has room for the entries of its run
+-- what is true of every actor; its index has the numbers that are not consumed, and it has room for the entries of its
+-- run
 pub record IsKept (a : Inside) : Type 0 where
   pub told : IsTold (length a.outboxes.items) (setting_in a)
   pub rest : IsAtRest (setting_in a) a.mail.mail a.firings.items a.ending a.trees.items
+  pub indexed : IsIndexOf a.index a.mail.mail
   pub none : a.entries.items ≡ []
   pub room : length a.mail.mail.arrivals ≤ vec_capacity a.entries

@@ -2,6 +2,7 @@
 pub mod Held
 pub mod Rest
 -- what private functions compute
+pub mod Indexed
 pub mod Inside
 pub mod Outbox
 pub mod Parts

@@ -11,6 +11,7 @@ use Rattle.fair_semantics.specs.declared.run.Outcome.TheVariants as outcome
 use Rattle.fair_semantics.specs.declared.run.Entry.{Entry}
 use Rattle.fair_semantics.specs.declared.run.Firing.{Firing}
 use Rattle.fair_semantics.specs.Step.{State}
+use Rattle.actor_turn.specs.Held.{History, as_sent}
 
 -- the arrivals, of which the first has this number, each with its firing
 abbrev pub entries_of : ℕ → List Received → List (Option Firing) → List Entry
@@ -21,6 +22,10 @@ entries_of from (arrival ∷ arrivals) (firing ∷ firings) =
 
 abbrev pub state_of : Mail → List (Option Firing) → Ending → State
 state_of mail firings end = record { entries = entries_of 1 mail.arrivals firings; live = mail.live; ending = end; late = mail.late }
+
+-- the arrivals as a history has them
+abbrev pub history_in : List Received → History
+history_in arrivals = map (λ arrival. as_sent arrival.source arrival.message arrival.came) arrivals
 
 -- a firing or none for each arrival
 abbrev pub AreFired : Mail → List (Option Firing) → Type 0

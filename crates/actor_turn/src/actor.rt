@@ -10,14 +10,15 @@ ghost use Rattle.fair_semantics.specs.Step.{fair_step, is_running};
 ghost use Rattle.fair_semantics.specs.Fair.{partials_of, run_of, setting_of};
 ghost use Rattle.fair_semantics.specs.Fits.{RuleFits};
 ghost use Rattle.actor_turn.specs.Rest.{HoldsPartialMatches, NoMatchWaits};
-ghost use Rattle.actor_turn.specs.Held.{AreLimits, first_of, is_taken, new_actor, new_entries, posts_behind, posts_for, tries_for, with_first, without_first};
+ghost use Rattle.actor_turn.specs.Held.{AreLimits, first_of, history_with, is_taken, new_actor, new_entries, posts_behind, posts_for, tries_for, with_first, without_first};
 
 use crate::fit::fits;
+use crate::indexed::{empty_ended, index_of, remove_taken};
 use crate::opening::{copy_rules, kind_sorts, outboxes_of, trees_of};
 use crate::outbox::Outbox;
 use crate::refused::Refused;
 use crate::run::{into_entries, reserve_entry};
-use crate::step::{fire, keep, record, spend};
+use crate::step::{fire, give_up, keep, record, spend};
 use crate::texts::rule_texts;
 use fair_semantics::{ActorRun, Ending, Entry, Fired, Limits, Outcome};
 use join_base::{Items, Message, NoMemory, Sort, Source, Stamped, Steps};
@@ -27,7 +28,8 @@ use script_types::{Plan, Rule};
 use std::alloc::Global;
 use std::marker::Model;
 use std::sync::ledger::Ledger;
-use tree_law::{best_of, count_paths, forget_all};
+use tree_law::{best_of, count_paths};
+use value_index::ValueIndex;
 
 /// An actor between two arrivals. It keeps its own copy of what it needs of the plan.
 #[derive(Drop)]
@@ -38,6 +40,8 @@ pub struct Actor {
     mail: Mailbox,
     // The partial matches of each rule.
     trees: Vec<MatchTree>,
+    // The unconsumed numbers by the values of their messages.
+    index: ValueIndex,
     // What each arrival fired, if it did.
     firings: Vec<Fired>,
     ending: Ending,
@@ -97,6 +101,7 @@ impl Actor {
         let sorts = kind_sorts(alloc, &plan.kinds)?;
         let rules = copy_rules(alloc, &actor.rules)?;
         let trees = trees_of(alloc, &rules)?;
+        let index = index_of(alloc, &rules)?;
         let mail = Mailbox::new(alloc, feeds, plan.actors.len() as u32)?;
         let outboxes = outboxes_of(alloc, plan.actors.len())?;
         Ok(Actor {
@@ -105,6 +110,7 @@ impl Actor {
             limits,
             mail,
             trees,
+            index,
             firings: Vec::new(alloc),
             ending: Ending::Running,
             outboxes,
@@ -133,6 +139,7 @@ impl Actor {
         requires exists { HasCount self.old.state.late source }
 
         ensures step { (message : Message) (stamp : ℕ) → is_taken self.old.setting self.old.state message stamp ≡ false → fair_step self.old.setting self.old.state source message stamp ≡ (self.new.state, result) }
+        ensures history { (message : Message) (stamp : ℕ) → is_taken self.old.setting self.old.state message stamp ≡ false → self.new.history ≡ history_with self.old source message stamp }
         ensures setting { self.new.setting ≡ self.old.setting }
         ensures outbox { self.new.outbox ≡ posts_behind 0 (new_entries self.old.state self.new.state) self.old.outbox }
         ensures lent { self.new.lent ≡ self.old.lent }
@@ -145,12 +152,14 @@ impl Actor {
             return Outcome::Late;
         }
         spend(&mut self.mail, &mut self.trees, &mut self.ending, source);
+        self.index.clear();
         Outcome::Spent
     }
 
     /// One fair step with any message, of a source that exists, and the stamp that it carries. The posts of a body wait
     /// in the outboxes of their targets from then on. Where the actor runs and takes the message, it records a copy.
-    /// `NoMemory` comes only where the actor runs and takes the message, and then the actor is as it was.
+    /// Then its history has the message too, with its source and that stamp, and else it stays as it was. `NoMemory`
+    /// comes only where the actor runs and takes the message, and then the actor is as it was.
     pub fn arrive<L: Ledger>(
         &mut self,
         alloc: Global,
@@ -162,6 +171,7 @@ impl Actor {
         requires exists { HasCount self.old.state.late source }
 
         ensures step { IfOk result (λ o. fair_step self.old.setting self.old.state source message.now stamp ≡ (self.new.state, o)) }
+        ensures history { OnOk result (self.new.history ≡ history_with self.old source message.now stamp) }
         ensures setting { self.new.setting ≡ self.old.setting }
         ensures outbox { OnOk result (self.new.outbox ≡ posts_behind 0 (new_entries self.old.state self.new.state) self.old.outbox) }
         ensures lent { self.new.lent ≡ self.old.lent }
@@ -197,6 +207,7 @@ impl Actor {
         requires exists { HasCount self.old.state.late source }
 
         ensures step { IfOk result (λ o. fair_step self.old.setting self.old.state source message stamp ≡ (self.new.state, o)) }
+        ensures history { OnOk result (self.new.history ≡ history_with self.old source message stamp) }
         ensures setting { self.new.setting ≡ self.old.setting }
         ensures outbox { OnOk result (self.new.outbox ≡ posts_behind 0 (new_entries self.old.state self.new.state) self.old.outbox) }
         ensures lent { self.new.lent ≡ self.old.lent }
@@ -226,6 +237,7 @@ impl Actor {
         requires taken { is_taken self.old.setting self.old.state message stamp ≡ true }
 
         ensures step { IfOk result (λ o. fair_step self.old.setting self.old.state source message stamp ≡ (self.new.state, o)) }
+        ensures history { OnOk result (self.new.history ≡ history_with self.old source message stamp) }
         ensures setting { self.new.setting ≡ self.old.setting }
         ensures outbox { OnOk result (self.new.outbox ≡ posts_behind 0 (new_entries self.old.state self.new.state) self.old.outbox) }
         ensures lent { self.new.lent ≡ self.old.lent }
@@ -242,21 +254,27 @@ impl Actor {
         let number = record(
             &mut self.mail,
             &mut self.trees,
+            &self.index,
             source,
             message,
             stamp,
             steps,
         )?;
         let Some(chosen) = best_of(&self.trees) else {
+            let Ok(()) = self.index.insert(self.mail.letters(), number) else {
+                return Err(give_up(&mut self.mail, &mut self.trees));
+            };
             self.firings.push(Fired::none()).unwrap();
             let most = self.limits.partials;
-            return Ok(keep(
+            let outcome = keep(
                 &mut self.mail,
                 &mut self.trees,
                 &mut self.ending,
                 number,
                 most,
-            ));
+            );
+            empty_ended(&mut self.index, self.ending);
+            return Ok(outcome);
         };
         match fire(
             alloc,
@@ -269,15 +287,13 @@ impl Actor {
             chosen,
         ) {
             Ok(firing) => {
+                let taken = firing.taken.as_slice();
+                remove_taken(&mut self.index, self.mail.letters(), taken);
+                empty_ended(&mut self.index, self.ending);
                 self.firings.push(Fired::from_box(firing)).unwrap();
                 Ok(Outcome::Fired)
             }
-            Err(NoMemory) => {
-                forget_all(&mut self.trees);
-                Err(Refused {
-                    message: self.mail.retract_last(),
-                })
-            }
+            Err(NoMemory) => Err(give_up(&mut self.mail, &mut self.trees)),
         }
     }
 
@@ -352,6 +368,7 @@ impl Actor {
         let Actor {
             mail,
             trees,
+            index,
             firings,
             ending,
             outboxes,
@@ -360,6 +377,7 @@ impl Actor {
         } = self;
         // The entries need memory next.
         drop(trees);
+        drop(index);
         drop(outboxes);
         let parts = mail.into_parts();
         ActorRun {

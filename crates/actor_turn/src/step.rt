@@ -1,12 +1,12 @@
 //! The parts of a fair step, over the mailbox and the trees of an actor.
-ghost use Rattle.std.specs.Prelude.{◌≡◌, ◌+◌, ◌-◌, ◌^◌, ◌<◌, ◌≤◌, [], ◌∷◌, ◌++◌, All, None, Some, IfErr, IfOk, OnErr, OnOk, length, map, if◌then◌else◌};
+ghost use Rattle.std.specs.Prelude.{◌≡◌, ◌+◌, ◌-◌, ◌^◌, ◌<◌, ◌≤◌, [], ◌∷◌, ◌++◌, All, None, Some, IfErr, IfOk, OnErr, OnOk, length, map, true, if◌then◌else◌};
 ghost use Rattle.std.specs.List.{AllByRecursion};
 ghost use Rattle.std.specs.List.Sorted.{IsStrictlyIncreasing};
 ghost use Rattle.join_base.specs.Late.{HasCount, late_more};
 ghost use Rattle.join_base.specs.Stamps.{greatest_stamp};
-ghost use Rattle.join_base.specs.Taken.{without};
-ghost use Rattle.mailbox_core.specs.Mail.{IsRecorded, latest, letters_of, with_arrival, with_late, with_live};
-ghost use Rattle.tree_law.specs.Trees.{AreSettled, CanOfferTo, HasReserve, IsReservedAt, best_of, cleared_tree, settled_tree, tries_at};
+ghost use Rattle.join_base.specs.Taken.{contains_number, without};
+ghost use Rattle.mailbox_core.specs.Mail.{IsRecorded, latest, letters_of, with_arrival, with_late, with_live, without_last};
+ghost use Rattle.tree_law.specs.Trees.{AreSettled, CanOfferTo, HasPaths, HasReserve, IsReservedAt, best_of, cleared_tree, settled_tree, tries_at};
 ghost use Rattle.fair_semantics.specs.Step.{body_at, firing_of};
 ghost use Rattle.fair_semantics.specs.Body.{effects_of, stops};
 ghost use Rattle.actor_turn.specs.Ready.{BodyReady};
@@ -26,6 +26,7 @@ use script_types::Rule;
 use std::alloc::Global;
 use std::sync::ledger::Ledger;
 use tree_law::{clear_all, count_paths, expire_all, forget_all, keep_all, prune_all, reserve_all};
+use value_index::ValueIndex;
 
 /// The actor ends without taking a message of the source, which is late.
 pub fn spend(mail: &mut Mailbox, trees: &mut [MatchTree], ending: &mut Ending, source: Source)
@@ -41,11 +42,12 @@ pub fn spend(mail: &mut Mailbox, trees: &mut [MatchTree], ending: &mut Ending, s
     *ending = Ending::Spent;
 }
 
-/// Records a message with the stamp that it carried, offers its number to the trees, and gives the number. Where there
-/// is no memory, all is as it was, and the message comes back.
+/// Records a message with the stamp that it carried, offers its number to the trees, whose numbers are in the index, and
+/// gives the number. Where there is no memory, all is as it was, and the message comes back.
 pub fn record<L: Ledger>(
     mail: &mut Mailbox,
     trees: &mut [MatchTree],
+    index: &ValueIndex,
     source: Source,
     message: Message,
     came: u64,
@@ -56,6 +58,7 @@ pub fn record<L: Ledger>(
     requires latest { latest mail.old.mail.arrivals < greatest_stamp }
     requires settled { AreSettled trees.old }
     requires can { AllByRecursion (CanOfferTo (letters_of mail.old.mail.arrivals ++ message ∷ []) (length mail.old.mail.arrivals + 1)) trees.old }
+    requires indexed { AllByRecursion (HasPaths index.now (letters_of mail.old.mail.arrivals ++ message ∷ [])) trees.old }
 
     ensures number { IfOk result (λ n. n ≡ length mail.old.mail.arrivals + 1) }
     ensures recorded { OnOk result (mail.new.mail ≡ with_arrival mail.old.mail source message came) }
@@ -71,11 +74,25 @@ pub fn record<L: Ledger>(
         return Err(Refused { message });
     };
     let number = mail.append(source, message, came);
-    match reserve_all(trees, mail.letters(), number, steps) {
+    match reserve_all(trees, mail.letters(), index, number, steps) {
         Ok(()) => Ok(number),
         Err(NoMemory) => Err(Refused {
             message: mail.retract_last(),
         }),
+    }
+}
+
+/// The trees forget what they set aside, and the message that was recorded last comes back.
+pub fn give_up(mail: &mut Mailbox, trees: &mut [MatchTree]) -> Refused
+    requires last { contains_number mail.old.mail.live (length mail.old.mail.arrivals) ≡ true }
+
+    ensures trees { trees.new ≡ map settled_tree trees.old }
+    ensures retracted { mail.new.mail ≡ without_last mail.old.mail }
+    ensures message { letters_of mail.old.mail.arrivals ≡ letters_of mail.new.mail.arrivals ++ result.message ∷ [] }
+{
+    forget_all(trees);
+    Refused {
+        message: mail.retract_last(),
     }
 }
 

@@ -10,6 +10,7 @@ use Rattle.guard_eval.specs.declared.term.Leaf.TheVariants as leaf
 use Rattle.guard_eval.specs.declared.term.Signed.{Signed}
 use Rattle.guard_eval.specs.declared.term.Operand.TheVariants as operand
 use Rattle.guard_eval.specs.declared.term.WordsLeaf.TheVariants as words
+use Rattle.pattern_core.specs.declared.definition.Definition.{Definition}
 use Rattle.script_types.specs.declared.plan.Kind.{Kind}
 use Rattle.script_types.specs.declared.plan.Item.TheVariants as item
 use Rattle.script_types.specs.declared.plan.Statement.{Statement}
@@ -113,19 +114,18 @@ with_motion others = motion_variables ∷ others ∷ []
 abbrev pub tell_desk : ℕ → Statement
 tell_desk kind = statement.Post 4 kind (operand.Sum (plus (room 0) ∷ []) ∷ [])
 
+-- a definition of a motion, and a message of another kind
+abbrev pub motion_and : ℕ → List Condition → Definition
+motion_and kind conjuncts = record { patterns = motion ∷ kind ∷ []; conjuncts = conjuncts; window = None }
+
 -- `when motion(r1, t1) & light(r2, lux, t2) if r1 == r2 && lux < 40 && t2 - t1 <= 60 && t1 - t2 <= 60`
 abbrev pub light_rule : Rule
 light_rule = record {
-  definition = record {
-    patterns = motion ∷ light ∷ [];
-    conjuncts =
-        same_room
-        ∷ is_dim
-        ∷ within_a_minute (place_at 1 2) (place_at 0 1)
-        ∷ within_a_minute (place_at 0 1) (place_at 1 2)
-        ∷ [];
-    window = None;
-  };
+  definition = motion_and light (same_room
+      ∷ is_dim
+      ∷ within_a_minute (place_at 1 2) (place_at 0 1)
+      ∷ within_a_minute (place_at 0 1) (place_at 1 2)
+      ∷ []);
   variables = with_motion light_variables;
   body = tell_desk on ∷ [];
 }
@@ -133,11 +133,7 @@ light_rule = record {
 -- `when motion(r1, t1) & contact(r2, t2) if r1 == r2 && t2 - t1 <= 60 && t1 - t2 <= 60`
 abbrev pub contact_rule : Rule
 contact_rule = record {
-  definition = record {
-    patterns = motion ∷ contact ∷ [];
-    conjuncts = same_room ∷ within_a_minute (place_at 1 1) (place_at 0 1) ∷ within_a_minute (place_at 0 1) (place_at 1 1) ∷ [];
-    window = None;
-  };
+  definition = motion_and contact (same_room ∷ within_a_minute (place_at 1 1) (place_at 0 1) ∷ within_a_minute (place_at 0 1) (place_at 1 1) ∷ []);
   variables = with_motion contact_variables;
   body = tell_desk alarm ∷ [];
 }

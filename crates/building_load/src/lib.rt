@@ -9,7 +9,7 @@
 //! A contract sees all three as values of specs/: `load_plan` writes the kinds, the actors and the rules out,
 //! `load_feed` each row by its place, and `summary_text` the lines.
 //!
-//! That the plan is that of its script as text is neither proved nor tested.
+//! Only tested: that the plan is that of its script as text (`worked_examples`).
 #![tactic(auto)]
 
 mod feed;

@@ -161,12 +161,25 @@ fn contact_guard(alloc: Global) -> Result<ConjunctList, NoMemory>
     Ok(guard)
 }
 
+// The variables of a room and a time.
+fn sighting_variables(
+    alloc: Global,
+    room: &[u8],
+    time: &[u8],
+) -> Result<Items<Option<Name>>, NoMemory>
+    requires is_room { is_name room.now ≡ true }
+    requires is_time { is_name time.now ≡ true }
+    ensures { IfOk result (λ names. names ≡ building.variables (room.now ∷ time.now ∷ [])) }
+{
+    let room = variable(alloc, room)?;
+    let time = variable(alloc, time)?;
+    two(alloc, room, time)
+}
+
 fn motion_variables(alloc: Global) -> Result<Items<Option<Name>>, NoMemory>
     ensures { IfOk result (λ names. names ≡ building.motion_variables) }
 {
-    let room = variable(alloc, b"r1")?;
-    let time = variable(alloc, b"t1")?;
-    two(alloc, room, time)
+    sighting_variables(alloc, b"r1", b"t1")
 }
 
 fn light_variables(alloc: Global) -> Result<Items<Option<Name>>, NoMemory>
@@ -181,9 +194,7 @@ fn light_variables(alloc: Global) -> Result<Items<Option<Name>>, NoMemory>
 fn contact_variables(alloc: Global) -> Result<Items<Option<Name>>, NoMemory>
     ensures { IfOk result (λ names. names ≡ building.contact_variables) }
 {
-    let room = variable(alloc, b"r2")?;
-    let time = variable(alloc, b"t2")?;
-    two(alloc, room, time)
+    sighting_variables(alloc, b"r2", b"t2")
 }
 
 // The variables of a motion, and those of the other pattern.
@@ -212,11 +223,11 @@ fn tell_desk(alloc: Global, kind: u32) -> Result<Items<Statement>, NoMemory>
     )
 }
 
-fn light_definition(alloc: Global) -> Result<Definition, NoMemory>
-    ensures { IfOk result (λ definition. definition ≡ building.light_rule.definition) }
+// A motion, and a message of another kind.
+fn motion_and(alloc: Global, kind: u32, conjuncts: ConjunctList) -> Result<Definition, NoMemory>
+    ensures { IfOk result (λ definition. definition ≡ building.motion_and kind conjuncts) }
 {
-    let patterns = two(alloc, MOTION, LIGHT)?;
-    let conjuncts = light_guard(alloc)?;
+    let patterns = two(alloc, MOTION, kind)?;
     Ok(Definition {
         patterns,
         conjuncts,
@@ -229,23 +240,11 @@ fn light_rule(alloc: Global) -> Result<Rule, NoMemory>
 {
     let variables = with_motion(alloc, light_variables(alloc)?)?;
     let body = tell_desk(alloc, ON)?;
-    let definition = light_definition(alloc)?;
+    let definition = motion_and(alloc, LIGHT, light_guard(alloc)?)?;
     Ok(Rule {
         definition,
         variables,
         body,
-    })
-}
-
-fn contact_definition(alloc: Global) -> Result<Definition, NoMemory>
-    ensures { IfOk result (λ definition. definition ≡ building.contact_rule.definition) }
-{
-    let patterns = two(alloc, MOTION, CONTACT)?;
-    let conjuncts = contact_guard(alloc)?;
-    Ok(Definition {
-        patterns,
-        conjuncts,
-        window: None,
     })
 }
 
@@ -254,7 +253,7 @@ fn contact_rule(alloc: Global) -> Result<Rule, NoMemory>
 {
     let variables = with_motion(alloc, contact_variables(alloc)?)?;
     let body = tell_desk(alloc, ALARM)?;
-    let definition = contact_definition(alloc)?;
+    let definition = motion_and(alloc, CONTACT, contact_guard(alloc)?)?;
     Ok(Rule {
         definition,
         variables,

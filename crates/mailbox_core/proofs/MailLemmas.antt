@@ -14,7 +14,7 @@ use Rattle.join_base.specs.Late.{Late}
 use Rattle.mailbox_core.specs.Mail.{IsSound, Mail, Received, latest, latest_from, letters_of, marks_of, next_arrival, received_of, with_arrival, without_last}
 
 abbrev pub arrival_of : Message → Mark → Received
-arrival_of message mark = record { source = mark.source; message = message; stamp = mark.stamp }
+arrival_of message mark = record { source = mark.source; message = message; stamp = mark.stamp; came = mark.came }
 
 pub letters_are : (letters : List Message) (marks : List Mark) → length marks ≡ length letters → letters_of (received_of letters marks) ≡ letters
 letters_are [] marks e = refl
@@ -88,14 +88,14 @@ take_received (suc count) (l ∷ letters) (m ∷ marks) = ap (λ (rs : List Rece
 -- what is inside after an arrival
 pub appended : (letters letters' : List Message) (marks marks' : List Mark) (live live' : List ℕ) (late : Late) (source : Source) (message : Message) (came stamp count : ℕ)
     → length marks ≡ length letters → count ≡ length letters → stamp ≡ max (last_stamp 0 marks) came + 1
-    → letters' ≡ letters ++ message ∷ [] → marks' ≡ marks ++ record { source = source; stamp = stamp } ∷ [] → live' ≡ live ++ (count + 1) ∷ []
+    → letters' ≡ letters ++ message ∷ [] → marks' ≡ marks ++ record { source = source; stamp = stamp; came = came } ∷ [] → live' ≡ live ++ (count + 1) ∷ []
     → ◌≡◌ {A = Mail} (record { arrivals = received_of letters' marks'; live = live'; late = late }) (with_arrival (record { arrivals = received_of letters marks; live = live; late = late }) source message came)
 appended letters letters' marks marks' live live' late source message came stamp count marked numbered stamped el em en =
-    let mark : Mark = record { source = source; stamp = stamp } in
+    let mark : Mark = record { source = source; stamp = stamp; came = came } in
     let latest_stamp : stamp ≡ max (latest (received_of letters marks)) came + 1 = stamped ∙ ap (λ (n : ℕ). max n came + 1) (sym (latest_is 0 letters marks marked)) in
     let place : count + 1 ≡ length (received_of letters marks) + 1 = ap (λ (n : ℕ). n + 1) (numbered ∙ sym (received_count letters marks marked)) in
     let arrivals : received_of letters' marks' ≡ received_of letters marks ++ next_arrival (received_of letters marks) source message came ∷ []
-    = (λ i. received_of (el i) (em i)) ∙ received_push letters marks message mark marked ∙ ap (λ (n : ℕ). received_of letters marks ++ record { source = source; message = message; stamp = n } ∷ []) latest_stamp in
+    = (λ i. received_of (el i) (em i)) ∙ received_push letters marks message mark marked ∙ ap (λ (n : ℕ). received_of letters marks ++ record { source = source; message = message; stamp = n; came = came } ∷ []) latest_stamp in
     let numbers = en ∙ ap (λ (n : ℕ). live ++ n ∷ []) place in
     λ i. record { arrivals = arrivals i; live = numbers i; late = late }
 

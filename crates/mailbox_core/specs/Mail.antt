@@ -8,11 +8,12 @@ use Rattle.join_base.specs.declared.message.Source.{Source}
 use Rattle.mailbox_core.specs.declared.mailbox.Mark.{Mark}
 use Rattle.join_base.specs.Late.{Late}
 
--- a recorded message: its source and its own stamp
+-- a recorded message: its source, its own stamp, and the stamp that it carried
 pub record Received : Type 0 where
   pub source : Source
   pub message : Message
   pub stamp : ℕ
+  pub came : ℕ
 
 -- arrival n stands at place n - 1; the live numbers are those of the unconsumed ones, ascending
 pub record Mail : Type 0 where
@@ -34,14 +35,14 @@ letters_of arrivals = map (λ arrival. arrival.message) arrivals
 
 -- what is recorded beside each message
 abbrev pub marks_of : List Received → List Mark
-marks_of arrivals = map (λ arrival. record { source = arrival.source; stamp = arrival.stamp }) arrivals
+marks_of arrivals = map (λ arrival. record { source = arrival.source; stamp = arrival.stamp; came = arrival.came }) arrivals
 
 -- the messages, each with what is recorded beside it
 abbrev pub received_of : List Message → List Mark → List Received
 received_of [] marks = []
 received_of (message ∷ messages) [] = []
 received_of (message ∷ messages) (mark ∷ marks) =
-    record { source = mark.source; message = message; stamp = mark.stamp } ∷ received_of messages marks
+    record { source = mark.source; message = message; stamp = mark.stamp; came = mark.came } ∷ received_of messages marks
 
 -- the last arrival's own stamp, or the one given
 abbrev pub latest_from : ℕ → List Received → ℕ
@@ -54,7 +55,7 @@ latest arrivals = latest_from 0 arrivals
 
 -- the next arrival: its stamp is 1 more than the greater of the latest and the one that the message carried
 abbrev pub next_arrival : List Received → Source → Message → ℕ → Received
-next_arrival arrivals source message came = record { source = source; message = message; stamp = max (latest arrivals) came + 1 }
+next_arrival arrivals source message came = record { source = source; message = message; stamp = max (latest arrivals) came + 1; came = came }
 
 abbrev pub with_arrival : Mail → Source → Message → ℕ → Mail
 with_arrival mail source message came = record {

@@ -1,5 +1,5 @@
 //! The arrivals of an actor, numbered in their order: what was recorded of each, which are unconsumed, and how many
-//! messages of each source were late.
+//! messages of each source were late. Recorded are source, message, a stamp of its own, and the stamp that it carried.
 //!
 //! Only `Mailbox::new` and `reserve_one` take memory: after `reserve_one` one `append` can't fail. `retract_last` takes the last
 //! arrival back, `consume` takes the numbers of a match out of the unconsumed ones and `clear` all, `add_late` counts a late

@@ -12,15 +12,17 @@ use join_base::{Items, Message, NoMemory, Numbers, Source};
 use std::alloc::Global;
 use std::marker::Model;
 
-/// What is recorded beside a message: its source and its own stamp, which has 32 bits at most.
+/// What is recorded beside a message: its source, its own stamp, and the stamp that it carried. Both have 32 bits at
+/// most.
 #[derive(Clone, Copy, PartialEq, Eq, Debug)]
 pub struct Mark {
     pub source: Source,
     pub stamp: u32,
+    pub came: u32,
 }
 
 // Each arrival has one.
-const _: () = prove!(size_of::<Mark>() == 12);
+const _: () = prove!(size_of::<Mark>() == 16);
 
 /// The arrivals of an actor, which are numbered from 1.
 #[derive(Drop)]
@@ -79,8 +81,8 @@ impl Mailbox {
         self.live.reserve_one()
     }
 
-    /// Records a message with its source and a stamp of its own, and gives its number, which is unconsumed. `came` is
-    /// the stamp that the message carried. It takes no memory.
+    /// Records a message with its source, a stamp of its own and the one that it carried, `came`. It gives the number,
+    /// which is unconsumed. It takes no memory.
     pub fn append(&mut self, source: Source, message: Message, came: u64) -> u32
         requires room { 1 ≤ self.old.room }
         requires few { length self.old.mail.arrivals < 1000000 }
@@ -95,6 +97,7 @@ impl Mailbox {
         let mark = Mark {
             source,
             stamp: stamp as u32,
+            came: came as u32,
         };
         self.letters.push(message).unwrap();
         self.marks.push(mark).unwrap();

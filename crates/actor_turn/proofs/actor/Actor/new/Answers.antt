@@ -6,9 +6,11 @@ use Rattle.mailbox_core.specs.Mail.{Mail}
 use Rattle.fair_semantics.specs.declared.run.Ending.TheVariants.{Running}
 use Rattle.fair_semantics.specs.Step.{Setting, definitions_of}
 use Rattle.script_types.specs.Typed.{kind_types}
+use Rattle.actor_turn.specs.Indexed.{IsIndexOf}
 use Rattle.actor_turn.specs.Outbox.{Queue}
 use Rattle.actor_turn.specs.Steady.{HasPatterns}
 use Rattle.actor_turn.proofs.HeldLemmas.{none_waits, partial_held}
+use Rattle.actor_turn.proofs.IndexLemmas.{none_indexed}
 use Rattle.actor_turn.proofs.RestLemmas.{actor_at, boxes_count, new_rest, new_told}
 use Rattle.actor_turn.proofs.ToldLemmas.{rules_patterns}
 use Rattle.actor_turn.proofs.actor.Actor.new.Goals as goal
@@ -31,6 +33,7 @@ invariant_of-result c =
     record {
       told = told;
       rest = new_rest (length boxes) setting _ _ c.in_ok-mail.mail.mail c.new-2.result.items c.in_ok-trees.trees.items told c.in_ok-mail.ensures.empty c.new-2.ensures.items c.in_ok-trees.ensures;
+      indexed = subst (IsIndexOf c.in_ok-index.index) (sym c.in_ok-mail.ensures.empty) (none_indexed c.in_ok-index.index _ _);
       none = c.new-3.ensures.items;
       room = omega arith;
     }

@@ -1,4 +1,4 @@
-use Rattle.std.proofs.Common.{true, false, ◌≡◌, ◌∙◌, ◌+◌, ◌≤◌, ◌++◌, ◌∷◌, [], ℕ, List, Option, Some, None, map, drop, length, length-append, vec_capacity, refl, ap, sym, subst, arith}
+use Rattle.std.proofs.Common.{true, false, ◌≡◌, ◌∙◌, ◌+◌, ◌<◌, ◌≤◌, ◌++◌, ◌∷◌, [], ℕ, List, Option, Some, None, map, drop, length, length-append, vec_capacity, refl, ap, sym, subst, arith}
 use Rattle.std.specs.List.{AllByRecursion}
 use Rattle.std.specs.List.Sorted.{IsStrictlyIncreasing}
 use Rattle.std.proofs.lemmas.List.{length-map, take_at}
@@ -10,15 +10,18 @@ use Rattle.join_base.specs.declared.message.Stamped.{Stamped}
 use Rattle.mailbox_core.specs.Mail.{IsRecorded, Mail, Received, latest, letters_of, with_arrival, without_last}
 use Rattle.fair_semantics.specs.declared.run.Entry.{Entry}
 use Rattle.match_tree.specs.Tree.{Tree}
-use Rattle.tree_law.specs.Trees.{CanOfferTo, HasReserve, best_of, cleared_tree, settled_tree, tries_at}
+use Rattle.pattern_core.specs.Suits as recorded_in
+use Rattle.value_index.specs.Index.{AddsOnly, Has}
+use Rattle.tree_law.specs.Trees.{CanOfferTo, HasPaths, HasReserve, best_of, cleared_tree, settled_tree, tries_at}
 use Rattle.fair_semantics.specs.declared.run.Ending.TheVariants as ending
 use Rattle.fair_semantics.specs.declared.run.Firing.{Firing}
 use Rattle.fair_semantics.specs.declared.run.Outcome.TheVariants.{Fired}
 use Rattle.fair_semantics.specs.Body.{effects_of, stops}
 use Rattle.fair_semantics.specs.Linked.{firing_effects}
-use Rattle.fair_semantics.specs.Step.{Arrival, body_at, entry_with, fair_step, is_refused}
-use Rattle.actor_turn.specs.Held.{Held, is_taken, new_entries, posts_behind, tries_for}
+use Rattle.fair_semantics.specs.Step.{Arrival, body_at, entry_with, fair_step, is_refused, is_running}
+use Rattle.actor_turn.specs.Held.{Held, history_with, is_taken, new_entries, posts_behind, tries_for}
 use Rattle.actor_turn.specs.Ready.{BodyReady}
+use Rattle.actor_turn.specs.Indexed.{IsIndexOf, KeepsUntaken, LacksTaken}
 use Rattle.actor_turn.specs.Inside.{IsAtRest, IsTold, held_of, setting_in}
 use Rattle.actor_turn.specs.declared.actor.Actor.TheInside.{Inside}
 use Rattle.actor_turn.specs.Outbox.{Queue}
@@ -26,14 +29,20 @@ use Rattle.actor_turn.specs.Sent.{delivered, sent_by}
 use Rattle.actor_turn.proofs.PartsLemmas.{retracted_again}
 use Rattle.actor_turn.proofs.RestLemmas.{taken_fits, taken_runs}
 use Rattle.actor_turn.proofs.ToldLemmas.{MayFire}
-use Rattle.actor_turn.specs.Parts.{Keeps, fired_at, state_of}
-use Rattle.actor_turn.proofs.ArriveLemmas.{IsDone, can_record, fires_done, have, keeps_done, may_fire, recorded_all, rest_is, stamp_same, steps_few, taken_in}
+use Rattle.actor_turn.specs.Parts.{Keeps, fired_at, history_in, state_of}
+use Rattle.actor_turn.proofs.ArriveLemmas.{IsDone, can_record, fires_done, have, keeps_done, may_fire, recorded_all, rest_is, stamp_same, steps_few, taken_in, takes_newest}
 use Rattle.actor_turn.proofs.HeldLemmas.{none_waits, partial_held}
+use Rattle.actor_turn.proofs.HistoryLemmas.{history_more, same_arrivals}
+use Rattle.actor_turn.proofs.IndexLemmas.{each_recorded, fired_index, kept_index, paths_indexed, tried}
 use Rattle.actor_turn.proofs.PostsLemmas.{fired_posts, unfired_posts}
-use Rattle.actor_turn.proofs.actor.Actor.take_in.Goals.{After-keep, After-record, After-retract_last, After-unwrap-in-Ok-fire, In-Some, In_err-number, In_ok-number}
+use Rattle.actor_turn.proofs.actor.Actor.take_in.Goals.{After-empty_ended-in-Ok-fire, After-give_up, After-give_up-in-Err, After-empty_ended, After-record, After-remove_taken, After-unwrap-in-Ok-fire, In-Some, In_err-number, In_ok-number}
 use Rattle.actor_turn.proofs.actor.Actor.take_in.Goals as goal
 
 -- ---- what the answers share
+
+abbrev firing_taken : Option Firing → List ℕ
+firing_taken None = []
+firing_taken (Some firing) = firing.taken
 
 abbrev arrival_at : Inside → Source → Message → ℕ → Arrival
 arrival_at a source message stamp = record { state = (held_of a).state; source = source; message = message; stamp = stamp }
@@ -66,7 +75,7 @@ reserved g c =
     have (length a.outboxes.items) (setting_in a) a.mail.mail a.firings.items a.ending a.trees.items i.told i.rest c.args.source c.args.message c.args.stamp takes c.record.new.trees (e.same ∙ c.deref_mut.ensures.value) e.reserved c.in_ok-number.number e.number
 
 -- what stands when the message was kept
-kept : (g : _) (c : After-keep g) → IsDone (setting_in c.self.inside) (arrival_at c.self.inside c.args.source c.args.message c.args.stamp) None c.keep.new.mail.mail c.push.new.self.items c.keep.new.ending c.keep.new.trees c.keep.result
+kept : (g : _) (c : After-empty_ended g) → IsDone (setting_in c.self.inside) (arrival_at c.self.inside c.args.source c.args.message c.args.stamp) None c.keep-outcome.new.mail.mail c.push.new.self.items c.keep-outcome.new.ending c.keep-outcome.new.trees c.keep-outcome.result
 kept g c =
     let a = c.self.inside in
     let i = c.self.invariant in
@@ -80,10 +89,10 @@ kept g c =
     let best : best_of offered ≡ None = ap best_of (sym (c.deref.ensures.value ∙ again)) ∙ sym c.best_of.ensures ∙ c.in_default-best_of.is in
     let rising = subst (λ (m : Mail). IsStrictlyIncreasing m.live) e.recorded e.ascending in
     let firings : c.push.new.self.items ≡ a.firings.items ++ None ∷ [] = rw (c.push.ensures.items, c.unwrap.ensures, c.none.ensures.none) (ap (λ (fs : List (Option Firing)). fs ++ None ∷ []) c.reserve_entry.ensures.firings) in
-    let keeps = subst (λ (ts : List Tree). Keeps c.in_ok-number.number a.limits.partials ts c.keep.new.trees c.record.new.mail.mail c.keep.new.mail.mail a.ending c.keep.new.ending c.keep.result) now c.keep.ensures in
-    let P : List (Option Firing) → Type 0 = λ fs. IsDone (setting_in a) (arrival_at a c.args.source c.args.message c.args.stamp) None c.keep.new.mail.mail fs c.keep.new.ending c.keep.new.trees c.keep.result in
+    let keeps = subst (λ (ts : List Tree). Keeps c.in_ok-number.number a.limits.partials ts c.keep-outcome.new.trees c.record.new.mail.mail c.keep-outcome.new.mail.mail a.ending c.keep-outcome.new.ending c.keep-outcome.result) now c.keep-outcome.ensures in
+    let P : List (Option Firing) → Type 0 = λ fs. IsDone (setting_in a) (arrival_at a c.args.source c.args.message c.args.stamp) None c.keep-outcome.new.mail.mail fs c.keep-outcome.new.ending c.keep-outcome.new.trees c.keep-outcome.result in
     subst P (sym firings)
-    (keeps_done (length a.outboxes.items) (setting_in a) a.mail.mail a.firings.items a.ending a.trees.items i.told i.rest c.args.source c.args.message c.args.stamp takes offered (e.same ∙ c.deref_mut.ensures.value) e.reserved running rising best c.in_ok-number.number a.limits.partials c.keep.new.trees c.record.new.mail.mail c.keep.new.mail.mail c.keep.new.ending c.keep.result e.number refl e.recorded keeps)
+    (keeps_done (length a.outboxes.items) (setting_in a) a.mail.mail a.firings.items a.ending a.trees.items i.told i.rest c.args.source c.args.message c.args.stamp takes offered (e.same ∙ c.deref_mut.ensures.value) e.reserved running rising best c.in_ok-number.number a.limits.partials c.keep-outcome.new.trees c.record.new.mail.mail c.keep-outcome.new.mail.mail c.keep-outcome.new.ending c.keep-outcome.result e.number refl e.recorded keeps)
 
 -- the match may fire
 may : (g : _) (c : In-Some g) → MayFire (letters_of (with_arrival c.self.inside.mail.mail c.args.source c.args.message c.args.stamp).arrivals) (length c.self.inside.outboxes.items) c.self.inside.rules c.in-Some.chosen
@@ -142,6 +151,13 @@ record-requires-clause-can g c =
     subst (λ (ts : List Tree). AllByRecursion (CanOfferTo (letters_of a.mail.mail.arrivals ++ c.args.message ∷ []) (length a.mail.mail.arrivals + 1)) ts) (sym c.deref_mut.ensures.value)
     (can_record (length a.outboxes.items) (setting_in a) a.mail.mail a.firings.items a.ending a.trees.items i.told i.rest c.args.source c.args.message c.args.stamp takes)
 
+pub record-requires-clause-indexed : goal.record-requires-clause-indexed
+record-requires-clause-indexed g c =
+    let a = c.self.inside in
+    let i = c.self.invariant in
+    subst (λ (ts : List Tree). AllByRecursion (HasPaths a.index (letters_of a.mail.mail.arrivals ++ c.args.message ∷ [])) ts) (sym c.deref_mut.ensures.value)
+    (paths_indexed (setting_in a) a.mail.mail a.firings.items a.ending a.trees.items i.rest a.index i.indexed c.args.source c.args.message c.args.stamp)
+
 pub returns-in_err-number-clause-steps : goal.returns-in_err-number-clause-steps
 returns-in_err-number-clause-steps g c =
     subst (λ (h : Held). c.record.new.steps ≤ c.args.steps.now + tries_for h.setting.rules h.state c.args.message) c.self.view_is (steps g (goal.at.returns-in_err-number-clause-steps g c).After-record)
@@ -183,7 +199,7 @@ invariant_of-self-in_err-number g c =
     let i = c.self.invariant in
     let count = ap (λ (m : Mail). length m.arrivals) c.in_err-number.ensures.mail in
     let capacity = c.reserve_entry.ensures.kept in
-    record { told = i.told; rest = unrecorded_inside g (goal.at.invariant_of-self-in_err-number g c).In_err-number; none = c.reserve_entry.ensures.entries; room = omega (arith, i.room) }
+    record { told = i.told; rest = unrecorded_inside g (goal.at.invariant_of-self-in_err-number g c).In_err-number; indexed = subst (IsIndexOf c.self.inside.index) (sym c.in_err-number.ensures.mail) i.indexed; none = c.reserve_entry.ensures.entries; room = omega (arith, i.room) }
 
 pub returns-in_err-number-clause-partial : goal.returns-in_err-number-clause-partial
 returns-in_err-number-clause-partial g c =
@@ -195,53 +211,114 @@ returns-in_err-number-clause-waits g c =
     let a = c.self.inside in
     none_waits (setting_in a) c.record.new.mail.mail c.reserve_entry.new.firings.items a.ending (with_items a.trees c.record.new.trees).items _ _ (unrecorded_inside g (goal.at.returns-in_err-number-clause-waits g c).In_err-number)
 
+-- ---- no memory for the index
+
+pub insert-requires : goal.insert-requires
+insert-requires g c =
+    let a = c.self.inside in
+    let e = c.in_ok-number.ensures in
+    let shown = ap length (c.letters.ensures.letters ∙ ap (λ (m : Mail). letters_of m.arrivals) e.recorded) ∙ length-map (with_arrival a.mail.mail c.args.source c.args.message c.args.stamp).arrivals (λ (r : Received). r.message) ∙ length-append a.mail.mail.arrivals _ in
+    record { recorded = (omega arith, omega arith) }
+
+unindexed_inside : (g : _) (c : After-give_up g) → IsAtRest (setting_in c.self.inside) c.give_up.new.mail.mail c.reserve_entry.new.firings.items c.self.inside.ending (with_items (with_items c.self.inside.trees c.record.new.trees) c.give_up.new.trees).items
+unindexed_inside g c =
+    let a = c.self.inside in
+    let e = c.in_ok-number.ensures in
+    let offered : List Tree = c.record.new.trees in
+    let long : length offered ≡ a.trees.len = omega (arith, c.record.auto.trees, c.deref_mut.ensures.len) in
+    let again = take_at offered (drop (length offered) a.trees.items) a.trees.len long in
+    let long-2 : length c.give_up.new.trees ≡ a.trees.len = omega (arith, c.give_up.auto.trees, c.deref_mut-in_default-insert.ensures.len) in
+    let left = take_at c.give_up.new.trees (drop (length c.give_up.new.trees) (with_items a.trees offered).items) a.trees.len long-2 in
+    let trees : c.give_up.new.trees ≡ a.trees.items = c.give_up.ensures.trees ∙ ap (map settled_tree) (c.deref_mut-in_default-insert.ensures.value ∙ again) ∙ e.same ∙ c.deref_mut.ensures.value in
+    let mail = c.give_up.ensures.retracted ∙ ap without_last e.recorded ∙ retracted_again a.mail.mail c.args.source c.args.message c.args.stamp in
+    rest_is (setting_in a) _ c.give_up.new.mail.mail _ c.reserve_entry.new.firings.items _ a.ending _ (with_items (with_items a.trees offered) c.give_up.new.trees).items mail c.reserve_entry.ensures.firings refl (left ∙ trees) c.self.invariant.rest
+
+pub invariant_of-self-in_default-insert : goal.invariant_of-self-in_default-insert
+invariant_of-self-in_default-insert g c =
+    let a = c.self.inside in
+    let i = c.self.invariant in
+    let mail : c.give_up.new.mail.mail ≡ a.mail.mail = c.give_up.ensures.retracted ∙ ap without_last c.in_ok-number.ensures.recorded ∙ retracted_again a.mail.mail c.args.source c.args.message c.args.stamp in
+    let capacity = c.reserve_entry.ensures.kept in
+    let count = ap (λ (m : Mail). length m.arrivals) mail in
+    let room : length c.give_up.new.mail.mail.arrivals ≤ vec_capacity c.reserve_entry.new.entries = omega (arith, i.room) in
+    let beyond : length a.mail.mail.arrivals < c.in_ok-number.number = omega (arith, c.in_ok-number.ensures.number) in
+    let indexed = subst (IsIndexOf c.insert.new.self) (sym mail) (tried a.index c.insert.new.self a.mail.mail c.in_ok-number.number beyond c.insert.ensures.fields c.insert.ensures.keeps c.insert.ensures.only i.indexed) in
+    record { told = i.told; rest = unindexed_inside g (goal.at.invariant_of-self-in_default-insert g c).After-give_up; indexed = indexed; none = c.reserve_entry.ensures.entries; room = room }
+
+pub returns-in_default-insert-clause-steps : goal.returns-in_default-insert-clause-steps
+returns-in_default-insert-clause-steps g c =
+    subst (λ (h : Held). c.record.new.steps ≤ c.args.steps.now + tries_for h.setting.rules h.state c.args.message) c.self.view_is (steps g (goal.at.returns-in_default-insert-clause-steps g c).After-record)
+
+pub returns-in_default-insert-clause-partial : goal.returns-in_default-insert-clause-partial
+returns-in_default-insert-clause-partial g c =
+    partial_held (setting_in c.self.inside) c.give_up.new.mail.mail c.reserve_entry.new.firings.items c.self.inside.ending (with_items (with_items c.self.inside.trees c.record.new.trees) c.give_up.new.trees).items _ _ (unindexed_inside g (goal.at.returns-in_default-insert-clause-partial g c).After-give_up)
+
+pub returns-in_default-insert-clause-waits : goal.returns-in_default-insert-clause-waits
+returns-in_default-insert-clause-waits g c =
+    none_waits (setting_in c.self.inside) c.give_up.new.mail.mail c.reserve_entry.new.firings.items c.self.inside.ending (with_items (with_items c.self.inside.trees c.record.new.trees) c.give_up.new.trees).items _ _ (unindexed_inside g (goal.at.returns-in_default-insert-clause-waits g c).After-give_up)
+
 -- ---- keeping
 
-pub keep-requires-clause-reserved : goal.keep-requires-clause-reserved
-keep-requires-clause-reserved g c =
+pub keep-outcome-requires-clause-reserved : goal.keep-outcome-requires-clause-reserved
+keep-outcome-requires-clause-reserved g c =
     let a = c.self.inside in
     let offered : List Tree = c.record.new.trees in
     let long : length offered ≡ a.trees.len = omega (arith, c.record.auto.trees, c.deref_mut.ensures.len) in
     let again = take_at offered (drop (length offered) a.trees.items) a.trees.len long in
-    subst (λ (ts : List Tree). AllByRecursion (HasReserve c.in_ok-number.number) ts) (sym (c.deref_mut-in_default-best_of.ensures.value ∙ again)) (reserved g (goal.at.keep-requires-clause-reserved g c).In_ok-number)
+    subst (λ (ts : List Tree). AllByRecursion (HasReserve c.in_ok-number.number) ts) (sym (c.deref_mut-in_default-best_of.ensures.value ∙ again)) (reserved g (goal.at.keep-outcome-requires-clause-reserved g c).In_ok-number)
 
-kept_inside : (g : _) (c : After-keep g) → IsAtRest (setting_in c.self.inside) c.keep.new.mail.mail c.push.new.self.items c.keep.new.ending (with_items (with_items c.self.inside.trees c.record.new.trees) c.keep.new.trees).items
+kept_inside : (g : _) (c : After-empty_ended g) → IsAtRest (setting_in c.self.inside) c.keep-outcome.new.mail.mail c.push.new.self.items c.keep-outcome.new.ending (with_items (with_items c.self.inside.trees c.record.new.trees) c.keep-outcome.new.trees).items
 kept_inside g c =
     let a = c.self.inside in
-    let long : length c.keep.new.trees ≡ a.trees.len = omega (arith, c.keep.auto.trees, c.deref_mut-in_default-best_of.ensures.len) in
-    let left = take_at c.keep.new.trees (drop (length c.keep.new.trees) (with_items a.trees c.record.new.trees).items) a.trees.len long in
-    rest_is (setting_in a) _ c.keep.new.mail.mail _ c.push.new.self.items _ c.keep.new.ending _ (with_items (with_items a.trees c.record.new.trees) c.keep.new.trees).items refl refl refl left (kept g c).at_rest
+    let long : length c.keep-outcome.new.trees ≡ a.trees.len = omega (arith, c.keep-outcome.auto.trees, c.deref_mut-in_default-best_of.ensures.len) in
+    let left = take_at c.keep-outcome.new.trees (drop (length c.keep-outcome.new.trees) (with_items a.trees c.record.new.trees).items) a.trees.len long in
+    rest_is (setting_in a) _ c.keep-outcome.new.mail.mail _ c.push.new.self.items _ c.keep-outcome.new.ending _ (with_items (with_items a.trees c.record.new.trees) c.keep-outcome.new.trees).items refl refl refl left (kept g c).at_rest
 
 pub invariant_of-self-in_default-best_of : goal.invariant_of-self-in_default-best_of
 invariant_of-self-in_default-best_of g c =
     let a = c.self.inside in
     let i = c.self.invariant in
-    let rest = kept_inside g (goal.at.invariant_of-self-in_default-best_of g c).After-keep in
+    let rest = kept_inside g (goal.at.invariant_of-self-in_default-best_of g c).After-empty_ended in
     let letters = ap length c.letters-arrivals.ensures.letters ∙ length-map a.mail.mail.arrivals (λ (r : Received). r.message) in
     let place = c.in-Ok.ensures.room in
     let firings : c.push.new.self.items ≡ a.firings.items ++ None ∷ [] = rw (c.push.ensures.items, c.unwrap.ensures, c.none.ensures.none) (ap (λ (fs : List (Option Firing)). fs ++ None ∷ []) c.reserve_entry.ensures.firings) in
     let more = ap length firings ∙ length-append a.firings.items (None ∷ []) in
-    let room : length c.keep.new.mail.mail.arrivals ≤ vec_capacity c.reserve_entry.new.entries = omega (arith, rest.fired, i.rest.fired) in
-    record { told = i.told; rest = rest; none = c.reserve_entry.ensures.entries; room = room }
+    let room : length c.keep-outcome.new.mail.mail.arrivals ≤ vec_capacity c.reserve_entry.new.entries = omega (arith, rest.fired, i.rest.fired) in
+    let e = c.in_ok-number.ensures in
+    let P : List Message × ℕ → Type 0 = λ x. Has c.insert.new.self x.0 x.1 in
+    let shown = c.letters.ensures.letters ∙ ap (λ (m : Mail). letters_of m.arrivals) e.recorded in
+    let newest = subst P (λ j. (shown j, e.number j)) c.in-Ok-insert.ensures.has in
+    let only = subst (λ (n : ℕ). AddsOnly n a.index.entries c.insert.new.self.entries) e.number c.insert.ensures.only in
+    let running = runs_still a _ c.args.message c.args.stamp c.self.view_is c.requires.taken in
+    let left = c.keep-outcome.ensures.left in
+    let indexed = kept_index (setting_in a) a.mail.mail a.firings.items a.ending a.trees.items i.rest a.index i.indexed c.args.source c.args.message c.args.stamp c.insert.new.self c.empty_ended.new.index _ c.record.new.mail.mail c.keep-outcome.new.mail.mail c.keep-outcome.new.ending running c.insert.ensures.fields c.insert.ensures.keeps only newest e.recorded left.mail left.end rest.ended c.empty_ended.ensures.fields c.empty_ended.ensures.entries in
+    record { told = i.told; rest = rest; indexed = indexed; none = c.reserve_entry.ensures.entries; room = room }
 
 pub returns-in_default-best_of-clause-partial : goal.returns-in_default-best_of-clause-partial
 returns-in_default-best_of-clause-partial g c =
-    partial_held (setting_in c.self.inside) c.keep.new.mail.mail c.push.new.self.items c.keep.new.ending (with_items (with_items c.self.inside.trees c.record.new.trees) c.keep.new.trees).items _ _ (kept_inside g (goal.at.returns-in_default-best_of-clause-partial g c).After-keep)
+    partial_held (setting_in c.self.inside) c.keep-outcome.new.mail.mail c.push.new.self.items c.keep-outcome.new.ending (with_items (with_items c.self.inside.trees c.record.new.trees) c.keep-outcome.new.trees).items _ _ (kept_inside g (goal.at.returns-in_default-best_of-clause-partial g c).After-empty_ended)
 
 pub returns-in_default-best_of-clause-waits : goal.returns-in_default-best_of-clause-waits
 returns-in_default-best_of-clause-waits g c =
-    none_waits (setting_in c.self.inside) c.keep.new.mail.mail c.push.new.self.items c.keep.new.ending (with_items (with_items c.self.inside.trees c.record.new.trees) c.keep.new.trees).items _ _ (kept_inside g (goal.at.returns-in_default-best_of-clause-waits g c).After-keep)
+    none_waits (setting_in c.self.inside) c.keep-outcome.new.mail.mail c.push.new.self.items c.keep-outcome.new.ending (with_items (with_items c.self.inside.trees c.record.new.trees) c.keep-outcome.new.trees).items _ _ (kept_inside g (goal.at.returns-in_default-best_of-clause-waits g c).After-empty_ended)
 
 pub returns-in_default-best_of-clause-step : goal.returns-in_default-best_of-clause-step
 returns-in_default-best_of-clause-step g c =
-    subst (λ (h : Held). fair_step h.setting h.state c.args.source c.args.message c.args.stamp ≡ (state_of c.keep.new.mail.mail c.push.new.self.items c.keep.new.ending, c.keep.result)) c.self.view_is
-    (kept g (goal.at.returns-in_default-best_of-clause-step g c).After-keep).step
+    subst (λ (h : Held). fair_step h.setting h.state c.args.source c.args.message c.args.stamp ≡ (state_of c.keep-outcome.new.mail.mail c.push.new.self.items c.keep-outcome.new.ending, c.keep-outcome.result)) c.self.view_is
+    (kept g (goal.at.returns-in_default-best_of-clause-step g c).After-empty_ended).step
+
+pub returns-in_default-best_of-clause-history : goal.returns-in_default-best_of-clause-history
+returns-in_default-best_of-clause-history g c =
+    let a = c.self.inside in
+    let same = same_arrivals _ c.record.new.mail.mail c.keep-outcome.new.mail.mail c.keep-outcome.ensures.left.mail in
+    subst (λ (h : Held). history_in c.keep-outcome.new.mail.mail.arrivals ≡ history_with h c.args.source c.args.message c.args.stamp) c.self.view_is
+    (history_more (held_of a) a.mail.mail c.args.source c.args.message c.args.stamp refl c.record.new.mail.mail c.keep-outcome.new.mail.mail (taken_at a _ c.args.message c.args.stamp c.self.view_is c.requires.taken) c.in_ok-number.ensures.recorded same)
 
 pub returns-in_default-best_of-clause-outbox : goal.returns-in_default-best_of-clause-outbox
 returns-in_default-best_of-clause-outbox g c =
     let outbox = (held_of c.self.inside).outbox in
-    let news = (kept g (goal.at.returns-in_default-best_of-clause-outbox g c).After-keep).entries in
-    subst (λ (h : Held). outbox ≡ posts_behind 0 (new_entries h.state (state_of c.keep.new.mail.mail c.push.new.self.items c.keep.new.ending)) h.outbox) c.self.view_is
+    let news = (kept g (goal.at.returns-in_default-best_of-clause-outbox g c).After-empty_ended).entries in
+    subst (λ (h : Held). outbox ≡ posts_behind 0 (new_entries h.state (state_of c.keep-outcome.new.mail.mail c.push.new.self.items c.keep-outcome.new.ending)) h.outbox) c.self.view_is
     (unfired_posts 0 _ outbox refl ∙ ap (λ (es : List Entry). posts_behind 0 es outbox) (sym news))
 
 -- ---- firing
@@ -273,6 +350,37 @@ fire-requires-clause-reserved g c =
     let again = take_at offered (drop (length offered) a.trees.items) a.trees.len long in
     subst (λ (ts : List Tree). AllByRecursion (HasReserve c.in_ok-number.number) ts) (sym (c.deref_mut-2.ensures.value ∙ again)) (reserved g (goal.at.fire-requires-clause-reserved g c).In_ok-number)
 
+-- the firing took the numbers of the match, and they leave the index
+pub remove_taken-requires : goal.remove_taken-requires
+remove_taken-requires g c =
+    let a = c.self.inside in
+    let f = c.in-Ok-fire.ensures in
+    let letters : c.letters-in-Ok-fire.result.now ≡ letters_of (with_arrival a.mail.mail c.args.source c.args.message c.args.stamp).arrivals = c.letters-in-Ok-fire.ensures.letters ∙ ap (λ (m : Mail). letters_of m.arrivals) f.mail ∙ ap (λ (m : Mail). letters_of m.arrivals) c.in_ok-number.ensures.recorded in
+    let taken = c.as_slice-taken.ensures.same ∙ ap (λ (f : Firing). f.taken) c.deref-in-Ok-fire.ensures ∙ ap firing_taken c.in-Ok-fire.ensures.firing in
+    let all = each_recorded (letters_of (with_arrival a.mail.mail c.args.source c.args.message c.args.stamp).arrivals) c.in-Some.chosen.taken (may g (goal.at.remove_taken-requires g c).In-Some).recorded in
+    let P : List Message × List ℕ → Type 0 = λ x. All (recorded_in.IsRecorded x.0) x.1 in
+    record { recorded = subst P (λ j. (sym letters j, sym taken j)) all }
+
+fired_indexed : (g : _) (c : After-empty_ended-in-Ok-fire g) → (is_running c.fire.new.ending ≡ false → c.fire.new.mail.mail.live ≡ []) → IsIndexOf c.empty_ended-in-Ok-fire.new.index c.fire.new.mail.mail
+fired_indexed g c none =
+    let a = c.self.inside in
+    let i = c.self.invariant in
+    let takes = not_refused a _ c.args.message c.args.stamp c.self.view_is c.requires.taken in
+    let running = runs_still a _ c.args.message c.args.stamp c.self.view_is c.requires.taken in
+    let e = c.in_ok-number.ensures in
+    let offered : List Tree = c.record.new.trees in
+    let long : length offered ≡ a.trees.len = omega (arith, c.record.auto.trees, c.deref_mut.ensures.len) in
+    let again = take_at offered (drop (length offered) a.trees.items) a.trees.len long in
+    let best : best_of offered ≡ Some c.in-Some.chosen = ap best_of (sym (c.deref.ensures.value ∙ again)) ∙ sym c.best_of.ensures ∙ c.in-Some.is in
+    let newest = takes_newest (length a.outboxes.items) (setting_in a) a.mail.mail a.firings.items a.ending a.trees.items i.told i.rest c.args.source c.args.message c.args.stamp takes offered (e.same ∙ c.deref_mut.ensures.value) e.reserved running c.in-Some.chosen best in
+    let taken = c.as_slice-taken.ensures.same ∙ ap (λ (f : Firing). f.taken) c.deref-in-Ok-fire.ensures ∙ ap firing_taken c.in-Ok-fire.ensures.firing in
+    let others = subst (λ (ns : List ℕ). KeepsUntaken ns a.index.entries c.remove_taken.new.index.entries) taken c.remove_taken.ensures.others in
+    let f = c.in-Ok-fire.ensures in
+    let letters = c.letters-in-Ok-fire.ensures.letters ∙ ap (λ (m : Mail). letters_of m.arrivals) f.mail ∙ ap (λ (m : Mail). letters_of m.arrivals) e.recorded in
+    let P : List Message × List ℕ → Type 0 = λ x. LacksTaken x.1 c.remove_taken.new.index x.0 in
+    let gone = subst P (λ j. (letters j, taken j)) c.remove_taken.ensures.gone in
+    fired_index (setting_in a) a.mail.mail a.firings.items a.ending a.trees.items i.rest a.index i.indexed c.args.source c.args.message c.args.stamp c.remove_taken.new.index c.empty_ended-in-Ok-fire.new.index _ c.in-Some.chosen.taken c.record.new.mail.mail c.fire.new.mail.mail c.fire.new.ending running c.remove_taken.ensures.fields others c.remove_taken.ensures.adds_none gone newest e.recorded f.mail f.ending none c.empty_ended-in-Ok-fire.ensures.fields c.empty_ended-in-Ok-fire.ensures.entries
+
 fired_inside : (g : _) (c : After-unwrap-in-Ok-fire g) → IsAtRest (setting_in c.self.inside) c.fire.new.mail.mail c.push-in-Ok-fire.new.self.items c.fire.new.ending (with_items (with_items c.self.inside.trees c.record.new.trees) c.fire.new.trees).items
 fired_inside g c =
     let a = c.self.inside in
@@ -293,7 +401,8 @@ invariant_of-self-in-Ok-fire g c =
     let firings : c.push-in-Ok-fire.new.self.items ≡ a.firings.items ++ Some c.in-Ok-fire.firing.value ∷ [] = rw (c.push-in-Ok-fire.ensures.items, c.unwrap-in-Ok-fire.ensures, c.from_box.ensures.firing) (ap (λ (fs : List (Option Firing)). fs ++ Some c.in-Ok-fire.firing.value ∷ []) c.reserve_entry.ensures.firings) in
     let more = ap length firings ∙ length-append a.firings.items (Some c.in-Ok-fire.firing.value ∷ []) in
     let room : length c.fire.new.mail.mail.arrivals ≤ vec_capacity c.reserve_entry.new.entries = omega (arith, rest.fired, i.rest.fired) in
-    record { told = subst (λ (n : ℕ). IsTold n (setting_in a)) same_count i.told; rest = rest; none = c.reserve_entry.ensures.entries; room = room }
+    let indexed = fired_indexed g (goal.at.invariant_of-self-in-Ok-fire g c).After-empty_ended-in-Ok-fire rest.ended in
+    record { told = subst (λ (n : ℕ). IsTold n (setting_in a)) same_count i.told; rest = rest; indexed = indexed; none = c.reserve_entry.ensures.entries; room = room }
 
 pub returns-in-Ok-fire-clause-partial : goal.returns-in-Ok-fire-clause-partial
 returns-in-Ok-fire-clause-partial g c =
@@ -303,8 +412,8 @@ pub returns-in-Ok-fire-clause-waits : goal.returns-in-Ok-fire-clause-waits
 returns-in-Ok-fire-clause-waits g c =
     none_waits (setting_in c.self.inside) c.fire.new.mail.mail c.push-in-Ok-fire.new.self.items c.fire.new.ending (with_items (with_items c.self.inside.trees c.record.new.trees) c.fire.new.trees).items _ _ (fired_inside g (goal.at.returns-in-Ok-fire-clause-waits g c).After-unwrap-in-Ok-fire)
 
-unfired_inside : (g : _) (c : After-retract_last g)
-    → IsAtRest (setting_in c.self.inside) c.retract_last.new.self.mail c.reserve_entry.new.firings.items c.fire.new.ending (with_items (with_items (with_items c.self.inside.trees c.record.new.trees) c.fire.new.trees) c.forget_all.new.trees).items
+unfired_inside : (g : _) (c : After-give_up-in-Err g)
+    → IsAtRest (setting_in c.self.inside) c.give_up-in-Err.new.mail.mail c.reserve_entry.new.firings.items c.fire.new.ending (with_items (with_items (with_items c.self.inside.trees c.record.new.trees) c.fire.new.trees) c.give_up-in-Err.new.trees).items
 unfired_inside g c =
     let a = c.self.inside in
     let e = c.in_ok-number.ensures in
@@ -313,13 +422,13 @@ unfired_inside g c =
     let long : length offered ≡ a.trees.len = omega (arith, c.record.auto.trees, c.deref_mut.ensures.len) in
     let again = take_at offered (drop (length offered) a.trees.items) a.trees.len long in
     let long-2 : length c.fire.new.trees ≡ a.trees.len = omega (arith, c.fire.auto.trees, c.deref_mut-2.ensures.len) in
-    let long-4 : length c.forget_all.new.trees ≡ a.trees.len = omega (arith, c.forget_all.auto.trees, c.deref_mut-in-Err.ensures.len) in
+    let long-4 : length c.give_up-in-Err.new.trees ≡ a.trees.len = omega (arith, c.give_up-in-Err.auto.trees, c.deref_mut-in-Err.ensures.len) in
     let left = take_at c.fire.new.trees (drop (length c.fire.new.trees) (with_items a.trees offered).items) a.trees.len long-2 in
-    let last = take_at c.forget_all.new.trees (drop (length c.forget_all.new.trees) (with_items (with_items a.trees offered) c.fire.new.trees).items) a.trees.len long-4 in
+    let last = take_at c.give_up-in-Err.new.trees (drop (length c.give_up-in-Err.new.trees) (with_items (with_items a.trees offered) c.fire.new.trees).items) a.trees.len long-4 in
     let same = e.same ∙ c.deref_mut.ensures.value in
-    let trees : c.forget_all.new.trees ≡ a.trees.items = c.forget_all.ensures ∙ ap (map settled_tree) (c.deref_mut-in-Err.ensures.value ∙ left ∙ f.same_trees ∙ c.deref_mut-2.ensures.value ∙ again) ∙ same in
-    let mail = c.retract_last.ensures.retracted ∙ ap without_last (f.same_mail ∙ e.recorded) ∙ retracted_again a.mail.mail c.args.source c.args.message c.args.stamp in
-    rest_is (setting_in a) _ c.retract_last.new.self.mail _ c.reserve_entry.new.firings.items _ c.fire.new.ending _ (with_items (with_items (with_items a.trees offered) c.fire.new.trees) c.forget_all.new.trees).items mail c.reserve_entry.ensures.firings f.same_ending (last ∙ trees) c.self.invariant.rest
+    let trees : c.give_up-in-Err.new.trees ≡ a.trees.items = c.give_up-in-Err.ensures.trees ∙ ap (map settled_tree) (c.deref_mut-in-Err.ensures.value ∙ left ∙ f.same_trees ∙ c.deref_mut-2.ensures.value ∙ again) ∙ same in
+    let mail = c.give_up-in-Err.ensures.retracted ∙ ap without_last (f.same_mail ∙ e.recorded) ∙ retracted_again a.mail.mail c.args.source c.args.message c.args.stamp in
+    rest_is (setting_in a) _ c.give_up-in-Err.new.mail.mail _ c.reserve_entry.new.firings.items _ c.fire.new.ending _ (with_items (with_items (with_items a.trees offered) c.fire.new.trees) c.give_up-in-Err.new.trees).items mail c.reserve_entry.ensures.firings f.same_ending (last ∙ trees) c.self.invariant.rest
 
 pub invariant_of-self-in-Err : goal.invariant_of-self-in-Err
 invariant_of-self-in-Err g c =
@@ -328,24 +437,31 @@ invariant_of-self-in-Err g c =
     let long : length c.fire.new.outboxes ≡ a.outboxes.len = omega (arith, c.fire.auto.outboxes, c.deref_mut-3.ensures.len) in
     let boxes = take_at c.fire.new.outboxes (drop (length c.fire.new.outboxes) a.outboxes.items) a.outboxes.len long in
     let same_count : length a.outboxes.items ≡ length (with_items a.outboxes c.fire.new.outboxes).items = omega (arith, ap length boxes, a.outboxes.ok.0) in
-    let mail : c.retract_last.new.self.mail ≡ a.mail.mail = c.retract_last.ensures.retracted ∙ ap without_last (c.in-Err.ensures.same_mail ∙ c.in_ok-number.ensures.recorded) ∙ retracted_again a.mail.mail c.args.source c.args.message c.args.stamp in
+    let mail : c.give_up-in-Err.new.mail.mail ≡ a.mail.mail = c.give_up-in-Err.ensures.retracted ∙ ap without_last (c.in-Err.ensures.same_mail ∙ c.in_ok-number.ensures.recorded) ∙ retracted_again a.mail.mail c.args.source c.args.message c.args.stamp in
     let capacity = c.reserve_entry.ensures.kept in
     let count = ap (λ (m : Mail). length m.arrivals) mail in
-    let room : length c.retract_last.new.self.mail.arrivals ≤ vec_capacity c.reserve_entry.new.entries = omega (arith, i.room) in
-    record { told = subst (λ (n : ℕ). IsTold n (setting_in a)) same_count i.told; rest = unfired_inside g (goal.at.invariant_of-self-in-Err g c).After-retract_last; none = c.reserve_entry.ensures.entries; room = room }
+    let room : length c.give_up-in-Err.new.mail.mail.arrivals ≤ vec_capacity c.reserve_entry.new.entries = omega (arith, i.room) in
+    record { told = subst (λ (n : ℕ). IsTold n (setting_in a)) same_count i.told; rest = unfired_inside g (goal.at.invariant_of-self-in-Err g c).After-give_up-in-Err; indexed = subst (IsIndexOf a.index) (sym mail) i.indexed; none = c.reserve_entry.ensures.entries; room = room }
 
 pub returns-in-Err-clause-partial : goal.returns-in-Err-clause-partial
 returns-in-Err-clause-partial g c =
-    partial_held (setting_in c.self.inside) c.retract_last.new.self.mail c.reserve_entry.new.firings.items c.fire.new.ending (with_items (with_items (with_items c.self.inside.trees c.record.new.trees) c.fire.new.trees) c.forget_all.new.trees).items _ _ (unfired_inside g (goal.at.returns-in-Err-clause-partial g c).After-retract_last)
+    partial_held (setting_in c.self.inside) c.give_up-in-Err.new.mail.mail c.reserve_entry.new.firings.items c.fire.new.ending (with_items (with_items (with_items c.self.inside.trees c.record.new.trees) c.fire.new.trees) c.give_up-in-Err.new.trees).items _ _ (unfired_inside g (goal.at.returns-in-Err-clause-partial g c).After-give_up-in-Err)
 
 pub returns-in-Err-clause-waits : goal.returns-in-Err-clause-waits
 returns-in-Err-clause-waits g c =
-    none_waits (setting_in c.self.inside) c.retract_last.new.self.mail c.reserve_entry.new.firings.items c.fire.new.ending (with_items (with_items (with_items c.self.inside.trees c.record.new.trees) c.fire.new.trees) c.forget_all.new.trees).items _ _ (unfired_inside g (goal.at.returns-in-Err-clause-waits g c).After-retract_last)
+    none_waits (setting_in c.self.inside) c.give_up-in-Err.new.mail.mail c.reserve_entry.new.firings.items c.fire.new.ending (with_items (with_items (with_items c.self.inside.trees c.record.new.trees) c.fire.new.trees) c.give_up-in-Err.new.trees).items _ _ (unfired_inside g (goal.at.returns-in-Err-clause-waits g c).After-give_up-in-Err)
 
 pub returns-in-Ok-fire-clause-step : goal.returns-in-Ok-fire-clause-step
 returns-in-Ok-fire-clause-step g c =
     subst (λ (h : Held). fair_step h.setting h.state c.args.source c.args.message c.args.stamp ≡ (state_of c.fire.new.mail.mail c.push-in-Ok-fire.new.self.items c.fire.new.ending, Fired)) c.self.view_is
     (fired g (goal.at.returns-in-Ok-fire-clause-step g c).After-unwrap-in-Ok-fire).step
+
+pub returns-in-Ok-fire-clause-history : goal.returns-in-Ok-fire-clause-history
+returns-in-Ok-fire-clause-history g c =
+    let a = c.self.inside in
+    let same = ap (λ (m : Mail). m.arrivals) c.in-Ok-fire.ensures.mail in
+    subst (λ (h : Held). history_in c.fire.new.mail.mail.arrivals ≡ history_with h c.args.source c.args.message c.args.stamp) c.self.view_is
+    (history_more (held_of a) a.mail.mail c.args.source c.args.message c.args.stamp refl c.record.new.mail.mail c.fire.new.mail.mail (taken_at a _ c.args.message c.args.stamp c.self.view_is c.requires.taken) c.in_ok-number.ensures.recorded same)
 
 pub returns-in-Ok-fire-clause-outbox : goal.returns-in-Ok-fire-clause-outbox
 returns-in-Ok-fire-clause-outbox g c =

@@ -1,4 +1,4 @@
-use Rattle.std.proofs.Common.{rules, true, false, ◌≡◌, ◌∙◌, List, drop, length, map, ap, sym, subst, arith}
+use Rattle.std.proofs.Common.{rules, true, false, ◌≡◌, ◌∙◌, List, drop, length, map, refl, ap, sym, subst, arith}
 use Rattle.std.proofs.lemmas.List.{take_at}
 use Rattle.std.specs.Vec.{with_items}
 use Rattle.join_base.specs.Late.{late_more}
@@ -7,10 +7,13 @@ use Rattle.tree_law.specs.Trees.{cleared_tree}
 use Rattle.fair_semantics.specs.declared.run.Entry.{Entry}
 use Rattle.fair_semantics.specs.declared.run.Outcome.TheVariants.{Late, Spent}
 use Rattle.fair_semantics.specs.Step.{fair_step, is_running}
-use Rattle.actor_turn.specs.Held.{Held, is_taken, new_entries, posts_behind}
+use Rattle.actor_turn.specs.Held.{Held, history_with, is_taken, new_entries, posts_behind}
+use Rattle.actor_turn.specs.Indexed.{IsIndexOf}
 use Rattle.actor_turn.specs.Inside.{IsAtRest, held_of, setting_in}
-use Rattle.actor_turn.specs.Parts.{entries_of, state_of}
+use Rattle.actor_turn.specs.Parts.{entries_of, history_in, state_of}
 use Rattle.actor_turn.proofs.HeldLemmas.{none_waits, partial_held}
+use Rattle.actor_turn.proofs.HistoryLemmas.{history_same}
+use Rattle.actor_turn.proofs.IndexLemmas.{spent_index}
 use Rattle.actor_turn.proofs.PostsLemmas.{no_posts}
 use Rattle.actor_turn.proofs.RestLemmas.{late_is, late_rest, none_new, spent_is, spent_rest}
 use Rattle.actor_turn.proofs.actor.Actor.turn_away.Goals.{After-add_late, After-spend}
@@ -36,7 +39,7 @@ pub invariant_of-self : goal.invariant_of-self
 invariant_of-self c =
     let i = c.self.invariant in
     let count = ap (λ (m : Mail). length m.arrivals) c.add_late.ensures.late in
-    record { told = i.told; rest = late_inside (goal.at.invariant_of-self c).After-add_late; none = i.none; room = omega (arith, i.room) }
+    record { told = i.told; rest = late_inside (goal.at.invariant_of-self c).After-add_late; indexed = subst (IsIndexOf c.self.inside.index) (sym c.add_late.ensures.late) (record { live = i.indexed.live; consumed = i.indexed.consumed }); none = i.none; room = omega (arith, i.room) }
 
 pub returns-then-not-runs-clause-partial : goal.returns-then-not-runs-clause-partial
 returns-then-not-runs-clause-partial c =
@@ -60,7 +63,7 @@ pub invariant_of-self-2 : goal.invariant_of-self-2
 invariant_of-self-2 c =
     let i = c.self.invariant in
     let count = ap (λ (m : Mail). length m.arrivals) c.spend.ensures.mail in
-    record { told = i.told; rest = spent_inside (goal.at.invariant_of-self-2 c).After-spend; none = i.none; room = omega (arith, i.room) }
+    record { told = i.told; rest = spent_inside (goal.at.invariant_of-self-2 c).After-spend; indexed = spent_index c.clear.new.self c.spend.new.mail.mail (ap (λ (m : Mail). m.live) c.spend.ensures.mail) c.clear.ensures.entries; none = i.none; room = omega (arith, i.room) }
 
 pub returns-clause-partial : goal.returns-clause-partial
 returns-clause-partial c =
@@ -95,3 +98,17 @@ returns-clause-step c message stamp away =
     subst (λ (h : Held). fair_step h.setting h.state c.args.source message stamp ≡ (state_of c.spend.new.mail.mail a.firings.items c.spend.new.ending, Spent)) c.self.view_is
     (spent_is (setting_in a) (held_of a).state message stamp c.args.source running same
     ∙ (λ i. (state_of (sym c.spend.ensures.mail i) a.firings.items (sym c.spend.ensures.ending i), Spent)))
+
+pub returns-then-not-runs-clause-history : goal.returns-then-not-runs-clause-history
+returns-then-not-runs-clause-history c message stamp away =
+    let a = c.self.inside in
+    let same = subst (λ (h : Held). is_taken h.setting h.state message stamp ≡ false) (sym c.self.view_is) away in
+    subst (λ (h : Held). history_in c.add_late.new.self.mail.arrivals ≡ history_with h c.args.source message stamp) c.self.view_is
+    (history_same (held_of a) a.mail.mail c.args.source message stamp refl c.add_late.new.self.mail same (ap (λ (m : Mail). m.arrivals) c.add_late.ensures.late))
+
+pub returns-clause-history : goal.returns-clause-history
+returns-clause-history c message stamp away =
+    let a = c.self.inside in
+    let same = subst (λ (h : Held). is_taken h.setting h.state message stamp ≡ false) (sym c.self.view_is) away in
+    subst (λ (h : Held). history_in c.spend.new.mail.mail.arrivals ≡ history_with h c.args.source message stamp) c.self.view_is
+    (history_same (held_of a) a.mail.mail c.args.source message stamp refl c.spend.new.mail.mail same (ap (λ (m : Mail). m.arrivals) c.spend.ensures.mail))
