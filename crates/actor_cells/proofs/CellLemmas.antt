@@ -2,7 +2,7 @@
 use Rattle.std.proofs.Common.{◌≡◌, ◌∙◌, ℕ, zero, suc, ◌+◌, ◌<◌, ◌≤◌, List, [], ◌∷◌, ◌++◌, length, map, drop, get_or, set, Bool, true, false, refl, ap, sym, subst, arith, append_assoc}
 use Rattle.std.specs.Prelude.{◌==◌, if◌then◌else◌, Some, None}
 use Rattle.std.specs.List.{AllByRecursion, cons_option, filter_map, flat_map}
-use Rattle.std.proofs.lemmas.List.{append-nil, map-append}
+use Rattle.std.proofs.lemmas.List.{append-nil}
 use mathlib.Core.List.{IsPrefix}
 use Rattle.join_base.specs.declared.message.Stamped.{Stamped}
 use Rattle.join_base.specs.declared.message.Source.{Source}
@@ -10,7 +10,7 @@ use Rattle.fair_semantics.specs.declared.run.Effect.{Effect}
 use Rattle.fair_semantics.specs.declared.run.Effect.TheVariants as effect
 use Rattle.fair_semantics.specs.declared.run.Entry.{Entry}
 use Rattle.fair_semantics.specs.Step.{Setting, State, fair_step}
-use Rattle.fair_semantics.specs.Linked.{effect_for, entry_posts, firing_effects, same_source}
+use Rattle.fair_semantics.specs.Linked.{arrived, effect_for, entry_posts, firing_effects, same_source}
 use Rattle.fair_semantics.proofs.ListLemmas.{each_append}
 use Rattle.fair_semantics.proofs.SizeLemmas.{Sized, sized}
 use Rattle.actor_turn.specs.Held.{Held, new_entries, posts_behind, posts_for}
@@ -26,9 +26,10 @@ use Rattle.cell_links.specs.Ends.{inward_tag, outward_tag, sent_to, tags_of}
 use Rattle.cell_links.proofs.TagLemmas.{inward-set, outward-set}
 use Rattle.actor_cells.specs.declared.cell.Cell.{Cell}
 use Rattle.actor_cells.specs.declared.cell.CellTag.{CellTag}
-use Rattle.actor_cells.specs.Lawful.{AreDifferent, AreDistinct, IsAmong, IsLawful, IsTag, actors_in, cell_tag, entries_in, feeds_in, held_in, history_of, noted, received_from, state_in}
+use Rattle.actor_cells.specs.Lawful.{AreDifferent, AreDistinct, IsAmong, IsLawful, IsTag, actors_in, cell_tag, entries_in, feeds_in, held_in, history_of, received_from, state_in}
 use Rattle.actor_cells.specs.Served.{StaysLawful}
 use Rattle.actor_cells.specs.Steps.{AreSmall, Brings, Moves}
+use Rattle.actor_cells.proofs.HistoryLemmas.{history-more, history-on}
 use Rattle.actor_cells.proofs.StateLemmas.{HaveStamps, NoOthers, Stands, grows, stamped, stands_more}
 use Rattle.actor_cells.proofs.LinkLemmas.{among, each-at, is-itself, none-from, received-more, received-same, same-number, sent-at, sent-other, sent-set, source_of, sources-are, target_of, targets-are}
 use Rattle.join_base.proofs.EachLemmas.{each_right}
@@ -56,9 +57,9 @@ IsPosted outward outbox entries actors = (target : ℕ) → target < actors → 
 
 -- a cell with the tag of another whose state stands
 pub to-lawful : (c after : Cell) → IsLawful c → (held_in after).setting ≡ (held_in c).setting → cell_tag after ≡ cell_tag c → length (held_in after).outbox ≡ length (held_in c).outbox
-    → Stands (held_in c).setting (feeds_in c) (actors_in c) (received_from after.inward.items) (state_in after) → HoldsPartialMatches (held_in after)
+    → Stands (held_in c).setting (feeds_in c) (actors_in c) (received_from after.inward.items) (state_in after) → history_of after ≡ arrived (received_from after.inward.items) (entries_in after) → HoldsPartialMatches (held_in after)
     → IsPosted after.outward.items (held_in after).outbox (entries_in after) (actors_in c) → IsLawful after
-to-lawful c after lawful setting tag boxes before partial posted =
+to-lawful c after lawful setting tag boxes before history partial posted =
     let feeds : feeds_in after ≡ feeds_in c = ap (λ (t : CellTag). t.feeds) tag in
     let actors : actors_in after ≡ actors_in c = ap (λ (t : CellTag). t.actors) tag in
     let now = subst (λ (x : Setting × ℕ × ℕ). Stands x.0 x.1 x.2 (received_from after.inward.items) (state_in after)) (λ i. (sym setting i, sym feeds i, sym actors i)) before in
@@ -67,6 +68,7 @@ to-lawful c after lawful setting tag boxes before partial posted =
       outboxes = boxes ∙ lawful.outboxes ∙ sym actors;
       in_order = now.in_order;
       late = now.late;
+      history = history;
       fair = now.fair;
       partial = partial;
       posted = λ target within. posted target (subst (λ (n : ℕ). target < n) actors within);
@@ -124,12 +126,14 @@ module _ (c after : Cell) (k : ℕ) (w : Inward) (l : LinkOut) (lawful : IsLawfu
       let came : received_from after.inward.items ≡ received_from c.inward.items = ap received_from inward ∙ (λ i source. received-same c.inward.items k w l source within here took i) in
       let now : Stands (held_in c).setting (feeds_in c) (actors_in c) (received_from after.inward.items) (state_in after) =
       subst (λ (x : (Source → List Stamped) × State). Stands (held_in c).setting (feeds_in c) (actors_in c) x.0 x.1) (λ i. (sym came i, (sym same i).state)) (of-lawful c lawful) in
+      let history : history_of after ≡ arrived (received_from after.inward.items) (entries_in after) =
+      subst (λ (x : (Source → List Stamped) × Held). x.1.history ≡ arrived x.0 x.1.state.entries) (λ i. (sym came i, sym same i)) lawful.history in
       let posted : IsPosted after.outward.items (held_in after).outbox (entries_in after) (actors_in c) =
       subst (λ (x : List Outward × Held). IsPosted x.0 x.1.outbox x.1.state.entries (actors_in c)) (λ i. (sym outward i, sym same i)) lawful.posted in
       record {
-        lawful = to-lawful c after lawful (ap (λ (h : Held). h.setting) same) tag (ap (λ (h : Held). length h.outbox) same) now (subst HoldsPartialMatches (sym same) lawful.partial) posted;
+        lawful = to-lawful c after lawful (ap (λ (h : Held). h.setting) same) tag (ap (λ (h : Held). length h.outbox) same) now history (subst HoldsPartialMatches (sym same) lawful.partial) posted;
         tag = tag;
-        history = subst (IsPrefix (history_of c)) (λ i. map noted (sym same i).state.entries) (prefix-refl (history_of c));
+        history = subst (λ (h : Held). IsPrefix (history_of c) h.history) (sym same) (prefix-refl (history_of c));
       }
 
   -- its message was taken
@@ -153,15 +157,18 @@ module _ (c after : Cell) (k : ℕ) (w : Inward) (l : LinkOut) (lawful : IsLawfu
       let stands = stands_more (held_in c).setting (feeds_in c) (actors_in c) (received_from c.inward.items) (received_from (set c.inward.items k (record w { link = l }))) (held_in c).state (of-lawful c lawful) none w.source b.message (among (feeds_in c) (actors_in c) w.source known-here) came in
       let now : Stands (held_in c).setting (feeds_in c) (actors_in c) (received_from after.inward.items) (state_in after) =
       subst (λ (x : List Inward × State). Stands (held_in c).setting (feeds_in c) (actors_in c) (received_from x.0) x.1) (λ i. (sym inward i, sym b.state i)) stands in
+      let more = history-more (held_in c).setting (feeds_in c) (actors_in c) (received_from c.inward.items) (received_from (set c.inward.items k (record w { link = l }))) (held_in c).state (of-lawful c lawful) none w.source b.message came (held_in c).history (held_in after).history lawful.history b.history in
+      let history : history_of after ≡ arrived (received_from after.inward.items) (entries_in after) =
+      subst (λ (x : List Inward × State). (held_in after).history ≡ arrived (received_from x.0) x.1.entries) (λ i. (sym inward i, sym b.state i)) more in
       let g = grows (held_in c).setting (held_in c).state w.source b.message in
       let entries : entries_in after ≡ entries_in c ++ g.new = ap (λ (s : State). s.entries) b.state ∙ g.are in
       let new : new_entries (held_in c).state (held_in after).state ≡ g.new = ap (λ (s : State). drop (length (held_in c).state.entries) s.entries) b.state ∙ g.behind in
       let boxes : (held_in after).outbox ≡ posts_behind 0 g.new (held_in c).outbox = b.outbox ∙ ap (λ (es : List Entry). posts_behind 0 es (held_in c).outbox) new in
       let posted = still-posted c.outward.items (held_in c).outbox (held_in after).outbox (entries_in c) (entries_in after) g.new (actors_in c) entries boxes lawful.outboxes lawful.posted in
       record {
-        lawful = to-lawful c after lawful b.setting tag (ap length boxes ∙ length-posts_behind 0 g.new (held_in c).outbox) now b.partial (subst (λ (o : List Outward). IsPosted o (held_in after).outbox (entries_in after) (actors_in c)) (sym outward) posted);
+        lawful = to-lawful c after lawful b.setting tag (ap length boxes ∙ length-posts_behind 0 g.new (held_in c).outbox) now history b.partial (subst (λ (o : List Outward). IsPosted o (held_in after).outbox (entries_in after) (actors_in c)) (sym outward) posted);
         tag = tag;
-        history = (map noted g.new, sym (ap (map noted) entries ∙ map-append noted (entries_in c) g.new));
+        history = history-on (held_in c) w.source b.message.message b.message.stamp (held_in after).history b.history;
       }
 
 -- ---- posts were moved to the link at a place
@@ -202,11 +209,13 @@ module _ (c after : Cell) (k : ℕ) (w : Outward) (l : LinkIn) (lawful : IsLawfu
       subst (λ (x : List Inward × State). Stands (held_in c).setting (feeds_in c) (actors_in c) (received_from x.0) x.1) (λ i. (sym inward i, sym moves.state i)) (of-lawful c lawful) in
       let posted : IsPosted after.outward.items (held_in after).outbox (entries_in after) (actors_in c) =
       subst (λ (x : List Outward × State). IsPosted x.0 (held_in after).outbox x.1.entries (actors_in c)) (λ i. (sym outward i, sym moves.state i)) now_posted in
+      let history : history_of after ≡ arrived (received_from after.inward.items) (entries_in after) =
+      subst (λ (x : List Inward × State). (held_in after).history ≡ arrived (received_from x.0) x.1.entries) (λ i. (sym inward i, sym moves.state i)) (moves.history ∙ lawful.history) in
       let partial = same_partial (held_in c) (held_in after) moves.setting moves.state moves.trees lawful.partial in
       record {
-        lawful = to-lawful c after lawful moves.setting tag moves.count now partial posted;
+        lawful = to-lawful c after lawful moves.setting tag moves.count now history partial posted;
         tag = tag;
-        history = subst (IsPrefix (history_of c)) (λ i. map noted (sym moves.state i).entries) (prefix-refl (history_of c));
+        history = subst (IsPrefix (history_of c)) (sym moves.history) (prefix-refl (history_of c));
       }
 
 -- ---- stamps of posts

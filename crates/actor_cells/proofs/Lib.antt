@@ -1,6 +1,8 @@
 -- The lemmas by topic:
 -- - the state of an actor by what came from each source, in whatever order it came (`stands`), and with one message
 --   more (`stands_more`): StateLemmas
+-- - the history, whose messages carry the stamps of their posts, with one message more (`history-more`, `history-on`),
+--   and without stamps (`bare-arrived`): HistoryLemmas
 -- - what the links of a cell carried, where one of them changed: LinkLemmas
 -- - tallies: TallyLemmas
 -- - what looks, takes and sends keep of a cell (`looked`, `brought`, `sent-kept`): CellLemmas, BringLemmas,
@@ -10,6 +12,7 @@
 -- - opening cells are lawful: OpeningLemmas, TargetLemmas, PrepareLemmas
 pub mod SetLemmas
 pub mod StateLemmas
+pub mod HistoryLemmas
 pub mod LinkLemmas
 pub mod TallyLemmas
 pub mod CellLemmas

@@ -11,7 +11,7 @@ use Rattle.script_types.specs.declared.plan.Rule.{Rule}
 use Rattle.fair_semantics.specs.declared.run.Limits.{Limits}
 use Rattle.fair_semantics.specs.Step.{State, opening}
 use Rattle.fair_semantics.specs.Fair.{rules_of}
-use Rattle.fair_semantics.specs.Linked.{entry_posts, same_source}
+use Rattle.fair_semantics.specs.Linked.{arrived, entry_posts, same_source}
 use Rattle.fair_semantics.proofs.ListLemmas.{each_from_All}
 use Rattle.run_order.proofs.EventLemmas.{same_source_is}
 use Rattle.actor_turn.specs.Held.{Held, posts_for}
@@ -75,6 +75,7 @@ opening-lawful plan limits feeds ring index c o tag partial =
       outboxes = ap (λ (h : Held). length h.outbox) o.actor ∙ length-replicate n [] ∙ sym actor_count;
       in_order = stands.in_order;
       late = stands.late;
+      history = ap (λ (h : Held). h.history) o.actor ∙ ap (λ (s : State). arrived (received_from c.inward.items) s.entries) (sym state);
       fair = stands.fair;
       partial = partial;
       posted = λ target within.

@@ -126,7 +126,7 @@ place-within c now most place taken r l =
 
 pub noted-kept : (c : Cell) (moved held : List Bool) → IsLawful c → StaysLawful c (record c { moved = moved; held = held })
 noted-kept c moved held l = record {
-  lawful = record { tag = l.tag; outboxes = l.outboxes; in_order = l.in_order; late = l.late; fair = l.fair; partial = l.partial; posted = l.posted };
+  lawful = record { tag = l.tag; outboxes = l.outboxes; in_order = l.in_order; late = l.late; history = l.history; fair = l.fair; partial = l.partial; posted = l.posted };
   tag = refl;
   history = prefix-refl _;
 }

@@ -21,7 +21,7 @@ set-other (b ∷ boxes) (suc t) ps zero apart = refl
 set-other (b ∷ boxes) (suc t) ps (suc other) apart = set-other boxes t ps other (λ same. apart (ap suc same))
 
 pub moves-none : (t : ℕ) (a : Held) (l : LinkIn) → Moves t a a l l
-moves-none t a l = record { identity = refl; setting = refl; state = refl; trees = refl; count = refl; all = refl; others = λ other apart. refl }
+moves-none t a l = record { identity = refl; setting = refl; state = refl; history = refl; trees = refl; count = refl; all = refl; others = λ other apart. refl }
 
 -- the first post was taken out
 pub record TakesOut (t : ℕ) (before after : Held) (post : Stamped) : Type 0 where
@@ -29,6 +29,7 @@ pub record TakesOut (t : ℕ) (before after : Held) (post : Stamped) : Type 0 wh
   pub was : posts_for before.outbox t ≡ post ∷ rest
   pub setting : after.setting ≡ before.setting
   pub state : after.state ≡ before.state
+  pub history : after.history ≡ before.history
   pub trees : after.trees ≡ before.trees
   pub boxes : after.outbox ≡ slice_set before.outbox t rest
 
@@ -44,6 +45,7 @@ takes-out t before after post first is = by (posts_for before.outbox t) refl fir
           was = e ∙ ap (λ (x : Stamped). x ∷ ps) same;
           setting = ap (λ (h : Held). h.setting) i;
           state = ap (λ (h : Held). h.state) i;
+          history = ap (λ (h : Held). h.history) i;
           trees = ap (λ (h : Held). h.trees) i;
           boxes = ap (λ (h : Held). h.outbox) i;
         }
@@ -70,6 +72,7 @@ module _ (t : ℕ) (first before after : Held) (start old : LinkIn) (post : Stam
     identity = identity ∙ moves.identity;
     setting = out.setting ∙ moves.setting;
     state = out.state ∙ moves.state;
+    history = out.history ∙ moves.history;
     trees = out.trees ∙ moves.trees;
     count = count-out ∙ moves.count;
     all = (λ i. more i ++ left i) ∙ append_assoc (sent old) (post ∷ []) out.rest ∙ ap (λ (ps : List Stamped). sent old ++ ps) (sym out.was) ∙ moves.all;
@@ -87,6 +90,7 @@ module _ (t : ℕ) (first before after : Held) (start old : LinkIn) (post : Stam
         identity = identity ∙ moves.identity;
         setting = ap (λ (h : Held). h.setting) is ∙ out.setting ∙ moves.setting;
         state = ap (λ (h : Held). h.state) is ∙ out.state ∙ moves.state;
+        history = ap (λ (h : Held). h.history) is ∙ out.history ∙ moves.history;
         trees = ap (λ (h : Held). h.trees) is ∙ out.trees ∙ moves.trees;
         count = ap length boxes ∙ length-set after.outbox t (again ∷ posts_for after.outbox t) ∙ count-out ∙ moves.count;
         all = (λ i. sent_same i ++ here i) ∙ moves.all;

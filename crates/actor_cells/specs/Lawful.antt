@@ -2,7 +2,6 @@
 use Rattle.std.specs.Prelude.{◌≡◌, ◌==◌, ℕ, ◌<◌, ◌≤◌, ◌-◌, ◌^◌, min, Bool, true, false, List, [], ◌∷◌, ◌++◌, length, map, take, Contains, if◌then◌else◌}
 use Rattle.std.specs.List.{AllByRecursion, flat_map, list_any}
 use Rattle.join_base.specs.Late.{late_count}
-use Rattle.join_base.specs.declared.message.Message.{Message}
 use Rattle.join_base.specs.declared.message.Source.{Source}
 use Rattle.join_base.specs.declared.message.Source.TheVariants.{Feed, Actor}
 use Rattle.join_base.specs.declared.message.Stamped.{Stamped}
@@ -12,8 +11,8 @@ use Rattle.script_types.specs.declared.plan.Statement.TheVariants as statement
 use Rattle.fair_semantics.specs.declared.run.Entry.{Entry}
 use Rattle.fair_semantics.specs.Step.{Setting, State, opening}
 use Rattle.fair_semantics.specs.Fair.{after_all}
-use Rattle.fair_semantics.specs.Linked.{entry_posts, given_by, messages_of, rest_of, same_source, sources, taken_from}
-use Rattle.actor_turn.specs.Held.{Held, posts_for}
+use Rattle.fair_semantics.specs.Linked.{arrived, entry_posts, given_by, messages_of, rest_of, same_source, sources, taken_from}
+use Rattle.actor_turn.specs.Held.{Held, History, posts_for}
 use Rattle.actor_turn.specs.Rest.{HoldsPartialMatches}
 use Rattle.post_ring.specs.Links.{received, empty_looks}
 use Rattle.cell_links.specs.declared.ends.Inward.{Inward}
@@ -50,12 +49,9 @@ cell_tag c = record {
   links = links_in c;
 }
 
--- the entries as the history has them
-abbrev pub noted : Entry → Source × Message
-noted entry = (entry.source, entry.message)
-
-abbrev pub history_of : Cell → List (Source × Message)
-history_of c = map noted (state_in c).entries
+-- what its actor recorded: each message with its source and the stamp that it carried
+abbrev pub history_of : Cell → History
+history_of c = (held_in c).history
 
 abbrev pub link_tally : Inward → LinkTally
 link_tally w = record { received = length (received w.link); empty_looks = empty_looks w.link }
@@ -124,14 +120,15 @@ module _ (c : Cell) where
   all_sources = sources (feeds_in c) (actors_in c)
 
   -- what came over a link is the messages of the entries from its source and then a rest, whose length is the late
-  -- count; the state is the fair semantics of the entries and then the rests; the trees hold the partial matches of the
-  -- recorded messages that are not consumed; and what went over the link to a target, and then what waits for it, is
-  -- what the entries posted to it
+  -- count; the history is the entries, each message with the stamp that it carried over its link; the state is the fair
+  -- semantics of that and then the rests; the trees hold the partial matches of the recorded messages that are not
+  -- consumed; and what went over the link to a target, and then what waits for it, is what the entries posted to it
   pub record IsLawful : Type 0 where
     pub tag : IsTag (cell_tag c)
     pub outboxes : length (held_in c).outbox ≡ actors_in c
     pub in_order : (source : Source) → taken_from source entries_in ≡ take (length (taken_from source entries_in)) (messages_of (came source))
     pub late : (source : Source) → Contains all_sources source → late_count (state_in c).late source ≡ min (length (rest_of came entries_in source)) (2 ^ 64 - 1)
+    pub history : history_of c ≡ arrived came entries_in
     pub fair : state_in c ≡ after_all rules_in (opening (feeds_in c) (actors_in c)) (given_by rules_in.sorts all_sources came entries_in)
     pub partial : HoldsPartialMatches (held_in c)
     pub posted : (target : ℕ) → target < actors_in c → sent_to c.outward.items target ++ posts_for (held_in c).outbox target ≡ flat_map (entry_posts target) entries_in

@@ -1,5 +1,7 @@
--- What the public calls claim: when a cell is lawful, what serving does, and what is prepared.
+-- What the public calls claim: when a cell is lawful, what its history is in a run, what serving does, and what is
+-- prepared.
 pub mod ActorSets
+pub mod History
 pub mod Lawful
 pub mod Served
 pub mod AllLawful

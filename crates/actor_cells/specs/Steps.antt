@@ -8,14 +8,14 @@ use Rattle.post_ring.specs.declared.link_in.LinkIn.{LinkIn}
 use Rattle.post_ring.specs.declared.link_out.LinkOut.{LinkOut}
 use Rattle.post_ring.specs.Links.{empty_looks, identity_in, identity_out, one_more, received, sent, waiting}
 use Rattle.fair_semantics.specs.Step.{fair_step}
-use Rattle.actor_turn.specs.Held.{Held, is_taken, new_entries, posts_behind, posts_for}
+use Rattle.actor_turn.specs.Held.{Held, history_with, is_taken, new_entries, posts_behind, posts_for}
 use Rattle.cell_links.specs.declared.ends.Outward.{Outward}
 use Rattle.actor_turn.specs.Rest.{HoldsPartialMatches}
 use Rattle.actor_cells.specs.declared.cell.LinkTally.{LinkTally}
 use Rattle.actor_cells.specs.Served.{IsSent, all_received}
 
--- a message was taken from the link of a source, and the actor did its fair step; its trees hold the partial matches
--- again
+-- a message was taken from the link of a source, and the actor did its fair step; its history goes on with the message,
+-- and its trees hold the partial matches again
 pub record Brings (source : Source) (before after : Held) (old now : LinkOut) : Type 0 where
   pub message : Stamped
   pub identity : identity_out now ≡ identity_out old
@@ -23,6 +23,7 @@ pub record Brings (source : Source) (before after : Held) (old now : LinkOut) : 
   pub looks : empty_looks now ≡ empty_looks old
   pub setting : after.setting ≡ before.setting
   pub state : after.state ≡ (fair_step before.setting before.state source message.message message.stamp).0
+  pub history : after.history ≡ history_with before source message.message message.stamp
   pub partial : HoldsPartialMatches after
   pub outbox : after.outbox ≡ posts_behind 0 (new_entries before.state after.state) before.outbox
 
@@ -48,6 +49,7 @@ pub record Moves (target : ℕ) (before after : Held) (old now : LinkIn) : Type 
   pub identity : identity_in now ≡ identity_in old
   pub setting : after.setting ≡ before.setting
   pub state : after.state ≡ before.state
+  pub history : after.history ≡ before.history
   pub trees : after.trees ≡ before.trees
   pub count : length after.outbox ≡ length before.outbox
   pub all : sent now ++ posts_for after.outbox target ≡ sent old ++ posts_for before.outbox target

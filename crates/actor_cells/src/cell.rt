@@ -4,7 +4,7 @@ use crate::actor_set::ActorSet;
 use actor_turn::Actor;
 use cell_links::{Inward, LinkTags, Outward};
 use fair_semantics::Limits;
-use join_base::{Message, Sort, Source};
+use join_base::{Sort, Source, Stamped};
 use script_types::Rule;
 use std::collections::LinkedList;
 use turn_lock::TurnCell;
@@ -48,7 +48,7 @@ impl TurnCell for Cell {
 
     type Tag = CellTag;
 
-    type Entry = (Source, Message);
+    type Entry = (Source, Stamped);
 
     type Tally = LinkedList<LinkTally>;
 

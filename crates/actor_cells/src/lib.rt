@@ -6,10 +6,10 @@
 //! `Cells::serve` does so for one of the cells that `prepare` made. No call waits.
 //!
 //! A contract sees of a cell its actor (`held_in`), its tag (`cell_tag`), its history (`history_of`), its tally
-//! (`tally_of`), and whether it is lawful (`IsLawful`): what came over its links is what its actor recorded and then a
-//! rest, the actor's state is the fair semantics of that, its trees hold the partial matches of the messages that are
-//! not consumed, each once, and what went over its links and waits in outboxes is what the bodies posted. A cell is a
-//! `TurnCell`, so it can lie behind a lock, and small, since its actor lies in a `Box`.
+//! (`tally_of`), and whether it is lawful (`IsLawful`): what came over its links is its history, with the stamps, and
+//! then a rest, the actor's state is the fair semantics of that, its trees hold the partial matches of the messages
+//! that are not consumed, each once, and what went over its links and waits in outboxes is what the bodies posted. A
+//! cell is a `TurnCell`, so it can lie behind a lock, and small, since its actor lies in a `Box`.
 //!
 //! Only tested: that the calls answer `Ok` where memory is ample, and that a look at a link shows what the other end
 //! sent. Not said: in which order the messages of several links come.

@@ -2,8 +2,6 @@
 use Rattle.std.proofs.Common.{◌≡◌, ℕ, zero, suc, ◌+◌, ◌≤◌, List, [], ◌∷◌, ◌++◌, refl, sym, ap, ◌∙◌, subst, arith, append_assoc, get_or, set}
 use Rattle.std.proofs.lemmas.List.{append-nil}
 use mathlib.Core.List.{IsPrefix}
-use Rattle.join_base.specs.declared.message.Source.{Source}
-use Rattle.join_base.specs.declared.message.Message.{Message}
 use Rattle.turn_lock.specs.declared.view.Turn.TheVariants.{Free}
 use Rattle.turn_lock.specs.declared.view.Role.{Role}
 use Rattle.turn_lock.specs.declared.view.Role.TheVariants.{First, Other, Spent}
@@ -12,6 +10,7 @@ use Rattle.turn_lock.specs.Steps.{Gets, GivesBack}
 use Rattle.turn_lock.specs.Seats.{view_of, IsSameSeat}
 use Rattle.ready_queue.specs.Passes.{view_of as pass_view, IsSamePass}
 use Rattle.actor_cells.specs.declared.cell.Cell.{Cell}
+use Rattle.actor_cells.specs.History.{History}
 use Rattle.actor_cells.specs.Lawful.{IsLawful, cell_tag, history_of, tally_of}
 use Rattle.actor_cells.specs.Served.{StaysLawful}
 use Rattle.actor_pool.specs.declared.helper.Helper.{Helper}
@@ -52,7 +51,7 @@ turn-done i v w1 w c d word got kept back =
       free = ap (λ (x : SeatView). x.turn) is;
       role = ap (λ (x : SeatView). x.role) is;
       tags = ap (λ (x : SeatView). x.tags) is;
-      seen = λ j. subst (λ (l : List (List (Source × Message))). IsPrefix (seen_of v j) (get_or l j [])) (sym (ap (λ (x : SeatView). x.seen) is)) (seen-set v.seen i (history_of d) (prefix-trans _ _ _ got.3 kept) j);
+      seen = λ j. subst (λ (l : List History). IsPrefix (seen_of v j) (get_or l j [])) (sym (ap (λ (x : SeatView). x.seen) is)) (seen-set v.seen i (history_of d) (prefix-trans _ _ _ got.3 kept) j);
       tries = (let e = ap (λ (x : SeatView). x.tries) is in omega (arith, e));
       claims = (let e = ap (λ (x : SeatView). x.claims) is in omega (arith, e));
       had = record {
@@ -127,7 +126,7 @@ stepped p a b w belongs same kept is t r g s m n = record {
   own = record { seat = same.0 ∙ belongs.seat; pass = ap (λ q. q.pass.table_id) kept ∙ belongs.pass; free = ap (λ (x : SeatView). x.turn) is ∙ t ∙ belongs.free };
   role = ap (λ (x : SeatView). x.role) is ∙ r;
   tags = ap (λ (x : SeatView). x.tags) is ∙ g;
-  seen = λ j. subst (λ (l : List (List (Source × Message))). IsPrefix (seen_of (seat_of a) j) (get_or l j [])) (sym (ap (λ (x : SeatView). x.seen) is ∙ s)) (prefix-refl _);
+  seen = λ j. subst (λ (l : List History). IsPrefix (seen_of (seat_of a) j) (get_or l j [])) (sym (ap (λ (x : SeatView). x.seen) is ∙ s)) (prefix-refl _);
   tries = (let e = ap (λ (x : SeatView). x.tries) is in omega (arith, e, m));
   claims = (let e = ap (λ (x : SeatView). x.claims) is in omega (arith, e, n));
   nones = (let e = ap (λ q. (pass_view q).nones) kept in omega (arith, e));

@@ -1,7 +1,6 @@
 -- What contracts read of a pool and of helpers.
 use Rattle.std.specs.Prelude.{◌≡◌, ℕ, ◌+◌, ◌≤◌, List}
-use Rattle.join_base.specs.declared.message.Source.{Source}
-use Rattle.join_base.specs.declared.message.Message.{Message}
+use Rattle.fair_semantics.specs.Fair.{Sent}
 use Rattle.turn_lock.specs.declared.view.View.{View}
 use Rattle.turn_lock.specs.declared.view.Turn.TheVariants.{Free}
 use Rattle.turn_lock.specs.View.{IsFirst, HasSeenAll}
@@ -13,9 +12,9 @@ use Rattle.actor_cells.specs.declared.cell.LinkTally.{LinkTally}
 use Rattle.actor_pool.specs.declared.helper.Helper.{Helper}
 use Rattle.actor_pool.specs.declared.pool.Pool.{Pool}
 
--- what a seat knows of cells: their tags, the messages that arrived with their sources, and tallies
+-- what a seat knows of cells: their tags, their histories, and tallies
 abbrev pub SeatView : Type 0
-SeatView = View CellTag (Source × Message) (List LinkTally)
+SeatView = View CellTag Sent (List LinkTally)
 
 -- what the seat of a helper knows, and what its pass knows
 abbrev pub seat_of : Helper → SeatView

@@ -1,5 +1,5 @@
 -- What a turn does to the view of its seat, and to the cell.
-use Rattle.std.specs.Prelude.{◌≡◌, ℕ, ◌+◌, [], ◌∷◌, Option, Some}
+use Rattle.std.specs.Prelude.{◌≡◌, ◌⊎◌, ℕ, ◌+◌, [], ◌∷◌, Option, Some}
 use Rattle.turn_lock.specs.Steps.{Gets, GivesBack, Misses}
 use Rattle.actor_cells.specs.declared.cell.Cell.{Cell}
 use Rattle.actor_cells.specs.declared.serving.Turned.{Turned}
@@ -41,7 +41,18 @@ pub record RefusedTurn (i : ℕ) (v w : SeatView) : Type 0 where
   pub turn : TakesTurn i found left v w
   pub refused : IsRefusing left
 
+-- a turn that was given back, after which what stands beside the pool found no memory for what it was shown
+pub record UnshownTurn (i : ℕ) (v w : SeatView) : Type 0 where
+  pub found : Cell
+  pub left : Cell
+  pub turn : TakesTurn i found left v w
+
 -- the claim found another seat at the actor, or there was no memory
 abbrev pub Faulted : ℕ → TurnFault → SeatView → SeatView → Type 0
 Faulted i (Busy word) v w = Misses i v word w
 Faulted i NoMemory v w = RefusedTurn i v w
+
+-- the same with something beside the pool, which may want memory for what it is shown
+abbrev pub FaultedBeside : Type 0 → ℕ → TurnFault → SeatView → SeatView → Type 0
+FaultedBeside wants i (Busy word) v w = Misses i v word w
+FaultedBeside wants i NoMemory v w = RefusedTurn i v w ⊎ (wants × UnshownTurn i v w)

@@ -75,6 +75,7 @@ pub(crate) fn behind_locks(
         turns,
         tickets,
         ended: AtomicU64::new(0),
+        failed: AtomicU64::new(0),
         feeds,
         actors,
     };

@@ -1,5 +1,5 @@
 //! The pool. It stands in a file alone, since the words on it import this file.
-ghost use Rattle.std.specs.Prelude.{◌≡◌};
+ghost use Rattle.std.specs.Prelude.{◌≡◌, ◌≤◌};
 ghost use Rattle.turn_lock.specs.Seats.{cell_count};
 ghost use Rattle.ready_queue.specs.Passes.{ticket_count};
 
@@ -15,8 +15,11 @@ pub struct Pool {
     pub(crate) tickets: Tickets,
     // How many feeds have ended. No clause rests on it.
     pub(crate) ended: AtomicU64,
+    // 1 from the first turn on that found no memory. No clause rests on it.
+    pub(crate) failed: AtomicU64,
     pub(crate) feeds: u32,
     pub(crate) actors: u32,
+    ghost few: { actors ≤ 32 },
     ghost counted: { cell_count turns ≡ actors },
     ghost ticketed: { ticket_count tickets ≡ actors },
 }

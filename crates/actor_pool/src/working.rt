@@ -1,13 +1,18 @@
 //! A worker: turns by tickets.
 ghost use Rattle.std.specs.Prelude.{◌≡◌, ◌+◌, ◌<◌, ◌≤◌, false, OnOk, IfOk};
+ghost use Rattle.actor_pool.specs.Beside.{FitsSeen};
 ghost use Rattle.actor_pool.specs.Helpers.{IsHelperOf, GoesOn, seat_of, pass_of, actor_count};
-ghost use Rattle.actor_pool.specs.Working.{Works, FindsNone};
+ghost use Rattle.actor_pool.specs.Working.{Works, WorksFrom, FindsNone};
 
 use crate::announcing::announce_due;
+use crate::beside::Beside;
+use crate::failing::{has_failed, tell_failure};
 use crate::gate::Gate;
 use crate::helper::Helper;
+use crate::nobody::Nobody;
 use crate::pool::Pool;
-use crate::turning::{TurnFault, turn};
+use crate::source::{PoolQueue, TicketSource};
+use crate::turning::{TurnFault, turn_beside};
 use join_base::{NoMemory, Steps};
 use std::alloc::Global;
 use std::marker::Brand;
@@ -17,86 +22,128 @@ use std::sync::ledger::{Blank, Ledger};
 use std::thread;
 
 impl Pool {
-    // Whether all feeds have ended. No clause rests on the answer.
-    fn feeds_ended(&self) -> bool {
-        self.ended.load(Ordering::SeqCst) >= u64::from(self.feeds)
+    /// How many actors the pool has.
+    pub fn actors(&self) -> u32
+        ensures { result ≡ actor_count self.now }
+    {
+        self.actors
     }
 }
 
+/// Whether all feeds have ended. No clause rests on the answer.
+pub fn feeds_ended(pool: &Pool) -> bool {
+    pool.ended.load(Ordering::SeqCst) >= u64::from(pool.feeds)
+}
+
 // Takes a turn at an actor whose ticket was taken, and announces what is due then.
-fn work_at<R: Wait, G: Gate, L: Ledger>(
+fn work_at<R: Wait, G: Gate, S: TicketSource, B: Beside<R>, L: Ledger>(
     rt: &R,
     alloc: Global,
     pool: &Pool,
     helper: &mut Helper,
+    source: &mut S,
+    beside: &mut B,
     gate: &G,
     thread: u32,
     actor: u32,
     steps: &mut Steps<L>,
 ) -> Result<(), NoMemory>
     requires own { IsHelperOf pool.now helper.old }
+    requires belongs { S.belongs source.old (actor_count pool.now) }
+    requires fits { FitsSeen B.fits (seat_of helper.old) beside.old }
     requires exists { actor < actor_count pool.now }
+    ensures belongs { S.belongs source.new (actor_count pool.now) }
     ensures goes_on { GoesOn pool.now helper.old helper.new }
     ensures taken { (pass_of helper.new).taken ≡ (pass_of helper.old).taken }
+    ensures took { S.took source.new (actor_count pool.now) ≡ S.took source.old (actor_count pool.now) }
     ensures claimed { (seat_of helper.old).claims + 1 ≤ (seat_of helper.new).claims }
+    ensures nones { S.nones source.old (pass_of helper.old) ≤ S.nones source.new (pass_of helper.new) }
+    ensures fits { FitsSeen B.fits (seat_of helper.new) beside.new }
 {
     pool.turns.unmark(&mut helper.seat, actor);
     gate.enter(thread, actor);
-    match turn(alloc, pool, helper, actor, steps) {
+    match turn_beside(rt, alloc, pool, helper, actor, beside, steps) {
         Ok(_) => {
-            announce_due(rt, pool, helper);
+            announce_due(rt, pool, helper, source);
             Ok(())
         }
         Err(TurnFault::Busy { word: _ }) => Ok(()),
-        Err(TurnFault::NoMemory) => Err(NoMemory),
+        Err(TurnFault::NoMemory) => {
+            tell_failure(pool);
+            Err(NoMemory)
+        }
     }
 }
 
-// Takes a ticket and works at its actor. False where there was no ticket.
-fn work_once<R: Wait, G: Gate, L: Ledger>(
+// Takes a ticket and works at its actor. False where there was no ticket. `NoMemory` too where a turn of another thread
+// found none.
+fn work_once<R: Wait, G: Gate, S: TicketSource, B: Beside<R>, L: Ledger>(
     rt: &R,
     alloc: Global,
     pool: &Pool,
     helper: &mut Helper,
+    source: &mut S,
+    beside: &mut B,
     gate: &G,
     thread: u32,
     steps: &mut Steps<L>,
 ) -> Result<bool, NoMemory>
     requires own { IsHelperOf pool.now helper.old }
-    ensures works { Works pool.now helper.old helper.new }
+    requires belongs { S.belongs source.old (actor_count pool.now) }
+    requires fits { FitsSeen B.fits (seat_of helper.old) beside.old }
+    ensures belongs { S.belongs source.new (actor_count pool.now) }
+    ensures works { WorksFrom pool.now (S.took source.old (actor_count pool.now)) (S.took source.new (actor_count pool.now)) helper.old helper.new }
     ensures none { IfOk result (λ found. found ≡ false → FindsNone helper.old helper.new) }
+    ensures found_none { IfOk result (λ found. found ≡ false → S.nones source.old (pass_of helper.old) + 1 ≤ S.nones source.new (pass_of helper.new)) }
+    ensures nones { OnOk result (S.nones source.old (pass_of helper.old) ≤ S.nones source.new (pass_of helper.new)) }
+    ensures fits { FitsSeen B.fits (seat_of helper.new) beside.new }
 {
-    let Some(actor) = pool.tickets.take(rt, &mut helper.pass) else {
+    let failed = has_failed(pool);
+    if failed {
+        return Err(NoMemory);
+    }
+    let Some(actor) = source.find(rt, pool, helper) else {
         return Ok(false);
     };
     if actor >= pool.actors {
         return Ok(true);
     }
-    work_at(rt, alloc, pool, helper, gate, thread, actor, steps)?;
+    work_at(
+        rt, alloc, pool, helper, source, beside, gate, thread, actor, steps,
+    )?;
     Ok(true)
 }
 
 // Works until the feeds have ended and no ticket is found after that.
-fn work_on<R: Wait, G: Gate, L: Ledger>(
+fn work_on<R: Wait, G: Gate, S: TicketSource, B: Beside<R>, L: Ledger>(
     rt: &R,
     alloc: Global,
     pool: &Pool,
     helper: &mut Helper,
+    source: &mut S,
+    beside: &mut B,
     gate: &G,
     thread: u32,
     blank: Blank,
 ) -> Result<(), NoMemory>
     requires own { IsHelperOf pool.now helper.old }
+    requires belongs { S.belongs source.old (actor_count pool.now) }
+    requires fits { FitsSeen B.fits (seat_of helper.old) beside.old }
     requires name { blank.name ≡ L.name }
     requires blank_parts { blank.parts ≡ L.parts }
     requires some { 0 < L.parts }
-    ensures works { Works pool.now helper.old helper.new }
+    ensures belongs { S.belongs source.new (actor_count pool.now) }
+    ensures works { WorksFrom pool.now (S.took source.old (actor_count pool.now)) (S.took source.new (actor_count pool.now)) helper.old helper.new }
     ensures none { OnOk result (FindsNone helper.old helper.new) }
+    ensures found_none { OnOk result (S.nones source.old (pass_of helper.old) + 1 ≤ S.nones source.new (pass_of helper.new)) }
+    ensures fits { FitsSeen B.fits (seat_of helper.new) beside.new }
 {
     let mut steps = Steps::<L>::new(blank);
     for _ in rt.forever() {
-        let ended = pool.feeds_ended();
-        let found = work_once(rt, alloc, pool, helper, gate, thread, &mut steps)?;
+        let ended = feeds_ended(pool);
+        let found = work_once(
+            rt, alloc, pool, helper, source, beside, gate, thread, &mut steps,
+        )?;
         if !found {
             if ended {
                 return Ok(());
@@ -107,11 +154,94 @@ fn work_on<R: Wait, G: Gate, L: Ledger>(
     unreachable!()
 }
 
+/// Takes tickets of a source, and at each of them a turn at its actor, until all feeds have ended and no ticket is found
+/// after that. It calls `enter` of the gate before each turn. Each actor that it takes a turn at is shown to what stands
+/// beside. After a turn it announces, by the source, the actors that the turn sent to, and the same actor where it may
+/// have more to do. The worker's number is counted from 1.
+///
+/// What is kept of each actor fits what the helper has seen of it, before and after, whatever the answer. `NoMemory`
+/// comes where a turn found no memory, of this worker or of another thread of the pool; each turn was given back then.
+/// It may wait.
+pub fn work_from_beside<R: Wait, G: Gate, S: TicketSource, B: Beside<R>>(
+    rt: &R,
+    alloc: Global,
+    pool: &Pool,
+    helper: &mut Helper,
+    source: &mut S,
+    beside: &mut B,
+    gate: &G,
+    thread: u32,
+) -> Result<(), NoMemory>
+    requires own { IsHelperOf pool.now helper.old }
+    requires belongs { S.belongs source.old (actor_count pool.now) }
+    requires fits { FitsSeen B.fits (seat_of helper.old) beside.old }
+    ensures belongs { S.belongs source.new (actor_count pool.now) }
+    ensures works { WorksFrom pool.now (S.took source.old (actor_count pool.now)) (S.took source.new (actor_count pool.now)) helper.old helper.new }
+    ensures none { OnOk result (FindsNone helper.old helper.new) }
+    ensures found_none { OnOk result (S.nones source.old (pass_of helper.old) + 1 ≤ S.nones source.new (pass_of helper.new)) }
+    ensures fits { FitsSeen B.fits (seat_of helper.new) beside.new }
+{
+    let blank = Blank::new(1);
+    work_on::<R, G, S, B, Brand>(rt, alloc, pool, helper, source, beside, gate, thread, blank)
+}
+
+/// Works from a source of tickets, as `work_from_beside` does, with nobody beside the pool.
+pub fn work_from<R: Wait, G: Gate, S: TicketSource>(
+    rt: &R,
+    alloc: Global,
+    pool: &Pool,
+    helper: &mut Helper,
+    source: &mut S,
+    gate: &G,
+    thread: u32,
+) -> Result<(), NoMemory>
+    requires own { IsHelperOf pool.now helper.old }
+    requires belongs { S.belongs source.old (actor_count pool.now) }
+    ensures belongs { S.belongs source.new (actor_count pool.now) }
+    ensures works { WorksFrom pool.now (S.took source.old (actor_count pool.now)) (S.took source.new (actor_count pool.now)) helper.old helper.new }
+    ensures none { OnOk result (FindsNone helper.old helper.new) }
+    ensures found_none { OnOk result (S.nones source.old (pass_of helper.old) + 1 ≤ S.nones source.new (pass_of helper.new)) }
+{
+    work_from_beside(rt, alloc, pool, helper, source, &mut Nobody, gate, thread)
+}
+
+/// Works from the pool's queue of tickets, as `work` does. Each actor that it takes a turn at is shown to what stands
+/// beside.
+///
+/// What is kept of each actor fits what the helper has seen of it, before and after, whatever the answer.
+pub fn work_beside<R: Wait, G: Gate, B: Beside<R>>(
+    rt: &R,
+    alloc: Global,
+    pool: &Pool,
+    helper: &mut Helper,
+    beside: &mut B,
+    gate: &G,
+    thread: u32,
+) -> Result<(), NoMemory>
+    requires own { IsHelperOf pool.now helper.old }
+    requires fits { FitsSeen B.fits (seat_of helper.old) beside.old }
+    ensures works { Works pool.now helper.old helper.new }
+    ensures none { OnOk result (FindsNone helper.old helper.new) }
+    ensures fits { FitsSeen B.fits (seat_of helper.new) beside.new }
+{
+    work_from_beside(
+        rt,
+        alloc,
+        pool,
+        helper,
+        &mut PoolQueue,
+        beside,
+        gate,
+        thread,
+    )
+}
+
 /// Takes tickets, and at each of them a turn at its actor, until all feeds have ended and no ticket is found after
 /// that. It calls `enter` of the gate before each turn. After a turn it announces the actors that the turn sent to, and
 /// the same actor where it may have more to do. The worker's number is counted from 1.
 ///
-/// At `NoMemory` the turn was given back. It may wait.
+/// `NoMemory` comes where a turn found no memory, of this worker or of another thread of the pool; each turn was given
+/// back then. It may wait.
 pub fn work<R: Wait, G: Gate>(
     rt: &R,
     alloc: Global,
@@ -124,5 +254,5 @@ pub fn work<R: Wait, G: Gate>(
     ensures works { Works pool.now helper.old helper.new }
     ensures none { OnOk result (FindsNone helper.old helper.new) }
 {
-    work_on::<R, G, Brand>(rt, alloc, pool, helper, gate, thread, Blank::new(1))
+    work_beside(rt, alloc, pool, helper, &mut Nobody, gate, thread)
 }

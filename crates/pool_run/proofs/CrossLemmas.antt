@@ -18,7 +18,8 @@ use denote.Hole.FixSend.{Sends, fix_send}
 use Rattle.guard_eval.specs.contracts.term.Operand as Operand
 use Rattle.guard_eval.specs.declared.conjunct.Atom.TheBlock as block
 use denote.Param.SendFields.{variants_send, declared_send, declared_sync, as_row_send}
-use Rattle.std.proofs.Crossing.{crosses}
+use Rattle.std.proofs.Crossing.{crosses, frees, send as heap-send}
+use Rattle.std.proofs.MapsCrossingOver.{BTreeSet-send}
 use denote.Model.Goals.{send, one_law, tied_goals, has_of, part_has, All}
 use denote.Model.Cut.{split_one}
 use denote.Model.Local.{Parts, rows}
@@ -27,6 +28,10 @@ use Rattle.match_tree.specs.contracts.node.Node.TheKnot as knot
 use Rattle.match_tree.specs.contracts.row.Row as Row
 use Rattle.std.specs.contracts.vec.Vec as Vec
 use Rattle.std.specs.contracts.collections.VecDeque as VecDeque
+use Rattle.std.specs.contracts.collections.BTreeSet as BTreeSet
+use Rattle.std.specs.declared.cmp.Ord as ord
+use Rattle.std.specs.declared.cmp.PartialEq as eq
+use Rattle.std.specs.declared.cmp.PartialOrd as partial
 use Rattle.std.specs.contracts.alloc.Global as Global
 use Rattle.std.specs.contracts.impls.GlobalAllocator.TheImpl.{ghosts}
 use Rattle.guard_eval.specs.contracts.conjunct.Atom as Atom
@@ -40,6 +45,8 @@ use Rattle.script_types.specs.contracts.plan.Statement as Statement
 use Rattle.script_types.specs.contracts.plan.Rule as Rule
 use Rattle.match_tree.specs.contracts.tree.MatchTree as MatchTree
 use Rattle.mailbox_core.specs.contracts.mailbox.Mailbox as Mailbox
+use Rattle.value_index.specs.contracts.entry.Entry as IndexEntry
+use Rattle.value_index.specs.contracts.index.ValueIndex as ValueIndex
 use Rattle.actor_turn.specs.contracts.outbox.Outbox as Outbox
 use Rattle.fair_semantics.specs.contracts.run.Effect as Effect
 use Rattle.fair_semantics.specs.contracts.run.Firing as Firing
@@ -222,6 +229,16 @@ tree-send = record {
   leaving = λ k d w. tt;
 }
 
+-- an index has a set of entries, which is sent whole: a search that goes down into it runs out of steps
+number-entry-send : IsSend IndexEntry.the_row
+number-entry-send = search (sendable, crosses) depth 40
+
+set-send : (o : ord.Ghosts (IndexEntry.the_row).Denot) (e : eq.Ghosts (IndexEntry.the_row).Denot) (p : partial.Ghosts (IndexEntry.the_row).Denot) → IsSend (BTreeSet.the_field IndexEntry.the_row Global.the_row o e p ghosts).row
+set-send o e p = BTreeSet-send IndexEntry.the_row Global.the_row o e p ghosts number-entry-send heap-send frees
+
+index-send : IsSend ValueIndex.the_row
+index-send = search (sendable, crosses, set-send) depth 40 fits 100000
+
 mailbox-send : IsSend Mailbox.the_row
 mailbox-send = search (sendable, crosses, message-send) depth 40 fits 100000
 
@@ -258,7 +275,7 @@ outward-send : IsSend Outward.the_row
 outward-send = declared_send Outward.the_type (search (sendable, crosses) depth 40, (search (sendable, crosses, in-send) depth 40, tt))
 
 actor-send : IsSend Actor.the_row
-actor-send = search (sendable, crosses, rule-send, mailbox-send, tree-send, firing-send, outbox-send, entry-send) depth 40 fits 100000
+actor-send = search (sendable, crosses, rule-send, mailbox-send, tree-send, index-send, firing-send, outbox-send, entry-send) depth 40 fits 100000
 
 boxed-send : IsSend (Box.the_row Actor.the_row Global.the_row ghosts)
 boxed-send = box-send Actor.the_row actor-send
@@ -275,7 +292,7 @@ poster-send = search (sendable, crosses, seat-send, cell-send, outward-send) dep
 -- ---- what threads share, are given and give back
 
 pub pool-sync : IsSync Pool.the_row
-pool-sync = declared_sync Pool.the_type (search (sendable, crosses, shared-sync, lease-sync, cell-send) depth 40 fits 100000, (search (sendable, crosses, shared-sync, lease-sync) depth 40 fits 100000, (search (sendable, crosses) depth 40, (search (sendable, crosses) depth 40, (search (sendable, crosses) depth 40, tt)))))
+pool-sync = declared_sync Pool.the_type (search (sendable, crosses, shared-sync, lease-sync, cell-send) depth 40 fits 100000, (search (sendable, crosses, shared-sync, lease-sync) depth 40 fits 100000, (search (sendable, crosses) depth 40, (search (sendable, crosses) depth 40, (search (sendable, crosses) depth 40, (search (sendable, crosses) depth 40, tt))))))
 
 part-send : IsSend FeedPart.the_row
 part-send = declared_send FeedPart.the_type (search (sendable, crosses, poster-send) depth 40, (search (sendable, crosses, helper-send) depth 40, (search (sendable, crosses, message-send) depth 40, tt)))

@@ -6,6 +6,7 @@ use Rattle.std.proofs.lemmas.Option.{slice_get_within}
 use mathlib.Core.List.{IsPrefix}
 use Rattle.join_base.specs.declared.message.Message.{Message}
 use Rattle.script_types.specs.declared.plan.Plan.{Plan}
+use Rattle.fair_semantics.specs.declared.run.ActorRun.{ActorRun}
 use Rattle.fair_semantics.specs.declared.run.Limits.{Limits}
 use Rattle.fair_semantics.specs.declared.run.Run.{Run}
 use Rattle.cell_links.specs.declared.poster.Poster as ends
@@ -15,6 +16,7 @@ use Rattle.actor_cells.specs.declared.cell.CellTag.{CellTag}
 use Rattle.actor_cells.specs.AllLawful.{AreLawful}
 use Rattle.actor_cells.specs.Lawful.{cell_tag}
 use Rattle.actor_cells.specs.Prepared.{AreWired}
+use Rattle.actor_cells.proofs.HistoryLemmas.{prefix-bare}
 use Rattle.actor_cells.specs.Tags.{AreTagsOf}
 use Rattle.pool_settling.specs.Settling.{AreFeedsWith, GoesOnFrom, IsLinkedToAll, IsScheduledOverAll, TakesFew}
 use Rattle.actor_pool.specs.declared.poster.Poster.{Poster}
@@ -66,12 +68,18 @@ cell-at [] i lt = absurd (omega (arith, lt))
 cell-at (c ∷ cells) zero lt = (c, refl)
 cell-at (c ∷ cells) (suc i) lt = cell-at cells i (omega (arith, lt))
 
-pub seen-on : (v : SeatView) (cells : List Cell) (run : Run) → HoldSeen v cells → GoesOnFrom cells run → GoesOnFromSeen v run
-seen-on v cells run hold on actor own at =
-    let within = slice_get_within run.actors actor own at in
-    let long = on.count in
-    let found = cell-at cells actor (omega (arith, within, long)) in
-    prefix-trans _ _ _ (hold actor found.0 found.1) (on.history actor found.0 own found.1 at)
+module _ (plan : Plan) (posters : List Poster) (own : List ends.Poster) (v : SeatView) (cells : List Cell) (run : Run) (same : own ≡ map feed_ends posters) (hold : HoldSeen v cells) (on : GoesOnFrom plan own [] cells run) where
+  cell_of : (actor : ℕ) (mine : ActorRun) → slice_get run.actors actor ≡ Some mine → (c : Cell) × (slice_get cells actor ≡ Some c)
+  cell_of actor mine at =
+      let within = slice_get_within run.actors actor mine at in
+      let long = on.count in
+      cell-at cells actor (omega (arith, within, long))
+
+  pub seen-on : GoesOnFromSeen plan posters v run
+  seen-on = record {
+    arrivals = λ actor mine at. let c = cell_of actor mine at in prefix-trans _ _ _ (prefix-bare _ _ (hold actor c.0 c.1)) (on.arrivals actor c.0 mine c.1 at);
+    history = λ feeds sent actor mine at. let c = cell_of actor mine at in prefix-trans _ _ _ (hold actor c.0 c.1) (on.history feeds (sent-with plan posters own feeds same sent) actor c.0 mine c.1 at);
+  }
 
 pub few-taken : (v : SeatView) (posters : List Poster) (own : List ends.Poster) (cells : List Cell) (run : Run) → own ≡ map feed_ends posters → AreLawful cells → map cell_tag cells ≡ v.tags → HoldSeen v cells → TakesFew own cells [] run → FinishesFew v posters run
 few-taken v posters own cells run same lawful tags seen few = record { cells = cells; lawful = lawful; tags = tags; seen = seen; few = subst (λ (l : List ends.Poster). TakesFew l cells [] run) same few }

@@ -13,7 +13,8 @@ use Rattle.turn_lock.specs.View.{seen_of}
 use Rattle.cell_links.specs.Ends.{sent_to}
 use Rattle.actor_cells.specs.declared.cell.Cell.{Cell}
 use Rattle.actor_cells.specs.AllLawful.{AreLawful}
-use Rattle.actor_cells.specs.Lawful.{cell_tag, noted}
+use Rattle.actor_cells.specs.History.{bare, history_shown, noted}
+use Rattle.actor_cells.specs.Lawful.{cell_tag}
 use Rattle.pool_settling.specs.Settling.{TakesFew}
 use Rattle.actor_pool.specs.declared.poster.Poster.{Poster}
 use Rattle.actor_pool.specs.Helpers.{SeatView}
@@ -35,9 +36,11 @@ IsLinkedToSent plan limits posters run = (feeds : List (List (ℕ × Message))) 
 abbrev pub IsScheduledOverSent : Plan → Limits → List Poster → Run → Type 0
 IsScheduledOverSent plan limits posters run = (feeds : List (List (ℕ × Message))) → AreSent plan posters feeds → IsScheduled plan limits feeds run
 
--- the arrivals of each actor go on from what was seen of it
-abbrev pub GoesOnFromSeen : SeatView → Run → Type 0
-GoesOnFromSeen v run = (actor : ℕ) (own : ActorRun) → slice_get run.actors actor ≡ Some own → IsPrefix (seen_of v actor) (map noted own.entries)
+-- the arrivals of each actor go on from what was seen of it; and over each list of such feeds they do so with the
+-- stamps that they carried
+pub record GoesOnFromSeen (plan : Plan) (posters : List Poster) (v : SeatView) (run : Run) : Type 0 where
+  pub arrivals : (actor : ℕ) (own : ActorRun) → slice_get run.actors actor ≡ Some own → IsPrefix (map bare (seen_of v actor)) (map noted own.entries)
+  pub history : (feeds : List (List (ℕ × Message))) → AreSent plan posters feeds → (actor : ℕ) (own : ActorRun) → slice_get run.actors actor ≡ Some own → IsPrefix (seen_of v actor) (history_shown feeds run actor own)
 
 -- there are lawful cells, one with each tag of the view, in order, that go on from what was seen. Beyond what these
 -- were given, the actors of the run were given at most what had gone over links and not come, what waited in outboxes,

@@ -38,7 +38,7 @@ fn finish_in<L: Ledger>(
     ensures linked { IfOk result (IsLinkedToSent plan.now limits posters.items) }
     ensures scheduled { IfOk result (IsScheduledOverSent plan.now limits posters.items) }
     ensures version { IfOk result (λ run. run.version ≡ 2) }
-    ensures seen { IfOk result (GoesOnFromSeen (seat_of helper)) }
+    ensures seen { IfOk result (GoesOnFromSeen plan.now posters.items (seat_of helper)) }
     ensures few { IfOk result (FinishesFew (seat_of helper) posters.items) }
 {
     let mut steps = Steps::<L>::new(blank);
@@ -48,7 +48,8 @@ fn finish_in<L: Ledger>(
 
 /// Closes a pool that has all its parts, brings what still waits to the actors, and gives the run that they show. The
 /// run is linked to the feeds whose posts to each actor are what the posters sent, and it is that of one schedule of
-/// single steps. The arrivals of each actor go on from what the helper had seen of it.
+/// single steps. The arrivals of each actor go on from what the helper had seen of it, with the stamps that they
+/// carried.
 ///
 /// There are lawful cells, one with each tag that the helper knows, in order, that go on from what it had seen. Beyond
 /// what these were given, the actors are given at most what waits in links and in outboxes, and 17 messages for each
@@ -71,7 +72,7 @@ pub fn finish(
     ensures linked { IfOk result (IsLinkedToSent plan.now limits posters.items) }
     ensures scheduled { IfOk result (IsScheduledOverSent plan.now limits posters.items) }
     ensures version { IfOk result (λ run. run.version ≡ 2) }
-    ensures seen { IfOk result (GoesOnFromSeen (seat_of helper)) }
+    ensures seen { IfOk result (GoesOnFromSeen plan.now posters.items (seat_of helper)) }
     ensures few { IfOk result (FinishesFew (seat_of helper) posters.items) }
 {
     finish_in::<Brand>(alloc, plan, limits, pool, posters, helper, Blank::new(1))

@@ -6,7 +6,7 @@
 //!
 //! A contract sees of `run_pool` what `actor_system` says of a run on one thread: the run is linked to the feeds, and
 //! it is that of one schedule of single steps. `finish` says of its run that it is linked to whatever the posters sent,
-//! and that each actor's arrivals go on from what the helper had seen of it.
+//! and that each actor's arrivals go on from what the helper had seen of it, with the stamps that they carried.
 //!
 //! Only tested, by `thread_tests`: that the calls answer `Ok` where memory is ample, with no worker and with several,
 //! and that two workers are at their turns at once. Not said: that `run_pool` returns, that a thread is ever started,

@@ -1,5 +1,5 @@
 -- Actors that stand by what came and went: a post that was taken, and one that arrived.
-use Rattle.std.proofs.Common.{◌≡◌, ◌∙◌, ◌⊎◌, inl, inr, ℕ, zero, suc, ◌+◌, ◌-◌, ◌*◌, ◌<◌, ◌≤◌, List, [], ◌∷◌, ◌++◌, length, map, set, Bool, true, false, None, Some, slice_get, refl, ap, sym, subst, arith, append_assoc}
+use Rattle.std.proofs.Common.{◌≡◌, ◌∙◌, ◌⊎◌, inl, inr, ℕ, zero, suc, ◌+◌, ◌-◌, ◌*◌, ◌<◌, ◌≤◌, List, [], ◌∷◌, ◌++◌, length, set, Bool, true, false, None, Some, slice_get, refl, ap, sym, subst, arith, append_assoc}
 use Rattle.std.specs.Prelude.{if◌then◌else◌, ◌==◌, ◌&&◌, ◌||◌}
 use Rattle.std.specs.List.{AllByRecursion, sum_by}
 use Rattle.std.proofs.lemmas.Bool.{cases_lt}
@@ -14,11 +14,11 @@ use Rattle.fair_semantics.specs.Step.{Setting, State}
 use Rattle.fair_semantics.specs.Linked.{same_source}
 use Rattle.run_order.proofs.EventLemmas.{same_number}
 use Rattle.run_order.proofs.SourceLemmas.{is_itself}
-use Rattle.actor_turn.specs.Held.{Held, first_of, new_entries, posts_behind, posts_for, without_first}
+use Rattle.actor_turn.specs.Held.{Held, History, first_of, new_entries, posts_behind, posts_for, without_first}
 use Rattle.actor_turn.proofs.PostsLemmas.{length-posts_behind}
-use Rattle.actor_cells.specs.Lawful.{IsAmong, noted}
+use Rattle.actor_cells.specs.Lawful.{IsAmong}
 use Rattle.actor_cells.proofs.CellLemmas.{prefix-refl}
-use Rattle.pool_settling.specs.Standing.{GoesOn, StandsBy, actor_count, arrivals_of, feed_count}
+use Rattle.pool_settling.specs.Standing.{GoesOn, StandsBy, actor_count, feed_count}
 use Rattle.pool_settling.specs.Ends.{GoOn}
 use Rattle.pool_settling.specs.Rounds.{AreMembers, Brings, BringsPosts, Came, IsMember, OutboxHasNone, StandAs, StandFed}
 use Rattle.pool_settling.specs.Work.{all_weight, all_work, given_of, late_sum, weight_of, work_of}
@@ -107,6 +107,7 @@ not_other j k e same = let clash : true ≡ false = sym (is_itself j) ∙ ap (λ
 pub record Takes (target : ℕ) (post : Stamped) (posts : List Stamped) (before after : Held) : Type 0 where
   pub setting : after.setting ≡ before.setting
   pub state : after.state ≡ before.state
+  pub history : after.history ≡ before.history
   pub outbox : after.outbox ≡ set before.outbox target posts
   pub waits : posts_for before.outbox target ≡ post ∷ posts
 
@@ -117,7 +118,7 @@ takes_first target post before after first taken = by (posts_for before.outbox t
     by [] e f t = absurd cc
     by (p ∷ posts) e f t =
         let same : p ≡ post = cc in
-        (posts, record { setting = ap (λ (h : Held). h.setting) t; state = ap (λ (h : Held). h.state) t; outbox = ap (λ (h : Held). h.outbox) t; waits = e ∙ ap (λ (x : Stamped). x ∷ posts) same })
+        (posts, record { setting = ap (λ (h : Held). h.setting) t; state = ap (λ (h : Held). h.state) t; history = ap (λ (h : Held). h.history) t; outbox = ap (λ (h : Held). h.outbox) t; waits = e ∙ ap (λ (x : Stamped). x ∷ posts) same })
 
 -- none was there, and nothing changed
 pub takes_none : (target : ℕ) (before after : Held) → None ≡ first_of (posts_for before.outbox target) → after ≡ without_first before target (posts_for before.outbox target) → (after ≡ before) × (posts_for before.outbox target ≡ [])
@@ -133,7 +134,7 @@ module _ (target : ℕ) (post : Stamped) (posts : List Stamped) (before after : 
     told = takes.setting;
     feeds = ap (λ (s : State). length s.late.feeds) takes.state;
     actors = ap (λ (s : State). length s.late.actors) takes.state;
-    history = subst (λ (s : State). IsPrefix (arrivals_of before) (map noted s.entries)) (sym takes.state) (prefix-refl (arrivals_of before));
+    history = subst (IsPrefix before.history) (sym takes.history) (prefix-refl before.history);
   }
 
   took_boxes : length after.outbox ≡ length before.outbox
@@ -166,11 +167,13 @@ module _ (target : ℕ) (post : Stamped) (posts : List Stamped) (before after : 
 
       took_stands : StandsBy came gone after
       took_stands =
-          subst (λ (x : (Setting × State) × List (List Stamped)). StandsBy came gone (record { setting = x.0.0; state = x.0.1; trees = after.trees; outbox = x.1; lent = after.lent })) (λ i. ((sym takes.setting i, sym takes.state i), sym takes.outbox i)) record {
+          subst (λ (x : ((Setting × State) × History) × List (List Stamped)). StandsBy came gone (record { setting = x.0.0.0; state = x.0.0.1; history = x.0.1; trees = after.trees; outbox = x.1; lent = after.lent }))
+          (λ i. (((sym takes.setting i, sym takes.state i), sym takes.history i), sym takes.outbox i)) record {
             outboxes = length-set before.outbox target posts ∙ stands.outboxes;
             known = stands.known;
             in_order = stands.in_order;
             late = stands.late;
+            history = stands.history;
             fair = stands.fair;
             posted = λ other l. left other (target == other) refl ∙ stands.posted other l;
           }

@@ -23,7 +23,7 @@ use Rattle.fair_semantics.specs.declared.run.Run.{Run}
 use Rattle.fair_semantics.specs.Step.{Setting, State, opening}
 use Rattle.fair_semantics.specs.Fair.{after_all, run_of, setting_of}
 use Rattle.fair_semantics.specs.Fits.{IsFrom1To, SourceFits}
-use Rattle.fair_semantics.specs.Linked.{IsLinked, entry_posts, feed_posts, given_by, numbers_from, sources}
+use Rattle.fair_semantics.specs.Linked.{IsLinked, arrived, entry_posts, feed_posts, given_by, numbers_from, posts_in, posts_of, sources}
 use Rattle.fair_semantics.specs.Schedule.{System}
 use Rattle.fair_semantics.proofs.ListLemmas.{mapped_at}
 use Rattle.run_fits.specs.FitsLaw.{RulesFit}
@@ -38,15 +38,17 @@ use Rattle.actor_turn.specs.Held.{AreLimits, Held}
 use Rattle.cell_links.specs.declared.poster.Poster.{Poster}
 use Rattle.cell_links.specs.Ends.{sent_to}
 use Rattle.actor_cells.specs.declared.cell.Cell.{Cell}
-use Rattle.actor_cells.specs.Lawful.{IsAmong, cell_tag, held_in, history_of, noted}
+use Rattle.actor_cells.specs.History.{bare}
+use Rattle.actor_cells.specs.Lawful.{IsAmong, cell_tag, held_in, history_of}
 use Rattle.actor_cells.proofs.CellLemmas.{prefix-trans}
+use Rattle.actor_cells.proofs.HistoryLemmas.{bare-arrived, prefix-bare}
 use Rattle.actor_cells.specs.Tags.{AreTagsOf, IsTagOf}
 use Rattle.cell_settling.specs.Settled.{cell_sent, poster_sent, went}
-use Rattle.pool_settling.specs.Standing.{actor_count, arrivals_of, feed_count}
+use Rattle.pool_settling.specs.Standing.{actor_count, feed_count}
 use Rattle.pool_settling.specs.Drained.{AreDrained}
 use Rattle.pool_settling.specs.Ends.{GoOn}
 use Rattle.pool_settling.specs.Rounds.{AreMembers, BringsPosts, HaveFeeds, IsFedRest, OutboxIsEmpty, StandFed, fed_rest, run_in}
-use Rattle.pool_settling.specs.Settling.{GoesOnFrom, IsLinkedToAll, IsScheduledOverAll, TakesFew, given_by_run, given_in}
+use Rattle.pool_settling.specs.Settling.{AreFeedsWith, GoesOnFrom, IsLinkedToAll, IsScheduledOverAll, TakesFew, given_by_run, given_in}
 use Rattle.pool_settling.specs.Flat.{actors_in}
 use Rattle.pool_settling.specs.Work.{HaveSmallBodies, all_given, all_weight, all_work, given_of, weight_of, work_of}
 use Rattle.pool_settling.proofs.EndLemmas.{go_trans}
@@ -210,6 +212,19 @@ module _ (plan : Plan) (limits : Limits) (feeds : List (List (ℕ × Message))) 
   came_all (Feed (suc k)) actor l = s.from_feeds actor (suc k) (subst (λ (n : ℕ). actor < n) (sym are.count) l) ∙ all_fed k actor l
   came_all (Actor a) actor l = posted_all a actor l
 
+  -- it is what the run shows that the sources sent
+  pub came_shown : (actor : ℕ) → actor < length plan.actors → (source : Source) → s.came actor source ≡ posts_of feeds (map run_in helds) source actor
+  came_shown actor l (Feed zero) = came_all (Feed zero) actor l
+  came_shown actor l (Feed (suc k)) = came_all (Feed (suc k)) actor l
+  came_shown actor l (Actor a) = posted_all a actor l ∙ by (slice_get helds a) refl
+    where
+      by : (o : Option Held) → slice_get helds a ≡ o → flat_map (entry_posts actor) (states a).entries ≡ posts_in actor (slice_get (map run_in helds) a)
+      by None e =
+          let past = none_past helds a e in
+          let count = length-map helds run_in in
+          ap (λ (o : Option Held). flat_map (entry_posts actor) (state_of start o).entries) e ∙ ap (posts_in actor) (sym (slice_get_past (map run_in helds) a (omega (arith, past, count))))
+      by (Some held) e = ap (λ (o : Option Held). flat_map (entry_posts actor) (state_of start o).entries) e ∙ ap (posts_in actor) (sym (map_get run_in helds a held e))
+
   links : (source : Source) (actor : ℕ) → came actor source ++ system.waiting source actor ≡ sent_by feeds system source actor
   links source actor =
       elim (cases_lt actor (length plan.actors)) [
@@ -312,9 +327,20 @@ module _ (plan : Plan) (limits : Limits) (posters : List Poster) (cells : List C
   stands : StandFed all third
   stands = brought.fed all (fed (λ actor feed. went posters cells (Feed feed) actor) (drained_fed plan limits posters cells first tags drained))
 
+  are : (feeds : List (List (ℕ × Message))) → AreFeedsWith plan posters rest feeds → AreOf plan limits (length feeds) third
+  are feeds these = of_on plan limits (length feeds) first third (subst (λ (n : ℕ). AreOf plan limits n first) (sym these.count) (drained_of plan limits posters cells first tags drained)) on
+
+  each_fed : (feeds : List (List (ℕ × Message))) → AreFeedsWith plan posters rest feeds → (k actor : ℕ) → actor < length plan.actors → all actor (suc k) ≡ feed_posts actor (slice_get feeds k)
+  each_fed feeds these k actor l = by (slice_get posters k) refl
+    where
+      by : (o : Option Poster) → slice_get posters k ≡ o → poster_sent o actor ++ feed_posts actor (slice_get rest k) ≡ feed_posts actor (slice_get feeds k)
+      by (Some poster) e = sym (these.each k actor poster l e)
+      by None e =
+          let past = none_past posters k e in
+          ap (feed_posts actor) (slice_get_past rest k (omega (arith, past, few))) ∙ sym (ap (feed_posts actor) (slice_get_past feeds k (omega (arith, past, these.count))))
+
   pub run_linked : IsLinkedToAll plan limits posters rest run
   run_linked feeds these =
-      let are = of_on plan limits (length feeds) first third (subst (λ (n : ℕ). AreOf plan limits n first) (sym these.count) (drained_of plan limits posters cells first tags drained)) on in
       let can : IsServable plan limits feeds = record {
         typed = typed;
         rules = rules;
@@ -323,16 +349,7 @@ module _ (plan : Plan) (limits : Limits) (posters : List Poster) (cells : List C
         values = these.values;
       } in
       subst (IsLinked plan limits feeds) (sym (is ∙ ap (λ (n : ℕ). record { version = 2; limits = limits; feeds = n; actors = map run_in third }) (sym these.count)))
-      (fed_linked plan limits feeds all third are stands none (λ actor. refl) each can)
-    where
-      each : (k actor : ℕ) → actor < length plan.actors → all actor (suc k) ≡ feed_posts actor (slice_get feeds k)
-      each k actor l = by (slice_get posters k) refl
-        where
-          by : (o : Option Poster) → slice_get posters k ≡ o → poster_sent o actor ++ feed_posts actor (slice_get rest k) ≡ feed_posts actor (slice_get feeds k)
-          by (Some poster) e = sym (these.each k actor poster l e)
-          by None e =
-              let past = none_past posters k e in
-              ap (feed_posts actor) (slice_get_past rest k (omega (arith, past, few))) ∙ sym (ap (feed_posts actor) (slice_get_past feeds k (omega (arith, past, these.count))))
+      (fed_linked plan limits feeds all third (are feeds these) stands none (λ actor. refl) (each_fed feeds these) can)
 
   pub run_scheduled : IsScheduledOverAll plan limits posters rest run
   run_scheduled feeds these = runs_are_schedules plan limits feeds run (run_linked feeds these) (ap (λ (r : Run). r.version) is)
@@ -353,12 +370,25 @@ module _ (plan : Plan) (limits : Limits) (posters : List Poster) (cells : List C
       let given : given_in run ≡ all_given third = ap (λ (r : Run). given_in r) is ∙ runs_given third in
       omega (arith, first_weight, second_weight, third_weight, start, end, given)
 
-  pub run_from : GoesOnFrom cells run
+  -- the history of a cell begins what came to its actor
+  from_cell : (actor : ℕ) (cell : Cell) (own : ActorRun) → slice_get cells actor ≡ Some cell → slice_get run.actors actor ≡ Some own → IsPrefix (history_of cell) (arrived (stands.came actor) own.entries)
+  from_cell actor cell own at mine =
+      let m = mapped_at run_in third actor own (ap (λ (r : Run). slice_get r.actors actor) (sym is) ∙ mine) in
+      let h = there first actor (let l = slice_get_within third actor m.0 m.1 in let n = on.count in omega (arith, l, n)) in
+      let goes_on = prefix-trans (history_of cell) h.0.history m.0.history (drained.each actor cell h.0 at h.1).on.history (on.each actor h.0 m.0 h.1 m.1).history in
+      subst (λ (r : ActorRun). IsPrefix (history_of cell) (arrived (stands.came actor) r.entries)) m.2 (subst (IsPrefix (history_of cell)) (stands.stand actor m.0 m.1).history goes_on)
+
+  run_count : length run.actors ≡ length third
+  run_count = ap (λ (r : Run). length r.actors) is ∙ length-map third run_in
+
+  pub run_from : GoesOnFrom plan posters rest cells run
   run_from = record {
-    count = ap (λ (r : Run). length r.actors) is ∙ length-map third run_in ∙ on.count ∙ drained.count;
-    history = λ actor cell own at mine.
-        let m = mapped_at run_in third actor own (ap (λ (r : Run). slice_get r.actors actor) (sym is) ∙ mine) in
-        let h = there first actor (let l = slice_get_within third actor m.0 m.1 in let n = on.count in omega (arith, l, n)) in
-        subst (λ (r : ActorRun). IsPrefix (history_of cell) (map noted r.entries)) m.2
-        (prefix-trans (arrivals_of (held_in cell)) (arrivals_of h.0) (arrivals_of m.0) (drained.each actor cell h.0 at h.1).on.history (on.each actor h.0 m.0 h.1 m.1).history);
+    count = run_count ∙ on.count ∙ drained.count;
+    arrivals = λ actor cell own at mine. subst (IsPrefix (map bare (history_of cell))) (bare-arrived (stands.came actor) own.entries) (prefix-bare (history_of cell) (arrived (stands.came actor) own.entries) (from_cell actor cell own at mine));
+    history = λ feeds these actor cell own at mine.
+        let count = run_count ∙ (are feeds these).count in
+        let within : actor < length plan.actors = (let l = slice_get_within run.actors actor own mine in omega (arith, l, count)) in
+        let shows : (source : Source) → stands.came actor source ≡ posts_of feeds run.actors source actor =
+        λ source. came_shown plan limits feeds all third (are feeds these) stands none (λ a. refl) (each_fed feeds these) actor within source ∙ ap (λ (r : Run). posts_of feeds r.actors source actor) (sym is) in
+        subst (λ (posts : Source → List Stamped). IsPrefix (history_of cell) (arrived posts own.entries)) (λ i source. shows source i) (from_cell actor cell own at mine);
   }

@@ -1,27 +1,28 @@
 -- An actor that stands by what came and went, with one message more.
-use Rattle.std.proofs.Common.{◌≡◌, ◌∙◌, ◌⊎◌, inl, inr, ℕ, zero, suc, ◌+◌, ◌-◌, ◌*◌, ◌<◌, ◌≤◌, List, [], ◌∷◌, ◌++◌, length, length-append, map, drop, Bool, true, false, refl, ap, sym, subst, arith, append_assoc}
+use Rattle.std.proofs.Common.{◌≡◌, ◌∙◌, ◌⊎◌, inl, inr, ℕ, zero, suc, ◌+◌, ◌-◌, ◌*◌, ◌<◌, ◌≤◌, List, [], ◌∷◌, ◌++◌, length, length-append, drop, Bool, true, false, refl, ap, sym, subst, arith, append_assoc}
 use Rattle.std.specs.Prelude.{if◌then◌else◌}
 use Rattle.std.specs.List.{AllByRecursion, flat_map, sum_by}
-use Rattle.std.proofs.lemmas.List.{append-nil, map-append}
+use Rattle.std.proofs.lemmas.List.{append-nil}
 use Rattle.join_base.specs.declared.message.Source.{Source}
 use Rattle.join_base.specs.declared.message.Stamped.{Stamped}
 use Rattle.script_types.specs.declared.plan.Rule.{Rule}
 use Rattle.fair_semantics.specs.declared.run.Entry.{Entry}
 use Rattle.fair_semantics.specs.declared.run.Outcome.{Outcome}
 use Rattle.fair_semantics.specs.Step.{Setting, State, fair_step}
-use Rattle.fair_semantics.specs.Linked.{entry_posts, same_source, sources}
+use Rattle.fair_semantics.specs.Linked.{arrived, entry_posts, same_source, sources}
 use Rattle.fair_semantics.proofs.SizeLemmas.{Sized, sized}
 use Rattle.run_order.proofs.EventLemmas.{same_source_is}
 use Rattle.post_ring.specs.declared.link_out.LinkOut.{LinkOut}
 use Rattle.post_ring.specs.Links.{has_met, received, waiting}
 use Rattle.post_ring.specs.Looks.{IsEmptyLook, IsTake}
-use Rattle.actor_turn.specs.Held.{Held, new_entries, posts_behind, posts_for}
+use Rattle.actor_turn.specs.Held.{Held, history_with, new_entries, posts_behind, posts_for}
 use Rattle.actor_turn.proofs.PostsLemmas.{length-posts_behind}
-use Rattle.actor_cells.specs.Lawful.{IsAmong, noted}
+use Rattle.actor_cells.specs.Lawful.{IsAmong}
 use Rattle.actor_cells.proofs.CellLemmas.{prefix-refl, prefix-trans}
+use Rattle.actor_cells.proofs.HistoryLemmas.{history-more, history-on}
 use Rattle.actor_cells.proofs.LinkLemmas.{among}
 use Rattle.actor_cells.proofs.StateLemmas.{NoOthers, Stands, grows, one_none, one_of, stands_more}
-use Rattle.pool_settling.specs.Standing.{Arrives, GoesOn, StandsBy, actor_count, arrivals_of, came_with, feed_count}
+use Rattle.pool_settling.specs.Standing.{Arrives, GoesOn, StandsBy, actor_count, came_with, feed_count}
 use Rattle.pool_settling.specs.Work.{HasSmallBodies, late_sum, weight_of}
 use Rattle.pool_settling.proofs.WorkLemmas.{step_weight}
 
@@ -43,11 +44,12 @@ behind_at from new (ps ∷ outbox) (suc k) within =
 pub record Steps (source : Source) (post : Stamped) (before after : Held) : Type 0 where
   pub told : after.setting ≡ before.setting
   pub state : after.state ≡ (fair_step before.setting before.state source post.message post.stamp).0
+  pub history : after.history ≡ history_with before source post.message post.stamp
   pub outbox : after.outbox ≡ posts_behind 0 (new_entries before.state after.state) before.outbox
 
 pub steps_by : (source : Source) (post : Stamped) (before after : Held) (outcome : Outcome) → after.setting ≡ before.setting → fair_step before.setting before.state source post.message post.stamp ≡ (after.state, outcome)
-    → after.outbox ≡ posts_behind 0 (new_entries before.state after.state) before.outbox → Steps source post before after
-steps_by source post before after outcome told step outbox = record { told = told; state = sym (ap (λ (s : State × Outcome). s.0) step); outbox = outbox }
+    → after.history ≡ history_with before source post.message post.stamp → after.outbox ≡ posts_behind 0 (new_entries before.state after.state) before.outbox → Steps source post before after
+steps_by source post before after outcome told step history outbox = record { told = told; state = sym (ap (λ (s : State × Outcome). s.0) step); history = history; outbox = outbox }
 
 module _ (source : Source) (post : Stamped) (before after : Held) (step : Steps source post before after) where
   size : Sized (feed_count before) (actor_count before) (fair_step before.setting before.state source post.message post.stamp).0.late
@@ -69,7 +71,7 @@ module _ (source : Source) (post : Stamped) (before after : Held) (step : Steps 
   boxes = step.outbox ∙ ap (λ (es : List Entry). posts_behind 0 es before.outbox) (ap (λ (s : State). drop (length before.state.entries) s.entries) step.state ∙ (grows before.setting before.state source post).behind)
 
   pub stepped_on : GoesOn before after
-  stepped_on = record { told = step.told; feeds = feeds; actors = actors; history = (map noted new, sym (ap (map noted) entries ∙ map-append noted before.state.entries new)) }
+  stepped_on = record { told = step.told; feeds = feeds; actors = actors; history = history-on before source post.message post.stamp after.history step.history }
 
   -- at most one more was given, with what is left
   pub stepped_weight : HasSmallBodies before → weight_of after ≤ weight_of before + 1
@@ -89,10 +91,18 @@ module _ (source : Source) (post : Stamped) (before after : Held) (step : Steps 
         by (inl e) = e
         by (inr a) = absurd (one_none other (sources (feed_count before) (actor_count before)) (one_of (feed_count before) (actor_count before) other (among (feed_count before) (actor_count before) other a)) n)
 
+    before_stands : Stands before.setting (feed_count before) (actor_count before) came before.state
+    before_stands = record { in_order = stands.in_order; late = stands.late; fair = stands.fair }
+
     state : Stands before.setting (feed_count before) (actor_count before) now (fair_step before.setting before.state source post.message post.stamp).0
     state =
-        stands_more before.setting (feed_count before) (actor_count before) came now before.state (record { in_order = stands.in_order; late = stands.late; fair = stands.fair }) none source post
+        stands_more before.setting (feed_count before) (actor_count before) came now before.state before_stands none source post
         (among (feed_count before) (actor_count before) source from) more
+
+    now_history : after.history ≡ arrived now after.state.entries
+    now_history =
+        subst (λ (s : State). after.history ≡ arrived now s.entries) (sym step.state)
+        (history-more before.setting (feed_count before) (actor_count before) came now before.state before_stands none source post more before.history after.history stands.history step.history)
 
     now_known : (other : Source) → (now other ≡ []) ⊎ IsAmong (feed_count before) (actor_count before) other
     now_known other = by (same_source source other) refl (more other) (stands.known other)
@@ -117,6 +127,7 @@ module _ (source : Source) (post : Stamped) (before after : Held) (step : Steps 
           known = subst (λ (x : ℕ × ℕ). (other : Source) → (now other ≡ []) ⊎ IsAmong x.0 x.1 other) (λ i. (sym feeds i, sym actors i)) now_known;
           in_order = s.in_order;
           late = s.late;
+          history = now_history;
           fair = s.fair;
           posted = λ target within. now_posted target (subst (λ (n : ℕ). target < n) actors within);
         }
@@ -124,10 +135,10 @@ module _ (source : Source) (post : Stamped) (before after : Held) (step : Steps 
 -- ---- some arrivals
 
 pub on_refl : (held : Held) → GoesOn held held
-on_refl held = record { told = refl; feeds = refl; actors = refl; history = prefix-refl (arrivals_of held) }
+on_refl held = record { told = refl; feeds = refl; actors = refl; history = prefix-refl held.history }
 
 pub on_trans : (a b c : Held) → GoesOn a b → GoesOn b c → GoesOn a c
-on_trans a b c p q = record { told = q.told ∙ p.told; feeds = q.feeds ∙ p.feeds; actors = q.actors ∙ p.actors; history = prefix-trans (arrivals_of a) (arrivals_of b) (arrivals_of c) p.history q.history }
+on_trans a b c p q = record { told = q.told ∙ p.told; feeds = q.feeds ∙ p.feeds; actors = q.actors ∙ p.actors; history = prefix-trans a.history b.history c.history p.history q.history }
 
 pub came_same : (came : Source → List Stamped) (source : Source) (those : List Stamped) → came source ≡ those → (other : Source) → came_with came source those other ≡ came other
 came_same came source those e other = by (same_source source other) refl

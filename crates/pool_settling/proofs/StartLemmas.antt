@@ -50,6 +50,7 @@ stands_cell c lawful = record {
   known = λ source. known_from (feed_count (held_in c)) (actor_count (held_in c)) c.inward.items source lawful.tag.known;
   in_order = lawful.in_order;
   late = lawful.late;
+  history = lawful.history;
   fair = lawful.fair;
   posted = lawful.posted;
 }

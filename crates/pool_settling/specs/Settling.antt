@@ -14,7 +14,8 @@ use Rattle.schedule_law.specs.Reached.{FeedsFit}
 use Rattle.cell_links.specs.declared.poster.Poster.{Poster}
 use Rattle.cell_links.specs.Ends.{poster_links, sent_to}
 use Rattle.actor_cells.specs.declared.cell.Cell.{Cell}
-use Rattle.actor_cells.specs.Lawful.{history_of, noted}
+use Rattle.actor_cells.specs.History.{bare, history_shown, noted}
+use Rattle.actor_cells.specs.Lawful.{history_of}
 use Rattle.pool_settling.specs.Flat.{actors_in, received_count, went_count}
 use Rattle.pool_settling.specs.Work.{all_given, all_work}
 
@@ -33,10 +34,12 @@ IsLinkedToAll plan limits posters rest run = (feeds : List (List (ℕ × Message
 abbrev pub IsScheduledOverAll : Plan → Limits → List Poster → List (List (ℕ × Message)) → Run → Type 0
 IsScheduledOverAll plan limits posters rest run = (feeds : List (List (ℕ × Message))) → AreFeedsWith plan posters rest feeds → IsScheduled plan limits feeds run
 
--- a run of each cell, in order, whose arrivals begin with the history of the cell
-pub record GoesOnFrom (cells : List Cell) (run : Run) : Type 0 where
+-- a run of each cell, in order, whose arrivals begin with the history of the cell; and over each list of such feeds
+-- they do so with the stamps that they carried
+pub record GoesOnFrom (plan : Plan) (posters : List Poster) (rest : List (List (ℕ × Message))) (cells : List Cell) (run : Run) : Type 0 where
   pub count : length run.actors ≡ length cells
-  pub history : (actor : ℕ) (cell : Cell) (own : ActorRun) → slice_get cells actor ≡ Some cell → slice_get run.actors actor ≡ Some own → IsPrefix (history_of cell) (map noted own.entries)
+  pub arrivals : (actor : ℕ) (cell : Cell) (own : ActorRun) → slice_get cells actor ≡ Some cell → slice_get run.actors actor ≡ Some own → IsPrefix (map bare (history_of cell)) (map noted own.entries)
+  pub history : (feeds : List (List (ℕ × Message))) → AreFeedsWith plan posters rest feeds → (actor : ℕ) (cell : Cell) (own : ActorRun) → slice_get cells actor ≡ Some cell → slice_get run.actors actor ≡ Some own → IsPrefix (history_of cell) (history_shown feeds run actor own)
 
 -- how many messages the actors of a run were given: those that they recorded, and the late ones
 abbrev pub given_by_run : ActorRun → ℕ

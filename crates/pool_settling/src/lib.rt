@@ -10,11 +10,12 @@
 //! for each arrival that an actor may still record (`all_work`).
 //!
 //! A contract sees of the run that it is linked to each list of feeds that are what the posters sent and then the rest
-//! (`AreFeedsWith`), that it is that of one schedule over them, and that each actor's arrivals begin with the history
-//! of its cell (`GoesOnFrom`), so that no run made anew will do. In between it sees of an actor whether it stands by
-//! what came and what went (`StandsBy`): its state is the fair semantics of what came from each source, and what went
-//! to each target and then what waits for it is what its bodies posted. Both sides of each post that is brought grow by
-//! it. That the calls answer something else than `NoMemory` is tested, on 600 posts to one actor.
+//! (`AreFeedsWith`), that it is that of one schedule over them, and that each actor's arrivals, with the stamps that
+//! they carried, begin with the history of its cell (`GoesOnFrom`), so that no run made anew will do. In between it
+//! sees of an actor whether it stands by what came and what went (`StandsBy`): its history and its state are by what
+//! came from each source, and what went to each target and then what waits for it is what its bodies posted. Both sides
+//! of each post that is brought grow by it. That the calls answer something else than `NoMemory` is tested, on 600
+//! posts to one actor.
 #![tactic(auto)]
 
 mod apart;

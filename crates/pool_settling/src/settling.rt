@@ -26,7 +26,8 @@ use std::sync::ledger::Ledger;
 ///
 /// `rest` has, for the first feeds in order, the posts that their posters did not send. Those for no actor of the plan
 /// are passed over. The run is linked to the feeds whose posts to each actor are what the poster sent there, and then
-/// those of its list in `rest`. The actors are given at most what waits in links, in `rest` and in outboxes, and 17
+/// those of its list in `rest`. Each actor's arrivals begin with the history of its cell, with the stamps that they
+/// carried. The actors are given at most what waits in links, in `rest` and in outboxes, and 17
 /// messages for each arrival that they may still record. `NoMemory` is that of the lists of ends and runs,
 /// or of an arrival.
 pub fn settle_with<L: Ledger>(
@@ -49,7 +50,7 @@ pub fn settle_with<L: Ledger>(
     ensures linked { IfOk result (λ run. IsLinkedToAll plan.now limits posters.items rest run) }
     ensures scheduled { IfOk result (λ run. IsScheduledOverAll plan.now limits posters.items rest run) }
     ensures version { IfOk result (λ run. run.version ≡ 2) }
-    ensures history { IfOk result (λ run. GoesOnFrom cells.items run) }
+    ensures history { IfOk result (λ run. GoesOnFrom plan.now posters.items rest cells.items run) }
     ensures few { IfOk result (λ run. TakesFew posters.items cells.items rest run) }
 {
     let runs = Vec::with_capacity(alloc, plan.actors.len())?;
@@ -84,7 +85,7 @@ pub fn settle<L: Ledger>(
     ensures linked { IfOk result (λ run. IsLinkedToAll plan.now limits posters.items [] run) }
     ensures scheduled { IfOk result (λ run. IsScheduledOverAll plan.now limits posters.items [] run) }
     ensures version { IfOk result (λ run. run.version ≡ 2) }
-    ensures history { IfOk result (λ run. GoesOnFrom cells.items run) }
+    ensures history { IfOk result (λ run. GoesOnFrom plan.now posters.items [] cells.items run) }
     ensures few { IfOk result (λ run. TakesFew posters.items cells.items [] run) }
 {
     settle_with(

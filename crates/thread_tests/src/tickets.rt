@@ -1,6 +1,6 @@
 //! What a queue of tickets does, on one thread and on two, where memory is ample.
-ghost use Rattle.std.specs.Prelude.{◌≡◌, ◌≤◌, IsOk, Some};
-ghost use Rattle.ready_queue.specs.View.{first_view};
+ghost use Rattle.std.specs.Prelude.{◌≡◌, ◌<◌, ◌≤◌, IfSome, IsOk, MatchOption, OnErr, OnOk, Some};
+ghost use Rattle.ready_queue.specs.View.{IsSole, ManyWait, WaitsFirst, first_view, with_put, with_taken};
 ghost use Rattle.ready_queue.specs.Passes.{view_of, ticket_count, IsOf, IsSamePass};
 
 use join_base::NoMemory;
@@ -11,15 +11,41 @@ use std::test::Fail;
 use std::thread;
 use std::thread::Threads;
 
+// Puts a ticket, under the rule in use.
+fn put_ticket<R: Wait>(
+    rt: &R,
+    tickets: &Tickets,
+    pass: &mut TicketPass,
+    actor: u32,
+) -> Result<(), Full>
+    requires own { IsOf tickets.now pass.old }
+    requires exists { actor < ticket_count tickets.now }
+    ensures own { IsSamePass pass.old pass.new }
+    ensures put { OnOk result (view_of pass.new ≡ with_put actor (view_of pass.old)) }
+    ensures sole { OnErr result (IsSole (view_of pass.old) → ManyWait (ticket_count tickets.now) (view_of pass.old)) }
+{
+    tickets.put(rt, pass, actor)
+}
+
+// Takes a ticket, under the rule in use.
+fn take_ticket<R: Wait>(rt: &R, tickets: &Tickets, pass: &mut TicketPass) -> Option<u32>
+    requires own { IsOf tickets.now pass.old }
+    ensures own { IsSamePass pass.old pass.new }
+    ensures taken { IfSome result (λ actor. view_of pass.new ≡ with_taken actor (view_of pass.old)) }
+    ensures sole { IsSole (view_of pass.old) → MatchOption result (ManyWait 0 (view_of pass.old)) (λ actor. WaitsFirst actor (view_of pass.old)) }
+{
+    tickets.take(rt, pass)
+}
+
 fn a_queue_of_two_tickets<R: Wait>(rt: &R, alloc: Global) -> Result<bool, NoMemory> {
     let (tickets, mut pass) = Tickets::new(alloc, 2)?;
-    let first = tickets.put(rt, &mut pass, 0);
-    let second = tickets.put(rt, &mut pass, 1);
-    let third = tickets.put(rt, &mut pass, 0);
+    let first = put_ticket(rt, &tickets, &mut pass, 0);
+    let second = put_ticket(rt, &tickets, &mut pass, 1);
+    let third = put_ticket(rt, &tickets, &mut pass, 0);
     let put = first.is_ok() && second.is_ok() && third == Err(Full);
-    let one = tickets.take(rt, &mut pass);
-    let two = tickets.take(rt, &mut pass);
-    let none = tickets.take(rt, &mut pass);
+    let one = take_ticket(rt, &tickets, &mut pass);
+    let two = take_ticket(rt, &tickets, &mut pass);
+    let none = take_ticket(rt, &tickets, &mut pass);
     Ok(put && one == Some(0) && two == Some(1) && none == None)
 }
 
@@ -35,8 +61,8 @@ fn put_and_take<R: Wait>(
     ensures put { IsOk result.0 }
     ensures taken { result.1 ≡ Some 1 }
 {
-    let put = tickets.put(rt, pass, 1);
-    let taken = tickets.take(rt, pass);
+    let put = put_ticket(rt, tickets, pass, 1);
+    let taken = take_ticket(rt, tickets, pass);
     (put, taken)
 }
 
@@ -49,9 +75,9 @@ fn a_new_queue_gives_back_what_was_put<R: Wait>(rt: &R, alloc: Global) -> Result
 fn a_pass_is_split_off_and_joined<R: Wait>(rt: &R, alloc: Global) -> Result<bool, NoMemory> {
     let (tickets, mut first) = Tickets::new(alloc, 32)?;
     let mut second = tickets.split_pass(&mut first)?;
-    let put = tickets.put(rt, &mut second, 31);
+    let put = put_ticket(rt, &tickets, &mut second, 31);
     tickets.join_pass(&mut first, second);
-    let taken = tickets.take(rt, &mut first);
+    let taken = take_ticket(rt, &tickets, &mut first);
     Ok(put.is_ok() && taken == Some(31))
 }
 
@@ -73,7 +99,7 @@ fn put_often<R: Wait>(rt: &R, tickets: &Tickets, mut pass: TicketPass) -> (u64, 
 {
     let mut put = 0u64;
     for turn in 0..10000u32 {
-        if tickets.put(rt, &mut pass, turn % 2).is_ok() {
+        if put_ticket(rt, tickets, &mut pass, turn % 2).is_ok() {
             put = put.saturating_add(1);
         }
     }
@@ -92,7 +118,7 @@ fn take_often<R: Wait>(
 {
     let mut taken = 0u64;
     for _ in 0..times {
-        if tickets.take(rt, &mut pass).is_some() {
+        if take_ticket(rt, tickets, &mut pass).is_some() {
             taken = taken.saturating_add(1);
         }
     }

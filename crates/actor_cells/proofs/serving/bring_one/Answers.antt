@@ -15,7 +15,7 @@ pub returns-in-Ok-clause-brought : goal.returns-in-Ok-clause-brought
 returns-in-Ok-clause-brought g c =
     let took = taken c.args.link.now c.take.new.self c.in-Some.stamped c.take.result c.in-Some.is c.take.ensures.taken in
     let step = c.in-Ok.ensures in
-    record { message = c.in-Some.stamped; identity = took.identity; took = took.taken; looks = took.looks; setting = step.setting; state = sym (ap (λ p. p.0) step.step); partial = step.partial; outbox = step.outbox }
+    record { message = c.in-Some.stamped; identity = took.identity; took = took.taken; looks = took.looks; setting = step.setting; state = sym (ap (λ p. p.0) step.step); history = step.history; partial = step.partial; outbox = step.outbox }
 
 pub returns-in-Err-clause-refused : goal.returns-in-Err-clause-refused
 returns-in-Err-clause-refused g c =

@@ -1,9 +1,15 @@
-use Rattle.std.proofs.Common.{◌∙◌}
+use Rattle.std.proofs.Common.{◌∙◌, arith}
 use Rattle.actor_pool.proofs.HelperLemmas.{goes-further}
 use Rattle.actor_pool.proofs.announcing.announce_due.Goals as goal
 
 pub loop-actor-preserved : goal.loop-actor-preserved
-loop-actor-preserved g c = record {
-  goes_on = goes-further _ _ _ _ c.loop-actor.invariant.goes_on c.announce_if_due.ensures.goes_on;
-  taken = c.announce_if_due.ensures.taken ∙ c.loop-actor.invariant.taken;
-}
+loop-actor-preserved g c =
+    let before = c.loop-actor.invariant in
+    let step = c.announce_if_due.ensures in
+    record {
+      belongs = step.belongs;
+      goes_on = goes-further _ _ _ _ before.goes_on step.goes_on;
+      taken = step.taken ∙ before.taken;
+      took = step.took ∙ before.took;
+      nones = omega (arith, before.nones, step.nones);
+    }

@@ -1,8 +1,6 @@
 use Rattle.std.proofs.Common.{refl}
 use Rattle.actor_pool.specs.declared.helper.Helper.{Helper}
-use Rattle.actor_pool.specs.Helpers.{seat_of, pass_of}
 use Rattle.actor_pool.proofs.HelperLemmas.{flag-goes, goes-further}
-use Rattle.actor_pool.proofs.WorkLemmas.{announces-taken}
 use Rattle.actor_pool.proofs.announcing.announce_if_due.Goals as goal
 
 pub returns-clause-goes_on : goal.returns-clause-goes_on
@@ -10,8 +8,3 @@ returns-clause-goes_on g c =
     let a = c.args.helper.now in
     let b : Helper = record a { seat = c.flag.new.seat } in
     goes-further c.args.pool.now a b _ (flag-goes c.args.pool.now a b c.args.actor c.requires.own c.flag.ensures.own refl c.flag.ensures.flagged) c.announce.ensures.goes_on
-
-pub returns-clause-taken : goal.returns-clause-taken
-returns-clause-taken g c =
-    let b : Helper = record c.args.helper.now { seat = c.flag.new.seat } in
-    announces-taken c.args.actor (seat_of b) (seat_of c.announce.new.helper) (pass_of b) (pass_of c.announce.new.helper) c.announce.ensures.announced

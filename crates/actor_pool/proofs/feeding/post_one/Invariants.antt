@@ -1,6 +1,7 @@
 use Rattle.std.proofs.Common.{◌≡◌}
 use Rattle.cell_links.specs.Ends.{SendsSame}
-use Rattle.actor_pool.specs.Helpers.{GoesOn}
+use Rattle.actor_pool.specs.Beside.{FitsSeen}
+use Rattle.actor_pool.specs.Helpers.{GoesOn, seat_of}
 use Rattle.actor_pool.specs.Posters.{IsPosterOf, feed_tag, feed_links}
 use Rattle.actor_pool.proofs.feeding.post_one.Given as goal
 
@@ -11,4 +12,5 @@ invariant-loop g l = record {
   goes_on : GoesOn l.pool l.initial.helper l.helper;
   same : SendsSame (feed_links l.initial.poster) (feed_links l.poster);
   message : l.message ≡ l.initial.message;
+  fits : FitsSeen g.B.Beside.fits (seat_of l.helper) l.beside;
 }

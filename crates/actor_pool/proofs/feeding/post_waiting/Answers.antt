@@ -20,6 +20,7 @@ loop-actor-preserved g c =
       poster = step.poster;
       tag = step.tag ∙ before.tag;
       goes_on = goes-further _ _ _ _ before.goes_on step.goes_on;
+      fits = step.fits;
       exist = All-front (λ (x : ℕ × Message). x.0 < actor_count c.args.pool.now) c.loop-actor.waiting.items c.pop.new.self.items post last before.exist;
       sent = (
         done ++ post ∷ [],

@@ -1,45 +1,9 @@
-use Rattle.std.proofs.Common.{refl, subst, ◌∙◌}
-use Rattle.turn_lock.specs.Seats.{view_of}
-use Rattle.actor_cells.specs.declared.cell.Cell.{Cell}
-use Rattle.actor_cells.specs.Lawful.{tally_of}
-use Rattle.actor_cells.specs.Served.{Turns}
+use Rattle.std.proofs.lemmas.Result.{IfErr-weaker}
+use Rattle.actor_pool.specs.declared.turning.TurnFault.{TurnFault}
 use Rattle.actor_pool.specs.Helpers.{seat_of}
-use Rattle.actor_pool.proofs.HelperLemmas.{turn-taken, turn-went, went-goes}
+use Rattle.actor_pool.proofs.BesideLemmas.{nobody-faulted}
 use Rattle.actor_pool.proofs.turning.turn.Goals as goal
 
-pub returns-in-Ok-served-clause-goes_on : goal.returns-in-Ok-served-clause-goes_on
-returns-in-Ok-served-clause-goes_on g c =
-    let back = c.release-asked.ensures.back in
-    let went = turn-went c.args.actor c.in-Ok.held.index (seat_of c.args.helper.now) (view_of c.try_turn.new.seat) (view_of c.release-asked.new.seat)
-    c.in-Ok.held.cell c.cell.result.now c.serve_noted-served.new.cell back.0 c.in-Ok.ensures.place c.cell.ensures.value c.in-Ok.ensures.got c.in-Ok-served.ensures.kept back.2 in
-    went-goes c.args.pool.now c.args.helper.now _ c.args.actor c.in-Ok.held.cell c.serve_noted-served.new.cell c.requires.own (c.release-asked.ensures.own.0 ∙ c.in-Ok.ensures.own.0) refl went
-
-pub returns-in-Err-served-clause-goes_on : goal.returns-in-Err-served-clause-goes_on
-returns-in-Err-served-clause-goes_on g c =
-    let back = c.release-asked.ensures.back in
-    let went = turn-went c.args.actor c.in-Ok.held.index (seat_of c.args.helper.now) (view_of c.try_turn.new.seat) (view_of c.release-asked.new.seat)
-    c.in-Ok.held.cell c.cell.result.now c.serve_noted-served.new.cell back.0 c.in-Ok.ensures.place c.cell.ensures.value c.in-Ok.ensures.got c.in-Err-served.ensures.kept back.2 in
-    went-goes c.args.pool.now c.args.helper.now _ c.args.actor c.in-Ok.held.cell c.serve_noted-served.new.cell c.requires.own (c.release-asked.ensures.own.0 ∙ c.in-Ok.ensures.own.0) refl went
-
-pub returns-in-Ok-served-clause-served : goal.returns-in-Ok-served-clause-served
-returns-in-Ok-served-clause-served g c =
-    let back = c.release-asked.ensures.back in
-    record {
-      found = c.in-Ok.held.cell;
-      left = c.serve_noted-served.new.cell;
-      turn = turn-taken c.args.actor c.in-Ok.held.index (seat_of c.args.helper.now) (view_of c.try_turn.new.seat) (view_of c.release-asked.new.seat)
-          c.in-Ok.held.cell c.cell.result.now c.serve_noted-served.new.cell back.0 c.in-Ok.ensures.place c.cell.ensures.value c.in-Ok.ensures.got c.in-Ok-served.ensures.kept back.2;
-      tallies = subst (λ (x : Cell). Turns (tally_of x) (tally_of c.serve_noted-served.new.cell) c.in-Ok-served.turned) c.cell.ensures.value c.in-Ok-served.ensures.turned;
-      sent = c.in-Ok-served.ensures.sent;
-    }
-
-pub returns-in-Err-served-clause-fault : goal.returns-in-Err-served-clause-fault
-returns-in-Err-served-clause-fault g c =
-    let back = c.release-asked.ensures.back in
-    record {
-      found = c.in-Ok.held.cell;
-      left = c.serve_noted-served.new.cell;
-      turn = turn-taken c.args.actor c.in-Ok.held.index (seat_of c.args.helper.now) (view_of c.try_turn.new.seat) (view_of c.release-asked.new.seat)
-          c.in-Ok.held.cell c.cell.result.now c.serve_noted-served.new.cell back.0 c.in-Ok.ensures.place c.cell.ensures.value c.in-Ok.ensures.got c.in-Err-served.ensures.kept back.2;
-      refused = c.in-Err-served.ensures.refused;
-    }
+pub returns-clause-fault : goal.returns-clause-fault
+returns-clause-fault g c =
+    IfErr-weaker c.turn_beside.result _ _ (λ (fault : TurnFault) h. nobody-faulted c.args.actor fault (seat_of c.args.helper.now) (seat_of c.turn_beside.new.helper) h) c.turn_beside.ensures.fault

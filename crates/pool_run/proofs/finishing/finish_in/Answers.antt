@@ -13,7 +13,7 @@ pub returns-clause-scheduled : goal.returns-clause-scheduled
 returns-clause-scheduled g c = IfOk-weaker c.settle.result _ _ (λ run. scheduled-sent c.args.plan.now c.args.limits c.args.posters.items _ run c.in_ok-cells.ensures.ends) c.settle.ensures.scheduled
 
 pub returns-clause-seen : goal.returns-clause-seen
-returns-clause-seen g c = IfOk-weaker c.settle.result _ _ (λ run. seen-on (seat_of c.args.helper) c.in_ok-cells.cells.items run c.in_ok-cells.ensures.seen) c.settle.ensures.history
+returns-clause-seen g c = IfOk-weaker c.settle.result _ _ (λ run. seen-on c.args.plan.now c.args.posters.items _ (seat_of c.args.helper) c.in_ok-cells.cells.items run c.in_ok-cells.ensures.ends c.in_ok-cells.ensures.seen) c.settle.ensures.history
 
 pub returns-clause-few : goal.returns-clause-few
 returns-clause-few g c = IfOk-weaker c.settle.result _ _ (λ run. few-taken (seat_of c.args.helper) c.args.posters.items _ c.in_ok-cells.cells.items run c.in_ok-cells.ensures.ends c.in_ok-cells.ensures.lawful c.in_ok-cells.ensures.tags c.in_ok-cells.ensures.seen) c.settle.ensures.few

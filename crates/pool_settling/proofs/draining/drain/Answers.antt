@@ -25,7 +25,7 @@ messages-preserved g c =
       identity = take.identity ∙ before.identity;
       all = all_after _ _ _ _ take before.met before.all;
       known = step.sources c.args.source before.known;
-      arrived = arrives_more _ _ _ _ _ _ _ _ before.arrived (steps_by _ _ _ _ _ step.setting step.step step.outbox) take.taken;
+      arrived = arrives_more _ _ _ _ _ _ _ _ before.arrived (steps_by _ _ _ _ _ step.setting step.step step.history step.outbox) take.taken;
     }
 
 pub messages-smaller : goal.messages-smaller

@@ -19,7 +19,7 @@ loop-place-preserved g c =
           let step = w.in_ok-arrive.ensures in
           let here = get_here helds x.0 w.index_mut.result.now (search rules) (sym w.index_mut.ensures.value) in
           subst (λ (nows : List Held). Feeds c.args.feed (c.loop-place.place + 1) c.args.posts.now c.args.actors.now.items nows) (sym (ap (λ v. v.items) w.actors-is))
-          (feeds_one c.args.feed c.loop-place.place c.args.posts.now x at c.args.actors.now.items helds before w.index_mut.result.now w.arrive.new.self here (steps_by _ _ _ _ _ step.setting step.step step.outbox) c.requires.exists.0)
+          (feeds_one c.args.feed c.loop-place.place c.args.posts.now x at c.args.actors.now.items helds before w.index_mut.result.now w.arrive.new.self here (steps_by _ _ _ _ _ step.setting step.step step.history step.outbox) c.requires.exists.0)
       | else-target-len w ↦
           subst (λ (nows : List Held). Feeds c.args.feed (c.loop-place.place + 1) c.args.posts.now c.args.actors.now.items nows) (sym (ap (λ v. v.items) w.actors-is))
           (feeds_skip c.args.feed c.loop-place.place c.args.posts.now x at c.args.actors.now.items helds before (omega (arith, w.if-target-len.false, c.len.ensures, c.loop-place.actors.ok.0)))

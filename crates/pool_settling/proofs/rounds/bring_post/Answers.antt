@@ -32,4 +32,4 @@ returns-clause-brought g c =
     let here = get_here (set helds c.args.sender c.take_post.new.self) c.args.target c.index_mut-2.result.now (omega (arith, c.requires.target, length-set helds c.args.sender c.take_post.new.self)) (sym c.index_mut-2.ensures.value) in
     let step = c.in-Ok.ensures in
     post_brought helds c.requires.members c.args.sender c.args.target c.index_mut.result.now c.take_post.new.self c.index_mut-2.result.now c.in-Some.post took.0 c.requires.target at took.1 here
-    c.receive.new.self (steps_by _ _ _ _ _ step.setting step.step step.outbox)
+    c.receive.new.self (steps_by _ _ _ _ _ step.setting step.step step.history step.outbox)

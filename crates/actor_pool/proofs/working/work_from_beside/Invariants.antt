@@ -1,4 +1,4 @@
-use Rattle.actor_pool.proofs.working.work.Given as goal
+use Rattle.actor_pool.proofs.working.work_from_beside.Given as goal
 
 abbrev pub ghosts-work_on : goal.ghosts-work_on
 ghosts-work_on g a = record { name = a.blank.name; parts = a.blank.parts }
