@@ -17,14 +17,14 @@ use Rattle.join_command.specs.Loading.{Asks, LoadCause, LoadsFeed, LoadsLog, Loa
 
 -- ---- a file by the bytes of its name
 
-file_short : (max : ℕ) (o : Option (List ℕ)) (bytes : List ℕ) → o ≡ Some bytes → length bytes ≤ max → file_within max o ≡ Holds bytes
+pub file_short : (max : ℕ) (o : Option (List ℕ)) (bytes : List ℕ) → o ≡ Some bytes → length bytes ≤ max → file_within max o ≡ Holds bytes
 file_short max o bytes held short = ap (file_within max) held ∙ by_size (nat_lt max (length bytes)) refl
   where
     by_size : (b : Bool) → nat_lt max (length bytes) ≡ b → cond b Long (Holds bytes) ≡ Holds bytes
     by_size true long = absurd (grind (arith, nat_tests))
     by_size false long = refl
 
-file_long : (max : ℕ) (o : Option (List ℕ)) → IsTooLong o max → file_within max o ≡ Long
+pub file_long : (max : ℕ) (o : Option (List ℕ)) → IsTooLong o max → file_within max o ≡ Long
 file_long max None long = absurd long
 file_long max (Some bytes) long = by_size (nat_lt max (length bytes)) refl
   where
@@ -32,11 +32,11 @@ file_long max (Some bytes) long = by_size (nat_lt max (length bytes)) refl
     by_size true is = refl
     by_size false is = absurd (grind (arith, nat_tests))
 
-asks : {X : Type 0} (before now : Told) (name : List ℕ) (result : Result X Stop) → now ≡ with_asked before name → Asks before now name result
+pub asks : {X : Type 0} (before now : Told) (name : List ℕ) (result : Result X Stop) → now ≡ with_asked before name → Asks before now name result
 asks before now name (Ok x) is = is
 asks before now name (Err why) is = inl is
 
-asks_unfetched : (X : Type 0) (before now : Told) (name : List ℕ) (fault : FetchFault) (why : Stop) → IsAsked before now name (Err fault) → Asks {X = X} before now name (Err why)
+pub asks_unfetched : (X : Type 0) (before now : Told) (name : List ℕ) (fault : FetchFault) (why : Stop) → IsAsked before now name (Err fault) → Asks {X = X} before now name (Err why)
 asks_unfetched X before now name fetch.Failed why is = inl is
 asks_unfetched X before now name fetch.TooLong why is = inl is
 asks_unfetched X before now name fetch.NoMemory why is = is

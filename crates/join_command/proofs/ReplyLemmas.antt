@@ -4,16 +4,16 @@ use Rattle.std.proofs.lemmas.List.{append-nil}
 use Rattle.std.specs.Prelude.{Result, Ok, Err}
 use Rattle.join_base.specs.Outside.{Files, Told, with_asked}
 use Rattle.script_types.specs.declared.plan.Plan.{Plan}
-use Rattle.command_words.specs.Command.{Command, RunWords, Run, Check, Replay, Load, Lint}
+use Rattle.command_words.specs.Command.{Command, RunWords, Run, Ask, Check, Replay, Load, Lint}
 use Rattle.join_command.specs.declared.reply.Reply.{Reply}
 use Rattle.join_command.specs.declared.reply.Reply.TheVariants as reply
 use Rattle.join_command.specs.declared.stop.Stop.{Stop}
 use Rattle.join_command.specs.declared.stop.Stop.TheVariants as stop
 use Rattle.script_types.specs.Typed.{IsTyped}
 use Rattle.join_command.specs.Files.{file_of, log_of}
-use Rattle.join_command.specs.Verdict.{Feeds, FeedsAnswer, Given, IsBeginning, MayAsk, MayAskRun, Refused, ScriptGives, Verdict, asks_feeds, asks_nothing, asks_script, replay_asks_nothing, replay_asks_script, replay_asks_log, fetched, feeds_answer, limits_of, run_of}
+use Rattle.join_command.specs.Verdict.{Feeds, FeedsAnswer, Given, IsBeginning, MayAsk, MayAskRun, OfCommand, OfRun, Outcome, Asks, Runs, Refused, ScriptGives, Verdict, asks_feeds, asks_nothing, asks_script, replay_asks_nothing, replay_asks_script, replay_asks_log, fetched, feeds_answer, limits_of, run_of}
 use Rattle.join_command.specs.Loading.{LoadsFeeds, LoadsLog, LoadsScript, ReadsFeeds, ReadsLog, StopsFeeds, StopsScript, Tells, stopped_by}
-use Rattle.join_command.specs.Replying.{OfStop, Replies, replied_with}
+use Rattle.join_command.specs.Replying.{OfStop, Replies, replied_with, verdict_of}
 
 asked_none : (before : Told) → before ≡ record { files = before.files; asked = before.asked ++ [] }
 asked_none before = λ i. record { files = before.files; asked = sym (append-nil before.asked) i }
@@ -40,52 +40,74 @@ module _ (command : Command) (name : List ℕ) (none : (files : Files) → MayAs
   stopped (Some before) None why loaded = absurd loaded
   stopped (Some before) (Some now) why loaded = stops before now why loaded
 
--- ---- `run`
+-- ---- `run` and `ask`
 
-module _ (run : RunWords) where
-  run_refused : (files : Files) (o : Option Verdict) → StopsScript (file_of files run.script) o → OfStop files (Run run) o
-  run_refused files None is = tt
-  run_refused files (Some verdict) is = inl is
+module _ (command : Command) (run : RunWords) (outcome : Outcome) (may : (files : Files) (names : List (List ℕ)) → MayAskRun files run names → MayAsk files command names)
+    (of : (files : Files) (verdict : Verdict) → OfRun outcome files run verdict → OfCommand files command verdict) where
+  loading_refused : (files : Files) (o : Option Verdict) → StopsScript (file_of files run.script) o → OfStop files command o
+  loading_refused files None is = tt
+  loading_refused files (Some verdict) is = of files verdict (inl is)
 
-  pub run_script_stopped : (before now : Option Told) (why : Stop) → Tells before now (λ b n. LoadsScript b n run.script (Err why)) → Tells before now (λ b n. Replies (Run run) b n (Err why))
-  run_script_stopped = stopped (Run run) run.script (λ files. asks_nothing) (λ files. asks_script) run_refused
+  loading_script_stopped : (before now : Option Told) (why : Stop) → Tells before now (λ b n. LoadsScript b n run.script (Err why)) → Tells before now (λ b n. Replies command b n (Err why))
+  loading_script_stopped = stopped command run.script (λ files. may files [] asks_nothing) (λ files. may files (run.script ∷ []) asks_script) loading_refused
 
   module _ (plan : Plan) where
     -- what the feeds come to is what the run comes to
     replied : (before mid now : Told) (loaded : Result Feeds Stop) (result : Result Reply Stop) → LoadsScript before mid run.script (Ok plan) → LoadsFeeds mid now plan run.feeds loaded
-        → ((files : Files) → ScriptGives (file_of files run.script) plan → ReadsFeeds (feeds_answer files plan 1 run.feeds) loaded → OfStop files (Run run) (replied_with result))
-        → Replies (Run run) before now result
+        → ((files : Files) → ScriptGives (file_of files run.script) plan → ReadsFeeds (feeds_answer files plan 1 run.feeds) loaded → OfStop files command (replied_with result))
+        → Replies command before now result
     replied before mid now loaded result one l verdict =
         let P : Told → Type 0 = λ m. LoadsFeeds m now plan run.feeds loaded in
         let second = subst P one.asks l in
         record {
           asked = run.script ∷ second.asked;
           told_is = second.told_is ∙ (λ i. record { files = before.files; asked = append_assoc before.asked (run.script ∷ []) second.asked i });
-          may_ask = asks_feeds plan second.asked one.answer second.in_order;
+          may_ask = may before.files (run.script ∷ second.asked) (asks_feeds plan second.asked one.answer second.in_order);
           verdict = verdict before.files one.answer second.answer;
         }
 
-    stop_verdict : (files : Files) → ScriptGives (file_of files run.script) plan → (o : Option Verdict) → StopsFeeds (feeds_answer files plan 1 run.feeds) o → OfStop files (Run run) o
+    stop_verdict : (files : Files) → ScriptGives (file_of files run.script) plan → (o : Option Verdict) → StopsFeeds (feeds_answer files plan 1 run.feeds) o → OfStop files command o
     stop_verdict files gives None is = tt
-    stop_verdict files gives (Some verdict) is = inr (plan, gives, ap (run_of plan (limits_of run.options)) is)
+    stop_verdict files gives (Some verdict) is = of files verdict (inr (plan, gives, ap (run_of outcome plan (limits_of run.options)) is))
 
+    loading_feeds_stopped : (before mid now : Option Told) (why : Stop) → Tells before mid (λ b n. LoadsScript b n run.script (Ok plan)) → Tells mid now (λ b n. LoadsFeeds b n plan run.feeds (Err why))
+        → Tells before now (λ b n. Replies command b n (Err why))
+    loading_feeds_stopped None mid now why one l = tt
+    loading_feeds_stopped (Some before) None now why one l = absurd one
+    loading_feeds_stopped (Some before) (Some mid) None why one l = absurd l
+    loading_feeds_stopped (Some before) (Some mid) (Some now) why one l = replied before mid now (Err why) (Err why) one l (λ files gives is. stop_verdict files gives (stopped_by why) is)
+
+    loaded_replied : (all : Feeds) (answer : Reply) → verdict_of answer ≡ outcome plan (limits_of run.options) all → (before mid now : Option Told) → Tells before mid (λ b n. LoadsScript b n run.script (Ok plan)) → Tells mid now (λ b n. LoadsFeeds b n plan run.feeds (Ok all))
+        → Tells before now (λ b n. Replies command b n (Ok answer))
+    loaded_replied all answer same None mid now one l = tt
+    loaded_replied all answer same (Some before) None now one l = absurd one
+    loaded_replied all answer same (Some before) (Some mid) None one l = absurd l
+    loaded_replied all answer same (Some before) (Some mid) (Some now) one l =
+        replied before mid now (Ok all) (Ok answer) one l (λ files gives is. of files (verdict_of answer) (inr (plan, gives, ap (run_of outcome plan (limits_of run.options)) is ∙ ap Some (sym same))))
+
+module _ (run : RunWords) where
+  pub run_script_stopped : (before now : Option Told) (why : Stop) → Tells before now (λ b n. LoadsScript b n run.script (Err why)) → Tells before now (λ b n. Replies (Run run) b n (Err why))
+  run_script_stopped = loading_script_stopped (Run run) run Runs (λ files names m. m) (λ files verdict o. o)
+
+  pub ask_script_stopped : (before now : Option Told) (why : Stop) → Tells before now (λ b n. LoadsScript b n run.script (Err why)) → Tells before now (λ b n. Replies (Ask run) b n (Err why))
+  ask_script_stopped = loading_script_stopped (Ask run) run Asks (λ files names m. m) (λ files verdict o. o)
+
+  module _ (plan : Plan) where
     pub run_feeds_stopped : (before mid now : Option Told) (why : Stop) → Tells before mid (λ b n. LoadsScript b n run.script (Ok plan)) → Tells mid now (λ b n. LoadsFeeds b n plan run.feeds (Err why))
         → Tells before now (λ b n. Replies (Run run) b n (Err why))
-    run_feeds_stopped None mid now why one l = tt
-    run_feeds_stopped (Some before) None now why one l = absurd one
-    run_feeds_stopped (Some before) (Some mid) None why one l = absurd l
-    run_feeds_stopped (Some before) (Some mid) (Some now) why one l = replied before mid now (Err why) (Err why) one l (λ files gives is. stop_verdict files gives (stopped_by why) is)
+    run_feeds_stopped = loading_feeds_stopped (Run run) run Runs (λ files names m. m) (λ files verdict o. o) plan
 
-    abbrev run_answer : Feeds → Reply
-    run_answer all = reply.Run plan run.options all
+    pub ask_feeds_stopped : (before mid now : Option Told) (why : Stop) → Tells before mid (λ b n. LoadsScript b n run.script (Ok plan)) → Tells mid now (λ b n. LoadsFeeds b n plan run.feeds (Err why))
+        → Tells before now (λ b n. Replies (Ask run) b n (Err why))
+    ask_feeds_stopped = loading_feeds_stopped (Ask run) run Asks (λ files names m. m) (λ files verdict o. o) plan
 
     pub run_replied : (before mid now : Option Told) (all : Feeds) → Tells before mid (λ b n. LoadsScript b n run.script (Ok plan)) → Tells mid now (λ b n. LoadsFeeds b n plan run.feeds (Ok all))
-        → Tells before now (λ b n. Replies (Run run) b n (Ok (run_answer all)))
-    run_replied None mid now all one l = tt
-    run_replied (Some before) None now all one l = absurd one
-    run_replied (Some before) (Some mid) None all one l = absurd l
-    run_replied (Some before) (Some mid) (Some now) all one l =
-        replied before mid now (Ok all) (Ok (run_answer all)) one l (λ files gives is. inr (plan, gives, ap (run_of plan (limits_of run.options)) is))
+        → Tells before now (λ b n. Replies (Run run) b n (Ok (reply.Run plan run.options all)))
+    run_replied before mid now all = loaded_replied (Run run) run Runs (λ files names m. m) (λ files verdict o. o) plan all (reply.Run plan run.options all) refl before mid now
+
+    pub ask_replied : (before mid now : Option Told) (all : Feeds) → Tells before mid (λ b n. LoadsScript b n run.script (Ok plan)) → Tells mid now (λ b n. LoadsFeeds b n plan run.feeds (Ok all))
+        → Tells before now (λ b n. Replies (Ask run) b n (Ok (reply.Ask plan run.options all)))
+    ask_replied before mid now all = loaded_replied (Ask run) run Asks (λ files names m. m) (λ files verdict o. o) plan all (reply.Ask plan run.options all) refl before mid now
 
 -- ---- `check`
 

@@ -71,7 +71,7 @@ module _ (words : Words) where
   asks_none files (Some (Load rows)) = refl
   asks_none files (Some (Watch run monitors)) = refl
   asks_none files (Some (Lint script)) = inl refl
-  asks_none files (Some (Ask run)) = refl
+  asks_none files (Some (Ask run)) = asks_nothing
 
   -- no memory for the command: nothing is asked
   pub nothing_prepared : (told : Option Told) (fault : Unanswered) → Tells told told (λ b n. Prepares words b n (Err fault))

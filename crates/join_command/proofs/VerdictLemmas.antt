@@ -17,10 +17,10 @@ use Rattle.script_grammar.specs.declared.fault.ScriptCause.{ScriptCause}
 use Rattle.script_reader.specs.Spells as reader
 use Rattle.script_plan.specs.PlanOf.{plan_of}
 use Rattle.script_check.specs.Types.{IsFaultOf, NoBoth, OneFault, OnePlan, Types}
-use Rattle.command_words.specs.Command.{Command, Run, Check, Replay, Load, Watch, Lint, Ask}
+use Rattle.command_words.specs.Command.{Command, RunWords, Run, Check, Replay, Load, Watch, Lint, Ask}
 use Rattle.join_command.specs.Command.{command_of}
 use Rattle.join_command.specs.Files.{File, Absent, Long, Holds, file_of, log_of}
-use Rattle.join_command.specs.Verdict.{Verdict, Accepts, Checks, Lints, LogRefused, OfLog, checked_as, ScriptRefused, GivesPlan, IsScriptFault, OfCommand, OfScript, OfWords, OneVerdict, ScriptGives, ScriptStops, feeds_answer, limits_of, run_of}
+use Rattle.join_command.specs.Verdict.{Verdict, Accepts, Checks, Lints, LogRefused, OfLog, checked_as, ScriptRefused, GivesPlan, IsScriptFault, OfCommand, OfRun, Outcome, Runs, Asks, OfScript, OfWords, OneVerdict, ScriptGives, ScriptStops, feeds_answer, limits_of, run_of}
 
 -- a script spells one tree or has one fault, the tree has one plan or one fault, and a log is that of one run or has
 -- one line at fault
@@ -120,17 +120,21 @@ module _ (one : HaveOneAnswer) where
   log_once plan typed Long v w a b = a ∙ sym b
   log_once plan typed (Holds bytes) v w (r, checks, is) (s, checked, same) = same_some (checked_as r) v w is (same_check plan bytes typed r s v w checks checked is same ∙ same)
 
+  run_once : (files : Files) (outcome : Outcome) (run : RunWords) (v w : Verdict) → OfRun outcome files run v → OfRun outcome files run w → v ≡ w
+  run_once files outcome run v w a b =
+      script_once (file_of files run.script) (λ plan verdict. run_of outcome plan (limits_of run.options) (feeds_answer files plan 1 run.feeds) ≡ Some verdict)
+      (λ plan one other x y. same_some (run_of outcome plan (limits_of run.options) (feeds_answer files plan 1 run.feeds)) one other x y) v w a b
+
   command_once : (files : Files) (command : Command) (v w : Verdict) → OfCommand files command v → OfCommand files command w → v ≡ w
   command_once files (Run run) v w a b =
-      script_once (file_of files run.script) (λ plan verdict. run_of plan (limits_of run.options) (feeds_answer files plan 1 run.feeds) ≡ Some verdict)
-      (λ plan one other x y. same_some (run_of plan (limits_of run.options) (feeds_answer files plan 1 run.feeds)) one other x y) v w a b
+      run_once files Runs run v w a b
   command_once files (Check script) v w a b = script_once (file_of files script) (λ plan verdict. verdict ≡ Checks plan) (λ plan one other x y. x ∙ sym y) v w a b
   command_once files (Replay script log) v w a b =
       script_once (file_of files script) (λ plan verdict. IsTyped plan × OfLog plan (log_of files log) verdict) (λ plan first other x y. log_once plan x.0 (log_of files log) first other x.1 y.1) v w a b
   command_once files (Load rows) v w a b = a ∙ sym b
   command_once files (Watch run monitors) v w a b = absurd a
   command_once files (Lint script) v w a b = script_once (file_of files script) (λ plan verdict. verdict ≡ Lints plan) (λ plan one other x y. x ∙ sym y) v w a b
-  command_once files (Ask run) v w a b = absurd a
+  command_once files (Ask run) v w a b = run_once files Asks run v w a b
 
   words_once : (files : Files) (command : Option Command) (v w : Verdict) → OfWords files command v → OfWords files command w → v ≡ w
   words_once files None v w a b = a ∙ sym b

@@ -41,6 +41,7 @@ pub data Verdict : Type 0 where
   Checks : (plan : Plan) → Verdict
   Lints : (plan : Plan) → Verdict
   Runs : (plan : Plan) (limits : Limits) (feeds : Feeds) → Verdict
+  Asks : (plan : Plan) (limits : Limits) (feeds : Feeds) → Verdict
   Loads : (rows : ℕ) → Verdict
   Accepts : (arrivals : ℕ) → Verdict
   LogRefused : (line : ℕ) (cause : LogCause) → Verdict
@@ -139,14 +140,18 @@ OfLog plan (Holds bytes) verdict = OfLogBytes plan bytes verdict
 abbrev pub limits_of : RunOptions → Limits
 limits_of options = record { arrivals = options.arrivals; partials = options.partials }
 
--- a run of what was loaded
-abbrev pub run_of : Plan → Limits → FeedsAnswer → Option Verdict
-run_of plan limits (Given feeds) = Some (Runs plan limits feeds)
-run_of plan limits (Refused verdict) = Some verdict
-run_of plan limits Missing = None
+-- what comes of a run: its log alone, or its log and the answers of the rows
+abbrev pub Outcome : Type 0
+Outcome = Plan → Limits → Feeds → Verdict
 
-abbrev pub OfRun : Files → RunWords → Verdict → Type 0
-OfRun files run verdict = OfScript (file_of files run.script) (λ plan verdict. run_of plan (limits_of run.options) (feeds_answer files plan 1 run.feeds) ≡ Some verdict) verdict
+-- a run of what was loaded
+abbrev pub run_of : Outcome → Plan → Limits → FeedsAnswer → Option Verdict
+run_of outcome plan limits (Given feeds) = Some (outcome plan limits feeds)
+run_of outcome plan limits (Refused verdict) = Some verdict
+run_of outcome plan limits Missing = None
+
+abbrev pub OfRun : Outcome → Files → RunWords → Verdict → Type 0
+OfRun outcome files run verdict = OfScript (file_of files run.script) (λ plan verdict. run_of outcome plan (limits_of run.options) (feeds_answer files plan 1 run.feeds) ≡ Some verdict) verdict
 
 abbrev pub OfCheck : Files → List ℕ → Verdict → Type 0
 OfCheck files script verdict = OfScript (file_of files script) (λ plan verdict. verdict ≡ Checks plan) verdict
@@ -159,13 +164,13 @@ abbrev pub OfLint : Files → List ℕ → Verdict → Type 0
 OfLint files script verdict = OfScript (file_of files script) (λ plan verdict. verdict ≡ Lints plan) verdict
 
 abbrev pub OfCommand : Files → Command → Verdict → Type 0
-OfCommand files (Run run) verdict = OfRun files run verdict
+OfCommand files (Run run) verdict = OfRun Runs files run verdict
 OfCommand files (Check script) verdict = OfCheck files script verdict
 OfCommand files (Replay script log) verdict = OfReplay files script log verdict
 OfCommand files (Load rows) verdict = verdict ≡ Loads rows
 OfCommand files (Watch run monitors) verdict = ⊥
 OfCommand files (Lint script) verdict = OfLint files script verdict
-OfCommand files (Ask run) verdict = ⊥
+OfCommand files (Ask run) verdict = OfRun Asks files run verdict
 
 abbrev pub OfWords : Files → Option Command → Verdict → Type 0
 OfWords files None verdict = verdict ≡ Usage
@@ -184,7 +189,7 @@ OneVerdict = (words : Words) (files : Files) (one other : Verdict) → IsVerdict
 abbrev pub IsBeginning : {X : Type 0} → List X → List X → Type 0
 IsBeginning {X} front all = (rest : List X) × (front ++ rest ≡ all)
 
--- `run` asks for the script, and once the script gives a plan for the feeds in order, up to the first that gives no
+-- `run` and `ask` ask for the script, and once the script gives a plan for the feeds in order, up to the first that gives no
 -- posts
 pub data MayAskRun (files : Files) (run : RunWords) : List (List ℕ) → Type 0 where
   asks_nothing : MayAskRun files run []
@@ -209,7 +214,7 @@ MayAsk files (Replay script log) names = MayAskReplay files script log names
 MayAsk files (Load rows) names = names ≡ []
 MayAsk files (Watch run monitors) names = names ≡ []
 MayAsk files (Lint script) names = MayAskScript script names
-MayAsk files (Ask run) names = names ≡ []
+MayAsk files (Ask run) names = MayAskRun files run names
 
 abbrev pub MayAskBy : Files → Option Command → List (List ℕ) → Type 0
 MayAskBy files None names = names ≡ []

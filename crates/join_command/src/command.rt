@@ -17,7 +17,14 @@ pub fn command_of<'a>(alloc: Global, words: &'a WordList) -> Result<Option<Reque
     ensures built { IfOk result (λ request. IfSome request (λ r. IsBuilt (command_in r))) }
     ensures in_range { IfOk result (λ request. IfSome request (λ r. IsInRange (command_in r))) }
 {
-    let verbs = [Verb::Run, Verb::Check, Verb::Replay, Verb::Lint, Verb::Load];
+    let verbs = [
+        Verb::Run,
+        Verb::Check,
+        Verb::Replay,
+        Verb::Lint,
+        Verb::Ask,
+        Verb::Load,
+    ];
     let settings = [
         Setting::Workers,
         Setting::Ring,

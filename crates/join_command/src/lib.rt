@@ -7,6 +7,8 @@
 //!   contract says that no write is made behind one that failed, and at most one for each byte (specs/Counting).
 //! - `command_of` gives the command that the words are, `write_all` writes bytes piece by piece, and `MAX_FILE` and
 //!   `MAX_LOG` are the most bytes of a file, for what a program tells people besides.
+//! - `load_script` and `load_feeds` fetch and read files, and `refused_output` has the status and the line of a refusal,
+//!   for other programs over such files.
 //!
 //! `join_main` runs a script on threads, past a `Gate`, and may wait for them.
 //!
@@ -32,9 +34,11 @@ mod top;
 
 pub use actor_pool::{FreeGate, Gate};
 pub use command::command_of;
+pub use count::write_count;
 pub use counted::{Counted, CountingSink};
-pub use load::MAX_FILE;
-pub use output::write_all;
+pub use load::{MAX_FILE, fetch_stop, load_feeds, load_script};
+pub use output::{accepted_line, refused_output, usage_line, write_all};
 pub use replay::MAX_LOG;
 pub use status::Status;
-pub use top::join_main;
+pub use stop::{LogCause, Refusal, Stop};
+pub use top::{Unanswered, join_main};

@@ -1,6 +1,6 @@
 //! What a command and its files come to.
 ghost use Rattle.std.specs.Prelude.{◌≡◌, IfOk};
-ghost use Rattle.command_words.specs.Command.{Check, Lint, Replay, Run};
+ghost use Rattle.command_words.specs.Command.{Ask, Check, Lint, Replay, Run};
 ghost use Rattle.command_words.specs.Ranges.{IsInRange, RunIsInRange};
 ghost use Rattle.command_words.specs.Views.{command_in, run_in};
 ghost use Rattle.join_command.specs.Command.{IsBuilt};
@@ -28,6 +28,12 @@ pub enum Reply {
         options: RunOptions,
         feeds: FeedList,
     },
+    /// The same, where the answers of the rows are asked too.
+    Ask {
+        plan: Plan,
+        options: RunOptions,
+        feeds: FeedList,
+    },
     /// How many rows each feed of the building has, from 1 to 20,000.
     Load {
         rows: u32,
@@ -48,6 +54,26 @@ fn run_reply<I: Inputs>(alloc: Global, inputs: &mut I, run: &RunWords<'_>) -> Re
         Ok(plan) => match load_feeds(alloc, inputs, &plan, run.feeds.as_slice()) {
             Err(stop) => Err(stop),
             Ok(feeds) => Ok(Reply::Run {
+                plan,
+                options: run.options,
+                feeds,
+            }),
+        },
+    }
+}
+
+// What `ask SCRIPT FEED..` comes to.
+fn ask_reply<I: Inputs>(alloc: Global, inputs: &mut I, run: &RunWords<'_>) -> Result<Reply, Stop>
+    requires in_range { RunIsInRange (run_in run.now) }
+    ensures told { Tells (I.tells inputs.old) (I.tells inputs.new) (λ before now. Replies (Ask (run_in run.now)) before now result) }
+    ensures cause { LoadCause (I.faults inputs.old) (I.faults inputs.new) result }
+    ensures runnable { IfOk result IsRunnable }
+{
+    match load_script(alloc, inputs, run.script) {
+        Err(stop) => Err(stop),
+        Ok(plan) => match load_feeds(alloc, inputs, &plan, run.feeds.as_slice()) {
+            Err(stop) => Err(stop),
+            Ok(feeds) => Ok(Reply::Ask {
                 plan,
                 options: run.options,
                 feeds,
@@ -119,6 +145,7 @@ pub fn reply_of<I: Inputs>(
         Request::Lint { script } => lint_reply(alloc, inputs, script),
         Request::Replay { script, log } => replay_reply(alloc, inputs, script, log),
         Request::Load { rows } => Ok(Reply::Load { rows: *rows }),
-        Request::Watch { .. } | Request::Ask(_) => unreachable!(),
+        Request::Ask(run) => ask_reply(alloc, inputs, run),
+        Request::Watch { .. } => unreachable!(),
     }
 }

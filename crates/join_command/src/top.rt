@@ -103,6 +103,9 @@ fn prepare<R: Threads + Wait + Sync, I: Inputs, G: Gate>(
 /// runs the building of `building_load` on feeds of N rows, 1 to 20,000, as a `run` without options does, and writes
 /// the summary of that run.
 ///
+/// `ask SCRIPT FEED..` has the words and options of `run`, and writes behind the log a line for each row of a feed that
+/// the run replied to, feed by feed and row by row.
+///
 /// The first refusal ends the call: `Usage` where the words are no command, `TooLong` where a file has more than
 /// 16,777,216 bytes, or a log more than 268,435,456, `ScriptRefused` where the script has a fault, `FeedRefused` where
 /// a feed has a record in fault, and `LogRefused` where a line of the log is in fault; each writes one line. `Limits`
@@ -121,7 +124,8 @@ pub fn join_main<R: Threads + Wait + Sync, I: Inputs, S: CountingSink, G: Gate>(
     gate: &G,
 ) -> Status
     // The status and the bytes written are those of the verdict on the words and the files. For a run they are the log
-    // of a run that is linked to the posts of the feeds and is that of one schedule of single steps, for a check the
+    // of a run that is linked to the posts of the feeds and is that of one schedule of single steps, for `ask` such a log
+    // and the answers that its run gives to the rows of the feeds, for a check the
     // text of the script's plan, for a lint that of its findings, for `load` the summary of such a run of the building,
     // and for a replay the number of arrivals of the log, which is that of a run no line of which is in fault.
     ensures answer { AnswersWhereTold words.now (I.tells inputs.old) (S.taken out.old) (I.tells inputs.new) (S.taken out.new) result }
