@@ -59,9 +59,14 @@ fn write_atom(text: &mut Bytes, variables: &[Row], atom: &Atom) -> Result<(), No
     }
 }
 
-// The atoms of a conjunct, ` || ` between each two.
+/// Appends the atoms of a conjunct, ` || ` between each two, with these names of its variables. Without memory some of
+/// it may stay appended.
 #[cycle(write)]
-fn write_conjunct(text: &mut Bytes, variables: &[Row], conjunct: &Conjunct) -> Result<(), NoMemory>
+pub fn write_conjunct(
+    text: &mut Bytes,
+    variables: &[Row],
+    conjunct: &Conjunct,
+) -> Result<(), NoMemory>
     ensures { OnOk result (text.new ≡ text.old ++ condition_text variables.now (conjunct_condition conjunct.now)) }
 {
     match conjunct.atoms.as_slice() {

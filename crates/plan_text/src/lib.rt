@@ -1,9 +1,12 @@
 //! The text of a plan, as a script says it.
 //!
 //! - `print_plan` appends the text of a plan. Without memory the bytes are as they were.
+//! - `write_conjunct` appends a conjunct, `write_pattern` a pattern and `write_variable` a variable. `row_of` has the
+//!   variables of a pattern. Without memory some of the text may stay appended.
 //!
 //! A contract sees the text as a function of the plan (`plan_text`, specs/PlanText), with an empty name where a number
-//! names nothing. That the text reads back as the plan is a law of `plan_law`.
+//! names nothing. Its parts are `condition_text` (specs/GuardText), `pattern_text` and `variable_name` (specs/PlanNames).
+//! That the text reads back as the plan is a law of `plan_law`.
 #![tactic(auto)]
 
 mod guards;
@@ -13,4 +16,7 @@ mod rules;
 mod statements;
 mod terms;
 
+pub use guards::write_conjunct;
+pub use names::{Row, row_of, write_variable};
 pub use print::print_plan;
+pub use rules::write_pattern;

@@ -7,10 +7,10 @@ use guard_eval::Place;
 use join_base::{Bytes, Items, Name, NoMemory, Sort};
 
 /// The variables of a pattern: a name for each field, or `None` for the blank.
-pub(crate) type Row = Items<Option<Name>>;
+pub type Row = Items<Option<Name>>;
 
-// The variables of the pattern at a place.
-pub(crate) fn row_of(variables: &[Row], pattern: usize) -> &[Option<Name>]
+/// The variables of the pattern at a place, from 0 on. There are none where the rows have no such place.
+pub fn row_of(variables: &[Row], pattern: usize) -> &[Option<Name>]
     ensures { result.now ≡ row_of variables.now pattern }
 {
     match variables.get(pattern) {
@@ -19,11 +19,8 @@ pub(crate) fn row_of(variables: &[Row], pattern: usize) -> &[Option<Name>]
     }
 }
 
-pub(crate) fn write_variable(
-    text: &mut Bytes,
-    variables: &[Row],
-    place: Place,
-) -> Result<(), NoMemory>
+/// Appends the name of the variable at a place, and nothing where it has none.
+pub fn write_variable(text: &mut Bytes, variables: &[Row], place: Place) -> Result<(), NoMemory>
     ensures { OnOk result (text.new ≡ text.old ++ variable_name variables.now place) }
 {
     match row_of(variables, place.pattern as usize).get(place.field as usize) {

@@ -34,7 +34,9 @@ fn write_row(text: &mut Bytes, row: &[Option<Name>]) -> Result<(), NoMemory>
     }
 }
 
-fn write_pattern(
+/// Appends a pattern: the name of its kind, and its variables in parentheses. Without memory some of it may stay
+/// appended.
+pub fn write_pattern(
     text: &mut Bytes,
     plan: &Plan,
     kind: u32,

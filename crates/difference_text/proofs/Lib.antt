@@ -1,0 +1,2 @@
+-- a line of a text, cut by cut
+pub mod LineLemmas

@@ -1,0 +1,2 @@
+-- what is claimed: the text of a difference
+pub mod Text

@@ -1,0 +1,8 @@
+-- The lemmas by topic:
+-- - a request has few feeds: RequestLemmas
+-- - from the files to the reply: ReplyLemmas, RunLemmas
+-- - from the reply to the answer: TopLemmas
+pub mod RequestLemmas
+pub mod ReplyLemmas
+pub mod RunLemmas
+pub mod TopLemmas

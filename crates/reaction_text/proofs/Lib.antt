@@ -1,0 +1,2 @@
+-- the text of reactions that were found
+pub mod TextLemmas

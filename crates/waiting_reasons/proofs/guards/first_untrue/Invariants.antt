@@ -1,0 +1,14 @@
+use Rattle.std.proofs.Common.{◌≡◌, drop, map}
+use Rattle.std.specs.List.{AllByRecursion}
+use Rattle.guard_eval.specs.Meaning.{needs_of}
+use Rattle.guard_eval.specs.Shape.{conjunct_condition}
+use Rattle.pattern_core.specs.Suits.{NeedSuits}
+use Rattle.waiting_reasons.specs.Guards.{first_untrue}
+use Rattle.waiting_reasons.proofs.guards.first_untrue.Given as goal
+
+-- the conjuncts that are left suit, and decide
+abbrev pub invariant-loop-conjunct : goal.invariant-loop-conjunct
+invariant-loop-conjunct l = record {
+  needs : AllByRecursion (λ c. AllByRecursion (NeedSuits l.letters l.definition.patterns) (needs_of c)) (map conjunct_condition (drop l.conjunct-index l.conjunct-items));
+  told : first_untrue l.letters l.slots (map conjunct_condition (drop l.conjunct-index l.conjunct-items)) ≡ first_untrue l.letters l.slots l.definition.conjuncts;
+}

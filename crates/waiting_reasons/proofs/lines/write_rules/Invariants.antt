@@ -1,0 +1,12 @@
+use Rattle.std.proofs.Common.{◌≡◌, ◌++◌, ◌+◌, drop}
+use Rattle.std.specs.List.{AllByRecursion}
+use Rattle.waiting_reasons.specs.Inside.{RuleSuits}
+use Rattle.waiting_reasons.specs.Text.{rules_lines}
+use Rattle.waiting_reasons.proofs.lines.write_rules.Given as goal
+
+-- what is written, and the definitions that are left
+abbrev pub invariant-loop-place : goal.invariant-loop-place
+invariant-loop-place l = record {
+  told : l.text ++ rules_lines l.plan l.letters l.left l.number (l.place + 1) (drop l.place l.rules) ≡ l.initial.text ++ rules_lines l.plan l.letters l.left l.number 1 l.rules;
+  all : AllByRecursion (RuleSuits l.letters) (drop l.place l.rules);
+}

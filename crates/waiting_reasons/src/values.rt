@@ -1,0 +1,177 @@
+//! Values, messages, and conjuncts that are false. Without memory some of a text may stay appended, here and in the
+//! modules above.
+ghost use Rattle.std.specs.Prelude.{◌≡◌, ◌++◌, [], map, OnOk, if◌then◌else◌, length, option_map};
+ghost use Rattle.join_base.specs.Fields.{value_seen};
+ghost use Rattle.guard_eval.specs.Meaning.{value_at};
+ghost use Rattle.guard_eval.specs.Shape.{conjunct_condition};
+ghost use Rattle.arrival_log.specs.Commas.{comma_before};
+ghost use Rattle.arrival_log.specs.LogText.{comma_joined, message_text, value_text};
+ghost use Rattle.waiting_reasons.specs.Guards.{has_place};
+ghost use Rattle.waiting_reasons.specs.Text.{false_text, numbered_text, value_note, value_notes};
+
+use crate::letters::find_letter;
+use crate::places::{has_place, places_of};
+use crate::slots::number_at;
+use guard_eval::{Conjunct, Place};
+use join_base::{Bytes, Fields, Message, NoMemory, Slots, ValueRef, write_number, write_quoted};
+use plan_text::{Row, write_conjunct, write_variable};
+use script_types::{Plan, write_kind_name};
+use std::alloc::Global;
+
+// ---- messages
+
+fn write_value(text: &mut Bytes, value: ValueRef<'_>) -> Result<(), NoMemory>
+    ensures { OnOk result (text.new ≡ text.old ++ value_text (value_seen value.entry)) }
+{
+    match value {
+        ValueRef::Int(number) => write_number(text, i128::from(number)),
+        ValueRef::Words(words) => write_quoted(text, words.bytes()),
+    }
+}
+
+// The comma before the item at a place, which the first lacks.
+fn write_comma(text: &mut Bytes, place: usize) -> Result<(), NoMemory>
+    ensures { OnOk result (text.new ≡ text.old ++ comma_before place) }
+{
+    if place > 0 {
+        text.push_all(b",")
+    } else {
+        Ok(())
+    }
+}
+
+fn write_values(text: &mut Bytes, values: &Fields) -> Result<(), NoMemory>
+    ensures { OnOk result (text.new ≡ text.old ++ comma_joined (map value_text values.now)) }
+{
+    for place in 0..values.len() {
+        write_comma(text, place)?;
+        write_value(text, values.at(place))?;
+    }
+    Ok(())
+}
+
+// `KIND(VALUES)`.
+fn write_message(text: &mut Bytes, plan: &Plan, message: &Message) -> Result<(), NoMemory>
+    ensures { OnOk result (text.new ≡ text.old ++ message_text plan.now message.now) }
+{
+    write_kind_name(text, plan, message.kind)?;
+    text.push_all(b"(")?;
+    write_values(text, &message.fields)?;
+    text.push_all(b")")
+}
+
+/// `N KIND(VALUES)`.
+pub fn write_numbered(
+    text: &mut Bytes,
+    plan: &Plan,
+    letters: &[Message],
+    number: u32,
+) -> Result<(), NoMemory>
+    ensures { OnOk result (text.new ≡ text.old ++ numbered_text plan.now letters.now number) }
+{
+    write_number(text, i128::from(number))?;
+    text.push_all(b" ")?;
+    match find_letter(letters, number) {
+        Some(message) => write_message(text, plan, message),
+        None => Ok(()),
+    }
+}
+
+// ---- conjuncts
+
+// The value of a variable, if it has one.
+fn value_at<'a>(
+    letters: &'a [Message],
+    patterns: u32,
+    slots: &Slots,
+    place: Place,
+) -> Option<ValueRef<'a>>
+    requires { length slots.now ≡ patterns }
+    ensures { option_map value_seen result ≡ value_at letters.now slots.now place }
+{
+    match number_at(patterns, slots, place.pattern) {
+        None => None,
+        Some(number) => match find_letter(letters, number) {
+            None => None,
+            Some(message) => message.fields.get(place.field as usize),
+        },
+    }
+}
+
+// `, NAME = VALUE`.
+fn write_value_note(
+    text: &mut Bytes,
+    variables: &[Row],
+    letters: &[Message],
+    patterns: u32,
+    slots: &Slots,
+    place: Place,
+) -> Result<(), NoMemory>
+    requires { length slots.now ≡ patterns }
+    ensures { OnOk result (text.new ≡ text.old ++ value_note variables.now letters.now slots.now place) }
+{
+    text.push_all(b", ")?;
+    write_variable(text, variables, place)?;
+    text.push_all(b" = ")?;
+    match value_at(letters, patterns, slots, place) {
+        Some(value) => write_value(text, value),
+        None => Ok(()),
+    }
+}
+
+// That of a place, unless an earlier one is the same.
+fn write_new_note(
+    text: &mut Bytes,
+    variables: &[Row],
+    letters: &[Message],
+    patterns: u32,
+    slots: &Slots,
+    earlier: &[Place],
+    place: Place,
+) -> Result<(), NoMemory>
+    requires { length slots.now ≡ patterns }
+    ensures { OnOk result (text.new ≡ text.old ++ (if has_place earlier.now place then [] else value_note variables.now letters.now slots.now place)) }
+{
+    if has_place(earlier, place) {
+        return Ok(());
+    }
+    write_value_note(text, variables, letters, patterns, slots, place)
+}
+
+fn write_value_notes(
+    text: &mut Bytes,
+    variables: &[Row],
+    letters: &[Message],
+    patterns: u32,
+    slots: &Slots,
+    places: &[Place],
+) -> Result<(), NoMemory>
+    requires { length slots.now ≡ patterns }
+    ensures { OnOk result (text.new ≡ text.old ++ value_notes variables.now letters.now slots.now [] places.now) }
+{
+    for index in 0..places.len() {
+        let (earlier, _) = places.split_at(index);
+        let place = places[index];
+        write_new_note(text, variables, letters, patterns, slots, earlier, place)?;
+    }
+    Ok(())
+}
+
+/// `CONJUNCT is false`, and the values of its variables at an assignment of so many patterns.
+pub fn write_false(
+    alloc: Global,
+    text: &mut Bytes,
+    variables: &[Row],
+    letters: &[Message],
+    patterns: u32,
+    slots: &Slots,
+    conjunct: &Conjunct,
+) -> Result<(), NoMemory>
+    requires { length slots.now ≡ patterns }
+    ensures { OnOk result (text.new ≡ text.old ++ false_text variables.now letters.now slots.now (conjunct_condition conjunct.now)) }
+{
+    let places = places_of(alloc, conjunct)?;
+    write_conjunct(text, variables, conjunct)?;
+    text.push_all(b" is false")?;
+    write_value_notes(text, variables, letters, patterns, slots, places.as_slice())
+}
