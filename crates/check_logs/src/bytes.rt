@@ -1,8 +1,8 @@
 //! Logs with one byte changed, and cut logs.
 ghost use Rattle.script_types.specs.Typed.{IsTyped};
 
-use crate::answer::{Answer, answer_to};
-use crate::table::{Log, Mark, Wanted};
+use crate::answer::Answer;
+use crate::table::{Line, Log, Mark, Wanted};
 use crate::tally::Tally;
 use join_base::NoMemory;
 use script_types::Plan;
@@ -29,16 +29,32 @@ fn wanted(marks: &[Mark], mark: u8, byte: u8, line: u64) -> Answer {
     Answer::Bad(line)
 }
 
-/// The lines of the log, each ended by LF, and a mark for each byte: none may stand in place of LF.
+// Appends a line ended by LF, and a mark for each byte: none may stand in place of LF.
+fn push_marked(text: &mut Vec<u8>, marks: &mut Vec<u8>, line: &Line) -> Result<(), NoMemory> {
+    text.extend_from_slice(line.text.as_bytes())?;
+    text.push(b'\n')?;
+    marks.extend_from_slice(line.marks.as_bytes())?;
+    marks.push(b'.')?;
+    Ok(())
+}
+
+// Appends the lines.
+fn push_all_marked(
+    text: &mut Vec<u8>,
+    marks: &mut Vec<u8>,
+    lines: &[Line],
+) -> Result<(), NoMemory> {
+    for line in lines {
+        push_marked(text, marks, line)?;
+    }
+    Ok(())
+}
+
+// The bytes of a log, and their marks.
 fn marked(alloc: Global, log: &Log) -> Result<(Vec<u8>, Vec<u8>), NoMemory> {
     let mut text = Vec::new(alloc);
     let mut marks = Vec::new(alloc);
-    for line in log.lines {
-        text.extend_from_slice(line.text.as_bytes())?;
-        text.push(b'\n')?;
-        marks.extend_from_slice(line.marks.as_bytes())?;
-        marks.push(b'.')?;
-    }
+    push_all_marked(&mut text, &mut marks, log.lines)?;
     Ok((text, marks))
 }
 
@@ -61,16 +77,32 @@ fn other_bytes(
     for byte in 0..=255u8 {
         if byte != own {
             text[place] = byte;
-            let found = answer_to(alloc, plan, text)?;
-            tally.count(
-                line,
-                "another byte",
-                found,
-                wanted(log.marks, mark, byte, line),
-            );
+            let answer = wanted(log.marks, mark, byte, line);
+            tally.count(alloc, plan, text, line, "another byte", answer)?;
         }
     }
     text[place] = own;
+    Ok(())
+}
+
+// Each byte of the text, with its marks, replaced by each other one.
+fn each_byte(
+    alloc: Global,
+    plan: &Plan,
+    log: &Log,
+    text: &mut [u8],
+    marks: &[u8],
+    tally: &mut Tally,
+) -> Result<(), NoMemory>
+    requires typed { IsTyped plan.now }
+{
+    let mut line: u64 = 1;
+    for (place, mark) in marks.iter().enumerate() {
+        other_bytes(alloc, plan, log, text, place, *mark, line, tally)?;
+        if text.get(place) == Some(&b'\n') {
+            line = line.saturating_add(1);
+        }
+    }
     Ok(())
 }
 
@@ -84,14 +116,36 @@ pub fn changed_bytes(
     requires typed { IsTyped plan.now }
 {
     let (mut text, marks) = marked(alloc, log)?;
+    each_byte(
+        alloc,
+        plan,
+        log,
+        text.as_mut_slice(),
+        marks.as_slice(),
+        tally,
+    )
+}
+
+// The text cut behind each number of bytes, and whole.
+fn each_cut(
+    alloc: Global,
+    plan: &Plan,
+    log: &Log,
+    text: &[u8],
+    tally: &mut Tally,
+) -> Result<(), NoMemory>
+    requires typed { IsTyped plan.now }
+{
     let mut line: u64 = 1;
-    for (place, mark) in marks.iter().enumerate() {
-        other_bytes(alloc, plan, log, &mut text, place, *mark, line, tally)?;
-        if text.get(place) == Some(&b'\n') {
+    for (place, byte) in text.iter().enumerate() {
+        let front = &text[..place];
+        tally.count(alloc, plan, front, line, "cut", Answer::Bad(line))?;
+        if *byte == b'\n' {
             line = line.saturating_add(1);
         }
     }
-    Ok(())
+    let whole = Answer::Accepted(log.arrivals);
+    tally.count(alloc, plan, text, line, "whole", whole)
 }
 
 /// The log cut behind each number of bytes: the line in which it is cut is none. Whole it is accepted.
@@ -99,15 +153,5 @@ pub fn cut_bytes(alloc: Global, plan: &Plan, log: &Log, tally: &mut Tally) -> Re
     requires typed { IsTyped plan.now }
 {
     let (text, _) = marked(alloc, log)?;
-    let mut line: u64 = 1;
-    for (place, byte) in text.iter().enumerate() {
-        let found = answer_to(alloc, plan, &text[..place])?;
-        tally.count(line, "cut", found, Answer::Bad(line));
-        if *byte == b'\n' {
-            line = line.saturating_add(1);
-        }
-    }
-    let found = answer_to(alloc, plan, text.as_slice())?;
-    tally.count(line, "whole", found, Answer::Accepted(log.arrivals));
-    Ok(())
+    each_cut(alloc, plan, log, text.as_slice(), tally)
 }

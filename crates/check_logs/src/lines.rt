@@ -1,18 +1,42 @@
 //! Logs with one line changed.
 ghost use Rattle.script_types.specs.Typed.{IsTyped};
 
-use crate::answer::answer_to;
+use crate::answer::Answer;
 use crate::table::{Line, Log, Other};
 use crate::tally::Tally;
 use join_base::{Bytes, NoMemory};
 use script_types::Plan;
 use std::alloc::Global;
 
-// Appends the lines, each ended by LF.
+/// What becomes of a line.
+#[derive(Clone, Copy)]
+pub enum Change {
+    Dropped,
+    /// It stands twice.
+    Doubled,
+    /// It stands behind the next one.
+    Exchanged,
+}
+
+// The name of a change, and what comes of it.
+fn change_at(change: Change, line: &Line) -> (&'static str, Answer) {
+    match change {
+        Change::Dropped => ("dropped", line.dropped),
+        Change::Doubled => ("doubled", line.doubled),
+        Change::Exchanged => ("exchanged", line.exchanged),
+    }
+}
+
+// Appends a line, ended by LF.
+fn push_line(text: &mut Bytes, line: &str) -> Result<(), NoMemory> {
+    text.push_all(line.as_bytes())?;
+    text.push_all(b"\n")
+}
+
+// Appends the lines.
 fn push_lines(text: &mut Bytes, lines: &[Line]) -> Result<(), NoMemory> {
     for line in lines {
-        text.push_all(line.text.as_bytes())?;
-        text.push_all(b"\n")?;
+        push_line(text, line.text)?;
     }
     Ok(())
 }
@@ -31,6 +55,19 @@ fn joined(
     Ok(text)
 }
 
+// The lines with the one at a place changed. The last one has none to be exchanged with.
+fn changed(alloc: Global, lines: &[Line], place: usize, change: Change) -> Result<Bytes, NoMemory> {
+    let (front, rest) = lines.split_at(place.min(lines.len()));
+    match (change, rest) {
+        (Change::Dropped, [_, behind @ ..]) => joined(alloc, front, behind, &[]),
+        (Change::Doubled, [line, ..]) => joined(alloc, front, &[*line], rest),
+        (Change::Exchanged, [line, next, behind @ ..]) => {
+            joined(alloc, front, &[*next, *line], behind)
+        }
+        _ => joined(alloc, lines, &[], &[]),
+    }
+}
+
 // The text of the line of this number, or the one in its place.
 fn text_at(number: usize, line: &Line, others: &[Other]) -> &'static str {
     for (place, other) in others {
@@ -41,68 +78,57 @@ fn text_at(number: usize, line: &Line, others: &[Other]) -> &'static str {
     line.text
 }
 
+// Appends the lines, with others in place of those of some numbers.
+fn push_others(text: &mut Bytes, lines: &[Line], others: &[Other]) -> Result<(), NoMemory> {
+    for (place, line) in lines.iter().enumerate() {
+        push_line(text, text_at(place + 1, line, others))?;
+    }
+    Ok(())
+}
+
 /// The lines, each ended by LF, with others in place of those of some numbers.
 pub fn with_others(alloc: Global, lines: &[Line], others: &[Other]) -> Result<Bytes, NoMemory> {
     let mut text = Bytes::new(alloc);
-    for (place, line) in lines.iter().enumerate() {
-        text.push_all(text_at(place + 1, line, others).as_bytes())?;
-        text.push_all(b"\n")?;
-    }
+    push_others(&mut text, lines, others)?;
     Ok(text)
 }
 
-/// Each line dropped.
-pub fn dropped_lines(
+// A line changed.
+fn changed_line(
     alloc: Global,
     plan: &Plan,
     log: &Log,
+    place: usize,
+    change: Change,
     tally: &mut Tally,
 ) -> Result<(), NoMemory>
     requires typed { IsTyped plan.now }
 {
-    let lines = log.lines;
-    for (place, line) in lines.iter().enumerate() {
-        let text = joined(alloc, &lines[..place], &[], &lines[place + 1..])?;
-        let found = answer_to(alloc, plan, text.bytes())?;
-        tally.count(place as u64 + 1, "dropped", found, line.dropped);
-    }
-    Ok(())
+    let Some(line) = log.lines.get(place) else {
+        return Ok(());
+    };
+    let (name, wanted) = change_at(change, line);
+    let text = changed(alloc, log.lines, place, change)?;
+    let number = (place as u64).saturating_add(1);
+    tally.count(alloc, plan, text.bytes(), number, name, wanted)
 }
 
-/// Each line twice.
-pub fn doubled_lines(
+/// Each line changed in this way. The last line is exchanged with none.
+pub fn changed_lines(
     alloc: Global,
     plan: &Plan,
     log: &Log,
+    change: Change,
     tally: &mut Tally,
 ) -> Result<(), NoMemory>
     requires typed { IsTyped plan.now }
 {
-    let lines = log.lines;
-    for (place, line) in lines.iter().enumerate() {
-        let text = joined(alloc, &lines[..place + 1], &lines[place..], &[])?;
-        let found = answer_to(alloc, plan, text.bytes())?;
-        tally.count(place as u64 + 1, "doubled", found, line.doubled);
-    }
-    Ok(())
-}
-
-/// Each line but the last behind the next one.
-pub fn exchanged_lines(
-    alloc: Global,
-    plan: &Plan,
-    log: &Log,
-    tally: &mut Tally,
-) -> Result<(), NoMemory>
-    requires typed { IsTyped plan.now }
-{
-    let lines = log.lines;
-    for (place, line) in lines.iter().enumerate() {
-        if let Some(next) = lines.get(place + 1) {
-            let text = joined(alloc, &lines[..place], &[*next, *line], &lines[place + 2..])?;
-            let found = answer_to(alloc, plan, text.bytes())?;
-            tally.count(place as u64 + 1, "exchanged", found, line.exchanged);
-        }
+    let count = match change {
+        Change::Exchanged => log.lines.len().saturating_sub(1),
+        _ => log.lines.len(),
+    };
+    for place in 0..count {
+        changed_line(alloc, plan, log, place, change, tally)?;
     }
     Ok(())
 }
@@ -118,8 +144,14 @@ pub fn replaced_lines(
 {
     for (number, other, wanted) in log.replaced {
         let text = with_others(alloc, log.lines, &[(*number, *other)])?;
-        let found = answer_to(alloc, plan, text.bytes())?;
-        tally.count(*number as u64, "replaced", found, *wanted);
+        tally.count(
+            alloc,
+            plan,
+            text.bytes(),
+            *number as u64,
+            "replaced",
+            *wanted,
+        )?;
     }
     Ok(())
 }

@@ -8,18 +8,21 @@
 #![tactic(auto)]
 
 mod answer;
+mod answers;
 mod bytes;
+mod changes;
 mod expected;
 mod lines;
+mod pairs;
+mod replies;
 mod table;
 mod tally;
 mod whole;
 
 use crate::answer::plan_of;
-use crate::bytes::{changed_bytes, cut_bytes};
+use crate::changes::count_changes;
 use crate::expected::expected_logs;
-use crate::lines::{doubled_lines, dropped_lines, exchanged_lines, replaced_lines};
-use crate::table::{LOGS, Log};
+use crate::table::Log;
 use crate::tally::Tally;
 use crate::whole::whole_logs;
 use join_base::NoMemory;
@@ -29,39 +32,52 @@ use std::io;
 // The answers to all changes of a log.
 fn all_changes(alloc: Global, log: &Log) -> Result<Tally, NoMemory> {
     let mut tally = Tally::new();
-    let Some(plan) = plan_of(alloc, log.script.as_bytes())? else {
-        tally.miss();
-        return Ok(tally);
-    };
-    changed_bytes(alloc, &plan, log, &mut tally)?;
-    cut_bytes(alloc, &plan, log, &mut tally)?;
-    dropped_lines(alloc, &plan, log, &mut tally)?;
-    doubled_lines(alloc, &plan, log, &mut tally)?;
-    exchanged_lines(alloc, &plan, log, &mut tally)?;
-    replaced_lines(alloc, &plan, log, &mut tally)?;
+    match plan_of(alloc, log.script.as_bytes())? {
+        Some(plan) => count_changes(alloc, &plan, log, &mut tally)?,
+        None => tally.miss(),
+    }
+    Ok(tally)
+}
+
+// The expected runs of all logs.
+fn all_expected(alloc: Global) -> Result<Tally, NoMemory> {
+    let mut tally = Tally::new();
+    expected_logs(alloc, pairs::logs(), &mut tally)?;
+    expected_logs(alloc, answers::logs(), &mut tally)?;
+    expected_logs(alloc, replies::logs(), &mut tally)?;
     Ok(tally)
 }
 
 // Prints how many logs got the answer that is wanted, and the first other one.
-fn tell(rt: &HostRuntime, name: &str, found: Result<Tally, NoMemory>) -> io::Result<()> {
-    let tally = match found {
-        Ok(tally) => tally,
-        Err(NoMemory) => return println!(rt; "{name}: there was no memory"),
-    };
+fn tell_tally(rt: &HostRuntime, name: &str, tally: Tally) -> io::Result<()> {
     println!(rt;
         "{name}: {} logs, {} other answers",
         tally.logs, tally.misses
     )?;
-    for miss in tally.first.iter() {
-        println!(rt; "  first at line {}: {}", miss.line, miss.change)?;
+    match tally.first {
+        Some(miss) => println!(rt; "  first at line {}: {}", miss.line, miss.change),
+        None => Ok(()),
+    }
+}
+
+fn tell(rt: &HostRuntime, name: &str, found: Result<Tally, NoMemory>) -> io::Result<()> {
+    match found {
+        Ok(tally) => tell_tally(rt, name, tally),
+        Err(NoMemory) => println!(rt; "{name}: there was no memory"),
+    }
+}
+
+fn tell_logs(rt: &HostRuntime, logs: &[Log]) -> io::Result<()> {
+    for log in logs {
+        tell(rt, log.name, all_changes(rt.alloc(), log))?;
     }
     Ok(())
 }
 
 fn main(rt: HostRuntime) -> io::Result<()> {
-    for log in LOGS.iter() {
-        tell(&rt, log.name, all_changes(rt.alloc(), log))?;
-    }
+    tell_logs(&rt, pairs::logs())?;
+    tell_logs(&rt, answers::logs())?;
+    tell_logs(&rt, replies::logs())?;
     tell(&rt, "whole logs", whole_logs(rt.alloc()))?;
-    tell(&rt, "expected runs", expected_logs(rt.alloc()))
+    tell(&rt, "expected runs", all_expected(rt.alloc()))
 }

@@ -1,6 +1,10 @@
 //! How many changed logs were replayed, and which got another answer.
+ghost use Rattle.script_types.specs.Typed.{IsTyped};
 
-use crate::answer::Answer;
+use crate::answer::{Answer, answer_to};
+use join_base::NoMemory;
+use script_types::Plan;
+use std::alloc::Global;
 
 /// A log that got another answer: the line that was changed, and how.
 #[derive(Clone, Copy)]
@@ -26,9 +30,21 @@ impl Tally {
         }
     }
 
-    /// Counts an answer beside the one that is wanted.
-    pub fn count(&mut self, line: u64, change: &'static str, found: Answer, wanted: Answer) {
+    /// Replays a log, and counts its answer beside the one that is wanted.
+    pub fn count(
+        &mut self,
+        alloc: Global,
+        plan: &Plan,
+        log: &[u8],
+        line: u64,
+        change: &'static str,
+        wanted: Answer,
+    ) -> Result<(), NoMemory>
+        requires typed { IsTyped plan.now }
+    {
+        let found = answer_to(alloc, plan, log)?;
         self.judge(line, change, found == wanted);
+        Ok(())
     }
 
     /// Counts a log, with whether it came to what is wanted.

@@ -2,11 +2,10 @@
 ghost use Rattle.std.specs.Prelude.{◌≡◌, ◌≤◌};
 
 use crate::calls::{gives, inputs_of, writes};
-use join_base::{MemorySink, NoMemory};
+use join_base::{MemoryInputs, MemorySink, NoMemory};
 use join_command::Status;
 use std::alloc::Global;
 use std::sync::Wait;
-use std::test::Fail;
 use std::thread::Threads;
 
 // The log of s over f, which has 170 bytes.
@@ -41,19 +40,31 @@ const FILES: &[(&str, &[u8])] = &[
 
 const RUN: &[&str] = &["run", "s", "f"];
 
+fn own_inputs(alloc: Global) -> Result<MemoryInputs, NoMemory> {
+    inputs_of(alloc, FILES)
+}
+
+// The files, of which the fetch of this number fails.
+fn failing_inputs(alloc: Global, call: u64) -> Result<MemoryInputs, NoMemory> {
+    let mut inputs = own_inputs(alloc)?;
+    inputs.fail(call)?;
+    Ok(inputs)
+}
+
 // Whether a run over two feeds ends with nothing written where this fetch fails.
 fn stops_at<R: Threads + Wait + Sync>(rt: &R, alloc: Global, call: u64) -> Result<bool, NoMemory> {
-    let mut inputs = inputs_of(alloc, FILES)?;
-    inputs.fail(call)?;
+    let mut inputs = failing_inputs(alloc, call)?;
     let words = ["run", "s", "f", "empty"].as_slice();
     gives(rt, alloc, words, &mut inputs, Status::ReadFault, b"")
 }
 
 #[test]
-fn each_fetch_may_fail(rt: HostRuntime) -> Result<(), Fail> {
+fn each_fetch_may_fail(rt: HostRuntime) {
     let alloc = rt.alloc();
-    assert!(rt; stops_at(&rt, alloc, 1)? && stops_at(&rt, alloc, 2)? && stops_at(&rt, alloc, 3)?);
-    Ok(())
+    let all = stops_at(&rt, alloc, 1) == Ok(true)
+        && stops_at(&rt, alloc, 2) == Ok(true)
+        && stops_at(&rt, alloc, 3) == Ok(true);
+    assert!(rt; all);
 }
 
 // Whether the words come to this, and this fetch, which is to fail, is made by the command behind them alone.
@@ -65,8 +76,7 @@ fn ends_before<R: Threads + Wait + Sync>(
     status: Status,
     output: &[u8],
 ) -> Result<bool, NoMemory> {
-    let mut inputs = inputs_of(alloc, FILES)?;
-    inputs.fail(call)?;
+    let mut inputs = failing_inputs(alloc, call)?;
     if !gives(rt, alloc, words, &mut inputs, status, output)? {
         return Ok(false);
     }
@@ -115,10 +125,13 @@ fn all_end_before<R: Threads + Wait + Sync>(
     Ok(true)
 }
 
+fn early_ends() -> &'static [Case<'static>] {
+    CASES
+}
+
 #[test]
-fn nothing_is_fetched_behind_the_end(rt: HostRuntime) -> Result<(), Fail> {
-    assert!(rt; all_end_before(&rt, rt.alloc(), CASES)?);
-    Ok(())
+fn nothing_is_fetched_behind_the_end(rt: HostRuntime) {
+    assert!(rt; all_end_before(&rt, rt.alloc(), early_ends()) == Ok(true));
 }
 
 // A sink with so much room, of which one write takes at most so many bytes, and the write of this number fails.
@@ -140,7 +153,7 @@ fn leaves<R: Threads + Wait + Sync>(
 ) -> Result<bool, NoMemory>
     requires { 1 ≤ sink.most }
 {
-    let mut inputs = inputs_of(alloc, FILES)?;
+    let mut inputs = own_inputs(alloc)?;
     let mut out = MemorySink::new(alloc, sink.room, sink.most)?;
     out.fail(sink.call)?;
     writes(rt, alloc, words, &mut inputs, out, status, output)
@@ -198,23 +211,27 @@ fn others_leave_a_beginning<R: Threads + Wait + Sync>(
     leaves(rt, alloc, &["run", "s"], tens(1), Status::WriteFault, b"")
 }
 
+fn whole_log() -> &'static [u8] {
+    LOG
+}
+
 #[test]
-fn a_write_that_fails_leaves_a_beginning(rt: HostRuntime) -> Result<(), Fail> {
+fn a_write_that_fails_leaves_a_beginning(rt: HostRuntime) {
     let alloc = rt.alloc();
-    assert!(rt; each_leaves_a_beginning(&rt, alloc, LOG)? && others_leave_a_beginning(&rt, alloc)?);
-    Ok(())
+    let all = each_leaves_a_beginning(&rt, alloc, whole_log()) == Ok(true)
+        && others_leave_a_beginning(&rt, alloc) == Ok(true);
+    assert!(rt; all);
 }
 
 // Whether the log is written by one byte at a time, and by ten, where the write behind the last one is to fail.
 fn pieces_make_one<R: Threads + Wait + Sync>(rt: &R, alloc: Global) -> Result<bool, NoMemory> {
-    if !leaves(rt, alloc, RUN, room_for(170, 1), Status::Done, LOG)? {
+    if !leaves(rt, alloc, RUN, room_for(170, 1), Status::Done, whole_log())? {
         return Ok(false);
     }
-    leaves(rt, alloc, RUN, tens(18), Status::Done, LOG)
+    leaves(rt, alloc, RUN, tens(18), Status::Done, whole_log())
 }
 
 #[test]
-fn pieces_of_any_size_make_one_output(rt: HostRuntime) -> Result<(), Fail> {
-    assert!(rt; pieces_make_one(&rt, rt.alloc())?);
-    Ok(())
+fn pieces_of_any_size_make_one_output(rt: HostRuntime) {
+    assert!(rt; pieces_make_one(&rt, rt.alloc()) == Ok(true));
 }

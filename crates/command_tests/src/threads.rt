@@ -1,11 +1,10 @@
 //! Runs on threads.
 use crate::calls::{answer_to, bytes_of, inputs_of, is_accepted};
-use join_base::{Bytes, NoMemory};
+use join_base::{Bytes, MemoryInputs, NoMemory};
 use join_command::{FreeGate, Gate, Status};
 use std::alloc::Global;
 use std::sync::Wait;
 use std::sync::atomic::{AtomicU64, Ordering};
-use std::test::Fail;
 use std::thread::Threads;
 
 // How often a gate looks before it gives up.
@@ -62,27 +61,30 @@ const TWO_ACTORS: &[(&str, &[u8])] = &[
     ),
 ];
 
+fn two_actors(alloc: Global) -> Result<MemoryInputs, NoMemory> {
+    inputs_of(alloc, TWO_ACTORS)
+}
+
 // Whether a run of two workers ends past the gate with a log that is accepted.
 fn two_are_done<R: Threads + Wait + Sync>(
     rt: &R,
     alloc: Global,
     gate: &Both,
 ) -> Result<bool, NoMemory> {
-    let mut inputs = inputs_of(alloc, TWO_ACTORS)?;
+    let mut inputs = two_actors(alloc)?;
     let words = ["run", "--ring", "64", "--workers", "2", "s", "f"].as_slice();
     let (status, log) = answer_to(rt, alloc, words, &mut inputs, gate)?;
     Ok(status == Status::Done && is_accepted(rt, alloc, &mut inputs, log)?)
 }
 
 #[test]
-fn two_workers_are_at_work_at_a_time(rt: HostRuntime) -> Result<(), Fail> {
+fn two_workers_are_at_work_at_a_time(rt: HostRuntime) {
     let gate = Both {
         first: AtomicU64::new(0),
         second: AtomicU64::new(0),
         failures: AtomicU64::new(0),
     };
-    assert!(rt; two_are_done(&rt, rt.alloc(), &gate)? && gate.met());
-    Ok(())
+    assert!(rt; two_are_done(&rt, rt.alloc(), &gate) == Ok(true) && gate.met());
 }
 
 // Holds whoever is at one actor until somebody was at another.
@@ -135,6 +137,10 @@ fn has_arrivals(log: &Bytes, arrivals: &[u8]) -> bool {
     }
 }
 
+fn two_posters(alloc: Global) -> Result<MemoryInputs, NoMemory> {
+    inputs_of(alloc, TWO_POSTERS)
+}
+
 // Whether the post of the actor that is held comes second, as these arrivals of d tell.
 fn comes_second<R: Threads + Wait + Sync>(
     rt: &R,
@@ -148,7 +154,7 @@ fn comes_second<R: Threads + Wait + Sync>(
         seen: AtomicU64::new(0),
         failures: AtomicU64::new(0),
     };
-    let mut inputs = inputs_of(alloc, TWO_POSTERS)?;
+    let mut inputs = two_posters(alloc)?;
     let words = ["run", "--workers", "2", "s", "f"].as_slice();
     let (status, log) = answer_to(rt, alloc, words, &mut inputs, &gate)?;
     let is_so = status == Status::Done
@@ -157,15 +163,23 @@ fn comes_second<R: Threads + Wait + Sync>(
     Ok(is_so && is_accepted(rt, alloc, &mut inputs, log)?)
 }
 
-#[test]
-fn the_gate_decides_which_post_comes_second(rt: HostRuntime) -> Result<(), Fail> {
-    let alloc = rt.alloc();
-    let x_second: &[u8] =
+fn does_x_come_second<R: Threads + Wait + Sync>(rt: &R, alloc: Global) -> Result<bool, NoMemory> {
+    let arrivals =
         b"1 at 2 from actor y g(2)\nfire rule 1 take 1\npost e g(2)\n2 at 3 from actor x g(1)\n";
-    let y_second: &[u8] =
+    comes_second(rt, alloc, 0, arrivals)
+}
+
+fn does_y_come_second<R: Threads + Wait + Sync>(rt: &R, alloc: Global) -> Result<bool, NoMemory> {
+    let arrivals =
         b"1 at 2 from actor x g(1)\nfire rule 1 take 1\npost e g(1)\n2 at 3 from actor y g(2)\n";
-    assert!(rt; comes_second(&rt, alloc, 0, x_second)? && comes_second(&rt, alloc, 1, y_second)?);
-    Ok(())
+    comes_second(rt, alloc, 1, arrivals)
+}
+
+#[test]
+fn the_gate_decides_which_post_comes_second(rt: HostRuntime) {
+    let x_second = does_x_come_second(&rt, rt.alloc());
+    let y_second = does_y_come_second(&rt, rt.alloc());
+    assert!(rt; x_second == Ok(true) && y_second == Ok(true));
 }
 
 // Actors that join what comes from three feeds and from each other, post to themselves, and stop.
@@ -196,6 +210,10 @@ fn next_number(state: &mut u64) -> u32 {
     (*state >> 33) as u32
 }
 
+fn four_actors(alloc: Global) -> Result<MemoryInputs, NoMemory> {
+    inputs_of(alloc, FOUR_ACTORS)
+}
+
 // Whether a run of the four actors by these options writes a log that is accepted.
 fn is_lawful<R: Threads + Wait + Sync>(
     rt: &R,
@@ -204,10 +222,25 @@ fn is_lawful<R: Threads + Wait + Sync>(
 ) -> Result<bool, NoMemory> {
     let [ring, workers, arrivals] = options;
     let words = ["run", ring, workers, arrivals, "s", "f", "g", "h"];
-    let mut inputs = inputs_of(alloc, FOUR_ACTORS)?;
+    let mut inputs = four_actors(alloc)?;
     let (status, log) = answer_to(rt, alloc, words.as_slice(), &mut inputs, &FreeGate)?;
     let is_done = matches!(status, Status::Done | Status::Limits);
     Ok(is_done && is_accepted(rt, alloc, &mut inputs, log)?)
+}
+
+// The same by these numbers.
+fn is_lawful_by<R: Threads + Wait + Sync>(
+    rt: &R,
+    alloc: Global,
+    ring: u32,
+    workers: u32,
+    arrivals: u32,
+) -> Result<bool, NoMemory> {
+    let ring = format!(in alloc; "--ring={ring}")?;
+    let workers = format!(in alloc; "--workers={workers}")?;
+    let arrivals = format!(in alloc; "--arrivals={arrivals}")?;
+    let options = [ring.as_str(), workers.as_str(), arrivals.as_str()];
+    is_lawful(rt, alloc, options)
 }
 
 // Whether runs by many numbers do so.
@@ -218,11 +251,7 @@ fn all_are_lawful<R: Threads + Wait + Sync>(rt: &R, alloc: Global) -> Result<boo
         let ring = (next_number(&mut state) % 4) * (next_number(&mut state) % 64) + 1;
         let workers = next_number(&mut state) % 8 + 1;
         let arrivals = next_number(&mut state) % 40 + 1;
-        let ring = format!(in alloc; "--ring={ring}")?;
-        let workers = format!(in alloc; "--workers={workers}")?;
-        let arrivals = format!(in alloc; "--arrivals={arrivals}")?;
-        let options = [ring.as_str(), workers.as_str(), arrivals.as_str()];
-        if !is_lawful(rt, alloc, options)? {
+        if !is_lawful_by(rt, alloc, ring, workers, arrivals)? {
             return Ok(false);
         }
     }
@@ -230,7 +259,6 @@ fn all_are_lawful<R: Threads + Wait + Sync>(rt: &R, alloc: Global) -> Result<boo
 }
 
 #[test]
-fn runs_by_any_numbers_are_accepted(rt: HostRuntime) -> Result<(), Fail> {
-    assert!(rt; all_are_lawful(&rt, rt.alloc())?);
-    Ok(())
+fn runs_by_any_numbers_are_accepted(rt: HostRuntime) {
+    assert!(rt; all_are_lawful(&rt, rt.alloc()) == Ok(true));
 }

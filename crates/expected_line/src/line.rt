@@ -35,7 +35,6 @@ fn line_at(text: &[u8], place: u64) -> Option<&[u8]>
     }
 }
 
-// The log of the expected run of the run whose log the bytes are, where they are one.
 fn counted_text<L: Ledger>(
     alloc: Global,
     plan: &Plan,
@@ -58,6 +57,14 @@ fn counted_text<L: Ledger>(
     let mut text = Bytes::new(alloc);
     print_log(alloc, plan, &expected, &mut text)?;
     Ok(Some(text))
+}
+
+/// The log of the expected run of the run whose log the bytes are. `None` where the bytes are the log of no run.
+pub fn expected_text(alloc: Global, plan: &Plan, bytes: &[u8]) -> Result<Option<Bytes>, NoMemory>
+    requires typed { IsTyped plan.now }
+    ensures text { IfOk result (IsExpectedText plan.now bytes.now) }
+{
+    counted_text::<Brand>(alloc, plan, bytes, Blank::new(1))
 }
 
 fn copy_of(alloc: Global, line: Option<&[u8]>) -> Result<Option<Bytes>, NoMemory>
@@ -85,7 +92,7 @@ pub fn expected_line(
     requires typed { IsTyped plan.now }
     ensures line { IfOk result (IsExpectedLine plan.now bytes.now place) }
 {
-    match counted_text::<Brand>(alloc, plan, bytes, Blank::new(1))? {
+    match expected_text(alloc, plan, bytes)? {
         Some(text) => copy_of(alloc, line_at(text.bytes(), place)),
         None => Ok(None),
     }

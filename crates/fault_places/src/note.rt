@@ -15,36 +15,78 @@ const MAX_SHOWN: usize = 200;
 
 const MAX_FRONT: usize = 120;
 
-// What is told of a script: file, line, column, cause, and the line with a mark.
-fn hint_note<'a>(
+// What is told of a part of a file: the part, the cause, and a sentence.
+fn part_note<'a>(
     alloc: Global,
-    name: &'a str,
-    text: &'a [u8],
+    part: &[Part<'_>],
     cause: &'a [u8],
-    hint: &'a Hint,
+    sentence: &'a [u8],
+) -> Result<Bytes, NoMemory> {
+    let mut out = note_of(alloc, part)?;
+    let reason = [
+        Part::Text(b": "),
+        Part::Text(cause),
+        Part::Text(b": "),
+        Part::Shown(sentence),
+        Part::Text(b"\n"),
+    ];
+    push_parts(&mut out, &reason)?;
+    Ok(out)
+}
+
+// The same with a row or a line below, and what is told behind that.
+fn shown_note<'a>(
+    alloc: Global,
+    part: &[Part<'_>],
+    cause: &'a [u8],
+    sentence: &'a [u8],
+    line: &[u8],
+    behind: &[Part<'_>],
+) -> Result<Bytes, NoMemory> {
+    let mut out = part_note(alloc, part, cause, sentence)?;
+    let shown = [
+        Part::Text(b"    "),
+        Part::Shown(front_of(line, MAX_SHOWN)),
+        Part::Text(b"\n"),
+    ];
+    push_parts(&mut out, &shown)?;
+    push_parts(&mut out, behind)?;
+    Ok(out)
+}
+
+// Appends the line of a place, with a mark below that.
+fn push_marked(out: &mut Bytes, text: &[u8], place: usize) -> Result<(), NoMemory> {
+    let (front, back) = line_around(text, place);
+    let front = end_of(front, MAX_FRONT);
+    let marked = [
+        Part::Text(b"    "),
+        Part::Shown(front),
+        Part::Shown(front_of(back, MAX_SHOWN - MAX_FRONT)),
+        Part::Text(b"\n"),
+        Part::Mark(front),
+    ];
+    push_parts(out, &marked)
+}
+
+// What is told of a script: file, line, column, cause, and the line with a mark.
+fn hint_note(
+    alloc: Global,
+    name: &str,
+    text: &[u8],
+    cause: &[u8],
+    hint: &Hint,
 ) -> Result<Bytes, NoMemory> {
     let found = place_of(text, hint.place);
-    let (front, back) = line_around(text, hint.place);
-    let front = end_of(front, MAX_FRONT);
-    note_of(
-        alloc,
-        &[
-            name_part(name),
-            Part::Text(b":"),
-            Part::Number(found.line as i128),
-            Part::Text(b":"),
-            Part::Number(found.column as i128),
-            Part::Text(b": "),
-            Part::Text(cause),
-            Part::Text(b": "),
-            Part::Shown(hint.sentence.bytes()),
-            Part::Text(b"\n    "),
-            Part::Shown(front),
-            Part::Shown(front_of(back, MAX_SHOWN - MAX_FRONT)),
-            Part::Text(b"\n"),
-            Part::Mark(front),
-        ],
-    )
+    let part = [
+        name_part(name),
+        Part::Text(b":"),
+        Part::Number(found.line as i128),
+        Part::Text(b":"),
+        Part::Number(found.column as i128),
+    ];
+    let mut out = part_note(alloc, &part, cause, hint.sentence.bytes())?;
+    push_marked(&mut out, text, hint.place)?;
+    Ok(out)
 }
 
 // What is told of a script with a fault at this place.
@@ -90,32 +132,23 @@ fn row_reason(
 }
 
 // What is told of a row: file, line, row, cause, and the row.
-fn row_note<'a>(
+fn row_note(
     alloc: Global,
-    name: &'a str,
+    name: &str,
     line: usize,
     number: u64,
-    cause: &'a [u8],
-    sentence: &'a [u8],
-    row: &'a [u8],
+    cause: &[u8],
+    sentence: &[u8],
+    row: &[u8],
 ) -> Result<Bytes, NoMemory> {
-    note_of(
-        alloc,
-        &[
-            name_part(name),
-            Part::Text(b":"),
-            Part::Number(line as i128),
-            Part::Text(b": row "),
-            Part::Number(i128::from(number)),
-            Part::Text(b": "),
-            Part::Text(cause),
-            Part::Text(b": "),
-            Part::Shown(sentence),
-            Part::Text(b"\n    "),
-            Part::Shown(front_of(row, MAX_SHOWN)),
-            Part::Text(b"\n"),
-        ],
-    )
+    let part = [
+        name_part(name),
+        Part::Text(b":"),
+        Part::Number(line as i128),
+        Part::Text(b": row "),
+        Part::Number(i128::from(number)),
+    ];
+    shown_note(alloc, &part, cause, sentence, row, &[])
 }
 
 // What is told of a feed with a row in fault.
@@ -147,62 +180,44 @@ fn blind_note<'a>(
     name: &'a str,
     part: &'a [u8],
     number: u64,
-    cause: &'a [u8],
-    sentence: &'a [u8],
+    cause: &[u8],
+    sentence: &[u8],
 ) -> Result<Bytes, NoMemory> {
-    note_of(
-        alloc,
-        &[
-            name_part(name),
-            Part::Text(part),
-            Part::Number(i128::from(number)),
-            Part::Text(b": "),
-            Part::Text(cause),
-            Part::Text(b": "),
-            Part::Shown(sentence),
-            Part::Text(b"\n"),
-        ],
-    )
+    let part = [
+        name_part(name),
+        Part::Text(part),
+        Part::Number(i128::from(number)),
+    ];
+    part_note(alloc, &part, cause, sentence)
 }
 
 // What is told of a line of a log: file, line, cause and sentence, the line, and what is told behind it.
-fn line_note<'a>(
+fn line_note(
     alloc: Global,
-    name: &'a str,
-    line: u64,
-    cause: &'a [u8],
-    sentence: &'a [u8],
-    shown: &'a [u8],
+    name: &str,
+    number: u64,
+    cause: &[u8],
+    sentence: &[u8],
+    line: &[u8],
     behind: &[Part<'_>],
 ) -> Result<Bytes, NoMemory> {
-    let mut out = note_of(
-        alloc,
-        &[
-            name_part(name),
-            Part::Text(b":"),
-            Part::Number(i128::from(line)),
-            Part::Text(b": "),
-            Part::Text(cause),
-            Part::Text(b": "),
-            Part::Shown(sentence),
-            Part::Text(b"\n    "),
-            Part::Shown(front_of(shown, MAX_SHOWN)),
-            Part::Text(b"\n"),
-        ],
-    )?;
-    push_parts(&mut out, behind)?;
-    Ok(out)
+    let part = [
+        name_part(name),
+        Part::Text(b":"),
+        Part::Number(i128::from(number)),
+    ];
+    shown_note(alloc, &part, cause, sentence, line, behind)
 }
 
 // What is told of a line of a log that begins at this place, and of the line that should stand there, where that is known.
-fn expected_note<'a>(
+fn expected_note(
     alloc: Global,
-    name: &'a str,
-    text: &'a [u8],
+    name: &str,
+    text: &[u8],
     start: usize,
     line: u64,
-    cause: &'a [u8],
-    expected: Option<&'a [u8]>,
+    cause: &[u8],
+    expected: Option<&[u8]>,
 ) -> Result<Bytes, NoMemory> {
     let (_, back) = line_around(text, start);
     let is_ended = back.len() < text.len().saturating_sub(start);

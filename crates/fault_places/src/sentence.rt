@@ -7,11 +7,12 @@ pub const PROGRAM: &[u8] = b"joinactors: ";
 /// The commands with their words, and the options of `run` with their ranges.
 pub const USAGE: &[u8] = b"usage:
   run SCRIPT FEED.. [OPTION N]..    1 to 16 feeds
+  ask SCRIPT FEED.. [OPTION N]..    as run, and then the answer for each row
   check SCRIPT
   lint SCRIPT
   replay SCRIPT LOG
   load N                            N from 1 to 20000
-the options of run, each at most once:
+the options of run and ask, each at most once:
   --workers N     1 to 64, usually 4
   --ring N        1 to 4096, usually 64
   --arrivals N    1 to 1000000, usually 50000

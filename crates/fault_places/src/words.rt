@@ -15,6 +15,13 @@ const COMMANDS: &[Command] = &[
         b"a script and 1 to 16 feeds are wanted",
         true,
     ),
+    (
+        b"ask",
+        2,
+        17,
+        b"a script and 1 to 16 feeds are wanted",
+        true,
+    ),
     (b"check", 1, 1, b"one script is wanted", false),
     (b"lint", 1, 1, b"one script is wanted", false),
     (b"replay", 2, 2, b"a script and a log are wanted", false),

@@ -11,7 +11,6 @@ use script_types::Plan;
 use std::alloc::Global;
 use std::marker::Brand;
 use std::sync::ledger::{Blank, Ledger};
-use std::test::Fail;
 
 // A script, a log that differs from what it does, and what is told.
 type Differing = (&'static [u8], &'static [u8], &'static [u8]);
@@ -158,28 +157,32 @@ fn is_told(alloc: Global, case: &Differing) -> Result<bool, NoMemory> {
     }
 }
 
-// How many of the logs in front are told as they should be.
-fn told_count(alloc: Global) -> Result<usize, NoMemory> {
-    for place in 0..DIFFERING.len() {
-        if !is_told(alloc, &DIFFERING[place])? {
-            return Ok(place);
+fn differing_logs() -> &'static [Differing] {
+    DIFFERING
+}
+
+fn are_told(alloc: Global, cases: &[Differing]) -> bool {
+    for case in cases {
+        if is_told(alloc, case) != Ok(true) {
+            return false;
         }
     }
-    Ok(DIFFERING.len())
+    true
 }
 
 #[test]
-fn the_line_that_should_stand_there_is_told(rt: HostRuntime) -> Result<(), Fail> {
-    assert_eq!(rt; told_count(rt.alloc())?, DIFFERING.len());
-    Ok(())
+fn the_line_that_should_stand_there_is_told(rt: HostRuntime) {
+    assert!(rt; are_told(rt.alloc(), differing_logs()));
+}
+
+fn has_line_where_it_differs() -> bool {
+    differing_line(b"refused log line 7 Differs\n") == Some(7)
+        && differing_line(b"refused log line 7 LogFault\n").is_none()
+        && differing_line(b"refused script 7 Differs\n").is_none()
+        && differing_line(b"accepted 7\n").is_none()
 }
 
 #[test]
 fn only_a_log_that_differs_has_such_a_line(rt: HostRuntime) {
-    assert!(rt;
-        differing_line(b"refused log line 7 Differs\n") == Some(7)
-            && differing_line(b"refused log line 7 LogFault\n").is_none()
-            && differing_line(b"refused script 7 Differs\n").is_none()
-            && differing_line(b"accepted 7\n").is_none()
-    );
+    assert!(rt; has_line_where_it_differs());
 }

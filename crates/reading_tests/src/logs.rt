@@ -1,15 +1,16 @@
 //! Logs that are read and printed again as they were, and logs that are none.
-ghost use Rattle.std.specs.Prelude.{◌≡◌, IfOk, true};
+ghost use Rattle.std.specs.Prelude.{◌≡◌, [], IfOk, OnOk, true};
 ghost use Rattle.join_base.specs.Text.{is_name};
 ghost use Rattle.script_types.specs.Typed.{IsTyped};
-ghost use Rattle.reading_tests.specs.Samples.{one_field, ruleless, sample_plan};
+ghost use Rattle.fair_semantics.specs.Fits.{RunFits};
+ghost use Rattle.reading_tests.specs.Samples.{no_field, one_field, ruleless, sample_plan};
 
 use arrival_log::print_log;
+use fair_semantics::Run;
 use join_base::{Bytes, Items, Name, NoMemory, Sort};
 use log_reader::{LogFault, read_log};
 use script_types::{ActorPlan, Kind, Plan};
 use std::alloc::Global;
-use std::test::Fail;
 
 const FIRST: &str = "joinlog 1 arrivals 9 partials 9 feeds 2\n";
 
@@ -87,30 +88,69 @@ fn actor(alloc: Global, name: &[u8]) -> Result<ActorPlan, NoMemory>
     })
 }
 
+// A kind without fields.
+fn bare_kind(alloc: Global, name: &[u8]) -> Result<Kind, NoMemory>
+    requires { is_name name.now ≡ true }
+    ensures { IfOk result (λ k. k ≡ no_field name.now) }
+{
+    let name = Name::from_bytes(alloc, name)?;
+    Ok(Kind {
+        name,
+        fields: Items::new(alloc),
+    })
+}
+
+fn push_kinds(alloc: Global, kinds: &mut Items<Kind>) -> Result<(), NoMemory>
+    requires empty { kinds.old ≡ [] }
+    ensures { OnOk result (kinds.new ≡ sample_plan.kinds) }
+{
+    kinds.push(kind(alloc, b"a", Sort::Int)?)?;
+    kinds.push(kind(alloc, b"b", Sort::Int)?)?;
+    kinds.push(kind(alloc, b"say", Sort::Words)?)?;
+    kinds.push(bare_kind(alloc, b"go")?)?;
+    Ok(())
+}
+
+fn push_actors(alloc: Global, actors: &mut Items<ActorPlan>) -> Result<(), NoMemory>
+    requires empty { actors.old ≡ [] }
+    ensures { OnOk result (actors.new ≡ sample_plan.actors) }
+{
+    actors.push(actor(alloc, b"m")?)?;
+    actors.push(actor(alloc, b"n")?)?;
+    Ok(())
+}
+
 fn sample_plan(alloc: Global) -> Result<Plan, NoMemory>
     ensures { IfOk result (λ p. p ≡ sample_plan) }
 {
     let mut kinds = Items::new(alloc);
-    kinds.push(kind(alloc, b"a", Sort::Int)?)?;
-    kinds.push(kind(alloc, b"b", Sort::Int)?)?;
-    kinds.push(kind(alloc, b"say", Sort::Words)?)?;
-    let name = Name::from_bytes(alloc, b"go")?;
-    let fields = Items::new(alloc);
-    kinds.push(Kind { name, fields })?;
+    push_kinds(alloc, &mut kinds)?;
     let mut actors = Items::new(alloc);
-    actors.push(actor(alloc, b"m")?)?;
-    actors.push(actor(alloc, b"n")?)?;
+    push_actors(alloc, &mut actors)?;
     Ok(Plan { kinds, actors })
 }
 
-// A log of the sample plan, of which the first line and lines of the first actor are given.
-fn whole(alloc: Global, first: &str, lines: &str) -> Result<Bytes, NoMemory> {
-    let mut log = Bytes::new(alloc);
+// Appends a log of the sample plan, of which the first line and lines of the first actor are given.
+fn push_log(log: &mut Bytes, first: &str, lines: &str) -> Result<(), NoMemory> {
     log.push_all(first.as_bytes())?;
     log.push_all(b"actor m\n")?;
     log.push_all(lines.as_bytes())?;
-    log.push_all(b"end stopped left 1,3 partials 2\nactor n\nend jammed left - partials 0\n")?;
+    log.push_all(b"end stopped left 1,3 partials 2\nactor n\nend jammed left - partials 0\n")
+}
+
+fn whole(alloc: Global, first: &str, lines: &str) -> Result<Bytes, NoMemory> {
+    let mut log = Bytes::new(alloc);
+    push_log(&mut log, first, lines)?;
     Ok(log)
+}
+
+// A run printed again.
+fn printed(alloc: Global, plan: &Plan, run: &Run) -> Result<Bytes, NoMemory>
+    requires fits { RunFits plan.now run.now }
+{
+    let mut out = Bytes::new(alloc);
+    print_log(alloc, plan, run, &mut out)?;
+    Ok(out)
 }
 
 // Whether the log is read, and printed as it was.
@@ -118,58 +158,92 @@ fn is_read(alloc: Global, plan: &Plan, log: &[u8]) -> Result<bool, NoMemory>
     requires typed { IsTyped plan.now }
 {
     match read_log(alloc, plan, log) {
-        Ok(run) => {
-            let mut out = Bytes::new(alloc);
-            print_log(alloc, plan, &run, &mut out)?;
-            Ok(out.bytes() == log)
-        }
+        Ok(run) => Ok(printed(alloc, plan, &run)?.bytes() == log),
         Err(_) => Ok(false),
     }
 }
 
-fn are_read(alloc: Global, plan: &Plan) -> Result<bool, NoMemory>
+fn is_row_read(alloc: Global, plan: &Plan, row: &(&str, &str)) -> Result<bool, NoMemory>
     requires typed { IsTyped plan.now }
 {
-    for (first, lines) in READ {
-        let log = whole(alloc, first, lines)?;
-        if !is_read(alloc, plan, log.bytes())? {
-            return Ok(false);
-        }
-    }
-    Ok(true)
+    let log = whole(alloc, row.0, row.1)?;
+    is_read(alloc, plan, log.bytes())
 }
 
-fn are_refused(alloc: Global, plan: &Plan) -> Result<bool, NoMemory>
+fn are_read(alloc: Global, plan: &Plan, rows: &[(&str, &str)]) -> bool
     requires typed { IsTyped plan.now }
 {
-    for (first, lines, line) in REFUSED {
-        let log = whole(alloc, first, lines)?;
-        match read_log(alloc, plan, log.bytes()) {
-            Err(LogFault::Bad { line: found }) if found == *line => {}
-            _ => return Ok(false),
+    for row in rows {
+        if is_row_read(alloc, plan, row) != Ok(true) {
+            return false;
         }
     }
-    Ok(true)
+    true
+}
+
+// Whether the log is refused for this line.
+fn is_refused(alloc: Global, plan: &Plan, row: &(&str, &str, u64)) -> Result<bool, NoMemory>
+    requires typed { IsTyped plan.now }
+{
+    let log = whole(alloc, row.0, row.1)?;
+    match read_log(alloc, plan, log.bytes()) {
+        Err(LogFault::Bad { line }) => Ok(line == row.2),
+        _ => Ok(false),
+    }
+}
+
+fn are_refused(alloc: Global, plan: &Plan, rows: &[(&str, &str, u64)]) -> bool
+    requires typed { IsTyped plan.now }
+{
+    for row in rows {
+        if is_refused(alloc, plan, row) != Ok(true) {
+            return false;
+        }
+    }
+    true
+}
+
+fn logs_read() -> &'static [(&'static str, &'static str)] {
+    READ
+}
+
+fn logs_refused() -> &'static [(&'static str, &'static str, u64)] {
+    REFUSED
+}
+
+fn are_logs_read(alloc: Global) -> bool {
+    match sample_plan(alloc) {
+        Ok(plan) => are_read(alloc, &plan, logs_read()),
+        Err(NoMemory) => false,
+    }
+}
+
+fn are_logs_refused(alloc: Global) -> bool {
+    match sample_plan(alloc) {
+        Ok(plan) => are_refused(alloc, &plan, logs_refused()),
+        Err(NoMemory) => false,
+    }
 }
 
 #[test]
-fn a_log_is_printed_as_it_was_read(rt: HostRuntime) -> Result<(), Fail> {
-    let plan = sample_plan(rt.alloc())?;
-    assert!(rt; are_read(rt.alloc(), &plan)?);
-    Ok(())
+fn a_log_is_printed_as_it_was_read(rt: HostRuntime) {
+    assert!(rt; are_logs_read(rt.alloc()));
 }
 
 #[test]
-fn a_refusal_has_the_line_at_fault(rt: HostRuntime) -> Result<(), Fail> {
-    let plan = sample_plan(rt.alloc())?;
-    assert!(rt; are_refused(rt.alloc(), &plan)?);
-    Ok(())
+fn a_refusal_has_the_line_at_fault(rt: HostRuntime) {
+    assert!(rt; are_logs_refused(rt.alloc()));
 }
 
-#[test]
-fn a_fault_says_the_line(rt: HostRuntime) -> Result<(), Fail> {
+fn is_told(alloc: Global) -> bool {
     let fault = LogFault::Bad { line: 3 };
-    let text = format!(in rt.alloc(); "{fault}")?;
-    assert!(rt; text.as_str() == "line 3 may not stand there");
-    Ok(())
+    match format!(in alloc; "{fault}") {
+        Ok(text) => text.as_str() == "line 3 may not stand there",
+        Err(_) => false,
+    }
+}
+
+#[test]
+fn a_fault_says_the_line(rt: HostRuntime) {
+    assert!(rt; is_told(rt.alloc()));
 }

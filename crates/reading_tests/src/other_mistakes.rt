@@ -1,12 +1,12 @@
 //! Mistakes in feeds, logs and words, and what a person is told of each.
 use crate::script_mistakes::Mistake;
 
-/// A script for feeds.
-pub const SCRIPT: &[u8] =
+// A script for feeds.
+const SCRIPT: &[u8] =
     b"message a(x: int) message say(s: text) message motion(room: text, t: int) actor m { when a(x) { } }";
 
-/// Mistakes in feeds of that script.
-pub const FEEDS: &[Mistake] = &[
+// Mistakes in feeds of that script.
+const FEEDS: &[Mistake] = &[
     (
         b"x,a,1\n",
         b"refused feed 1 row 1 UnknownActor\n",
@@ -109,8 +109,8 @@ pub const FEEDS: &[Mistake] = &[
     ),
 ];
 
-/// Mistakes in logs.
-pub const LOGS: &[Mistake] = &[
+// Mistakes in logs.
+const LOGS: &[Mistake] = &[
     (
         b"joinlog 3 arrivals 5 partials 6 feeds 1\nactor m\n",
         b"refused log line 1 LogFault\n",
@@ -151,8 +151,8 @@ pub const LOGS: &[Mistake] = &[
 /// Words with a space between them, and what is told of them.
 pub type Words = (&'static str, &'static str);
 
-/// Mistakes on the command line.
-pub const WORDS: &[Words] = &[
+// Mistakes on the command line.
+const WORDS: &[Words] = &[
     (
         "",
         "joinactors: no command is given, or a word of it is not UTF-8\n",
@@ -245,3 +245,23 @@ pub const WORDS: &[Words] = &[
         "joinactors: run: a script and 1 to 16 feeds are wanted, and there are 18 words\n",
     ),
 ];
+
+/// A script for feeds.
+pub fn script_of_feeds() -> &'static [u8] {
+    SCRIPT
+}
+
+/// Mistakes in feeds of that script.
+pub fn feeds_in_fault() -> &'static [Mistake] {
+    FEEDS
+}
+
+/// Mistakes in logs.
+pub fn logs_in_fault() -> &'static [Mistake] {
+    LOGS
+}
+
+/// Mistakes on the command line.
+pub fn words_in_fault() -> &'static [Words] {
+    WORDS
+}

@@ -3,8 +3,8 @@
 /// A script, the line by which it is refused, and the first line that is told.
 pub type Mistake = (&'static [u8], &'static [u8], &'static [u8]);
 
-/// Each stands once, also where several mistakes are told alike.
-pub const SCRIPTS: &[Mistake] = &[
+// Each stands once, also where several mistakes are told alike.
+const SCRIPTS: &[Mistake] = &[
     (
         b"message a(x: int) message b(n: int, s: text)\nactor m {\n  when a(x) { print x }\n}\n",
         b"refused script 77 BadSyntax\n",
@@ -117,8 +117,8 @@ pub const SCRIPTS: &[Mistake] = &[
     ),
 ];
 
-/// More of them.
-pub const MORE_SCRIPTS: &[Mistake] = &[
+// More of them.
+const MORE_SCRIPTS: &[Mistake] = &[
     (
         b"message a(x: int) message b(n: int, s: text)\nactor m {\n  when a(x) { reply 1; }\n}\n",
         b"refused script 76 BadSyntax\n",
@@ -231,8 +231,8 @@ pub const MORE_SCRIPTS: &[Mistake] = &[
     ),
 ];
 
-/// The rest.
-pub const OTHER_SCRIPTS: &[Mistake] = &[
+// The rest.
+const OTHER_SCRIPTS: &[Mistake] = &[
     (
         b"message \xC3\xA9t\xC3\xA9(x: int)\n",
         b"refused script 8 BadToken\n",
@@ -335,8 +335,8 @@ pub const OTHER_SCRIPTS: &[Mistake] = &[
     ),
 ];
 
-/// Signs and texts that stand where they may not.
-pub const SIGNS_AND_TEXTS: &[Mistake] = &[
+// Signs and texts that stand where they may not.
+const SIGNS_AND_TEXTS: &[Mistake] = &[
     (
         b"message a(x: int);\nactor m { }\n",
         b"refused script 17 BadSyntax\n",
@@ -403,3 +403,20 @@ pub const SIGNS_AND_TEXTS: &[Mistake] = &[
         b"home:3:21: BadToken: a text has at most 120 bytes\n",
     ),
 ];
+
+/// Mistakes in scripts, in four tables.
+pub fn scripts_in_fault() -> &'static [Mistake] {
+    SCRIPTS
+}
+
+pub fn more_in_fault() -> &'static [Mistake] {
+    MORE_SCRIPTS
+}
+
+pub fn others_in_fault() -> &'static [Mistake] {
+    OTHER_SCRIPTS
+}
+
+pub fn signs_in_fault() -> &'static [Mistake] {
+    SIGNS_AND_TEXTS
+}

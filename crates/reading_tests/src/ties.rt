@@ -2,9 +2,8 @@
 use join_base::{Bytes, NoMemory, write_number};
 use script_check::check_script;
 use script_reader::read_script;
-use script_types::Plan;
+use script_types::{Plan, Rule};
 use std::alloc::Global;
-use std::test::Fail;
 use tied_patterns::{Tied, tied_pairs};
 
 // The definition of an actor, and its pairs: pattern and field of each variable, and the pattern that ties them.
@@ -50,16 +49,26 @@ fn push_tied(out: &mut Bytes, tied: &Tied) -> Result<(), NoMemory> {
     out.push_all(b";")
 }
 
-fn ties_of(alloc: Global, plan: &Plan) -> Result<Bytes, NoMemory> {
-    let mut out = Bytes::new(alloc);
+fn push_ties(alloc: Global, out: &mut Bytes, rule: &Rule) -> Result<(), NoMemory> {
+    let pairs = tied_pairs(alloc, &rule.definition)?;
+    for tied in pairs.as_slice() {
+        push_tied(out, tied)?;
+    }
+    Ok(())
+}
+
+fn push_all_ties(alloc: Global, out: &mut Bytes, plan: &Plan) -> Result<(), NoMemory> {
     for actor in plan.actors.as_slice() {
         for rule in actor.rules.as_slice() {
-            let pairs = tied_pairs(alloc, &rule.definition)?;
-            for tied in pairs.as_slice() {
-                push_tied(&mut out, tied)?;
-            }
+            push_ties(alloc, out, rule)?;
         }
     }
+    Ok(())
+}
+
+fn ties_of(alloc: Global, plan: &Plan) -> Result<Bytes, NoMemory> {
+    let mut out = Bytes::new(alloc);
+    push_all_ties(alloc, &mut out, plan)?;
     Ok(out)
 }
 
@@ -70,31 +79,38 @@ fn plan_of(alloc: Global, text: &[u8]) -> Option<Plan> {
     }
 }
 
-fn is_found(alloc: Global, definition: &[u8], wanted: &[u8]) -> Result<bool, NoMemory> {
-    let mut text = Bytes::new(alloc);
+// A script with an actor of this definition.
+fn push_script(text: &mut Bytes, definition: &[u8]) -> Result<(), NoMemory> {
     text.push_all(
         b"message a(x: int) message b(n: int, s: text) message c(x: int) message d(s: text) actor m { when ",
     )?;
     text.push_all(definition)?;
-    text.push_all(b" { } }")?;
+    text.push_all(b" { } }")
+}
+
+fn is_found(alloc: Global, definition: &[u8], wanted: &[u8]) -> Result<bool, NoMemory> {
+    let mut text = Bytes::new(alloc);
+    push_script(&mut text, definition)?;
     match plan_of(alloc, text.bytes()) {
         Some(plan) => Ok(ties_of(alloc, &plan)?.bytes() == wanted),
         None => Ok(false),
     }
 }
 
-fn found_count(alloc: Global) -> Result<usize, NoMemory> {
-    for place in 0..TIES.len() {
-        let (definition, wanted) = TIES[place];
-        if !is_found(alloc, definition, wanted)? {
-            return Ok(place);
+fn tied_definitions() -> &'static [(&'static [u8], &'static [u8])] {
+    TIES
+}
+
+fn are_found(alloc: Global, cases: &[(&[u8], &[u8])]) -> bool {
+    for (definition, wanted) in cases {
+        if is_found(alloc, definition, wanted) != Ok(true) {
+            return false;
         }
     }
-    Ok(TIES.len())
+    true
 }
 
 #[test]
-fn patterns_tied_through_others_are_found(rt: HostRuntime) -> Result<(), Fail> {
-    assert_eq!(rt; found_count(rt.alloc())?, TIES.len());
-    Ok(())
+fn patterns_tied_through_others_are_found(rt: HostRuntime) {
+    assert!(rt; are_found(rt.alloc(), tied_definitions()));
 }

@@ -5,7 +5,6 @@ use command_words::{
 };
 use join_base::{NoMemory, Word, WordList};
 use std::alloc::Global;
-use std::test::Fail;
 
 const VERBS: [Verb; 7] = [
     Verb::Run,
@@ -78,18 +77,13 @@ fn is_command(
     Ok(request.is_some())
 }
 
-fn is_any_command(
-    alloc: Global,
-    verbs: &[Verb],
-    settings: &[Setting],
-    lines: &[&str],
-) -> Result<bool, NoMemory> {
+fn is_any_command(alloc: Global, verbs: &[Verb], settings: &[Setting], lines: &[&str]) -> bool {
     for line in lines {
-        if is_command(alloc, verbs, settings, line)? {
-            return Ok(true);
+        if is_command(alloc, verbs, settings, line) != Ok(false) {
+            return true;
         }
     }
-    Ok(false)
+    false
 }
 
 const USAGE: &[&str] = &[
@@ -134,17 +128,27 @@ const NOT_BUILT: &[&str] = &[
     "run --workers 4 s f",
 ];
 
-#[test]
-fn other_lines_are_no_command(rt: HostRuntime) -> Result<(), Fail> {
-    let alloc = rt.alloc();
+fn other_lines() -> &'static [&'static str] {
+    USAGE
+}
+
+fn lines_not_built() -> &'static [&'static str] {
+    NOT_BUILT
+}
+
+// Whether only the command with a built option is one, where few are built.
+fn are_few_commands(alloc: Global) -> bool {
     let verbs = [Verb::Run, Verb::Check];
     let settings = [Setting::Arrivals, Setting::Partials];
-    assert!(rt;
-        !is_any_command(alloc, &VERBS, &SETTINGS, USAGE)?
-            && !is_any_command(alloc, &verbs, &settings, NOT_BUILT)?
-            && is_command(alloc, &verbs, &settings, "run --arrivals=7 s f")?
-    );
-    Ok(())
+    let line = "run --arrivals=7 s f";
+    !is_any_command(alloc, &verbs, &settings, lines_not_built())
+        && is_command(alloc, &verbs, &settings, line) == Ok(true)
+}
+
+#[test]
+fn other_lines_are_no_command(rt: HostRuntime) {
+    let is_none = !is_any_command(rt.alloc(), &VERBS, &SETTINGS, other_lines());
+    assert!(rt; is_none && are_few_commands(rt.alloc()));
 }
 
 // A command on the script s, the feed f and the log l.
@@ -223,13 +227,17 @@ fn is_taken(alloc: Global, line: &str, wanted: &Wanted) -> Result<bool, NoMemory
     }
 }
 
-fn are_taken(alloc: Global, lines: &[(&str, Wanted)]) -> Result<bool, NoMemory> {
+fn are_taken(alloc: Global, lines: &[(&str, Wanted)]) -> bool {
     for (line, wanted) in lines {
-        if !is_taken(alloc, line, wanted)? {
-            return Ok(false);
+        if is_taken(alloc, line, wanted) != Ok(true) {
+            return false;
         }
     }
-    Ok(true)
+    true
+}
+
+fn taken_lines() -> &'static [(&'static str, Wanted)] {
+    TAKEN
 }
 
 // Words behind two dashes name files, and so does one dash.
@@ -255,8 +263,8 @@ fn is_run_of_dashes(run: &RunWords<'_>) -> bool {
 }
 
 #[test]
-fn each_command_has_its_words(rt: HostRuntime) -> Result<(), Fail> {
+fn each_command_has_its_words(rt: HostRuntime) {
     items_law();
-    assert!(rt; are_taken(rt.alloc(), TAKEN)? && are_dashes_files(rt.alloc())?);
-    Ok(())
+    let all = are_taken(rt.alloc(), taken_lines()) && are_dashes_files(rt.alloc()) == Ok(true);
+    assert!(rt; all);
 }

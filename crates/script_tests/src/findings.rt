@@ -6,7 +6,6 @@ use join_base::NoMemory;
 use script_lint::{Finding, lint};
 use script_types::Plan;
 use std::alloc::Global;
-use std::test::Fail;
 
 fn are_found(alloc: Global, plan: &Plan, wanted: &[Finding]) -> Result<bool, NoMemory>
     requires { IsTyped plan.now }
@@ -31,9 +30,8 @@ const SHADOWED: &[u8] = b"message a(x: int) message b(x: int) actor m {
 const NARROW: &[u8] =
     b"message a(x: int) message b(x: int) actor m { when a(x) & b(y) within 1 { } }";
 
-#[test]
-fn definitions_and_kinds_are_found(rt: HostRuntime) -> Result<(), Fail> {
-    let shadowed = [
+fn is_shadow_found(alloc: Global) -> Result<bool, NoMemory> {
+    let wanted = [
         Finding::Shadowed {
             actor: 0,
             rule: 2,
@@ -41,14 +39,20 @@ fn definitions_and_kinds_are_found(rt: HostRuntime) -> Result<(), Fail> {
         },
         Finding::Dead { actor: 0, rule: 3 },
     ];
-    let narrow = [
+    has_findings(alloc, SHADOWED, &wanted)
+}
+
+fn is_narrow_found(alloc: Global) -> Result<bool, NoMemory> {
+    let wanted = [
         Finding::Narrow { actor: 0, rule: 1 },
         Finding::Idle { kind: 0 },
         Finding::Idle { kind: 1 },
     ];
-    assert!(rt;
-        has_findings(rt.alloc(), SHADOWED, shadowed.as_slice())?
-            && has_findings(rt.alloc(), NARROW, narrow.as_slice())?
-    );
-    Ok(())
+    has_findings(alloc, NARROW, &wanted)
+}
+
+#[test]
+fn definitions_and_kinds_are_found(rt: HostRuntime) {
+    let alloc = rt.alloc();
+    assert!(rt; is_shadow_found(alloc) == Ok(true) && is_narrow_found(alloc) == Ok(true));
 }

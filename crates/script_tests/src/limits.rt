@@ -4,7 +4,6 @@ use crate::given::{INT, has_plan, is_refused, joined};
 use join_base::{Bytes, NoMemory, write_number};
 use script_grammar::ScriptCause;
 use std::alloc::Global;
-use std::test::Fail;
 
 // A front, a piece that may stand so many times, a rest, and the place of the fault where the piece stands once more.
 type Limit = (&'static [u8], &'static [u8], usize, &'static [u8], u64);
@@ -77,11 +76,31 @@ fn are_the_most(alloc: Global, limits: &[Limit], cause: ScriptCause) -> Result<b
     Ok(true)
 }
 
+fn limits_of_counts() -> &'static [Limit] {
+    COUNTS
+}
+
+fn limits_of_lengths() -> &'static [Limit] {
+    LENGTHS
+}
+
 #[test]
-fn each_limit_at_its_edge(rt: HostRuntime) -> Result<(), Fail> {
-    assert!(rt; are_the_most(rt.alloc(), COUNTS, ScriptCause::TooMany)?);
-    assert!(rt; are_the_most(rt.alloc(), LENGTHS, ScriptCause::BadToken)?);
-    Ok(())
+fn each_limit_at_its_edge(rt: HostRuntime) {
+    let alloc = rt.alloc();
+    let all = are_the_most(alloc, limits_of_counts(), ScriptCause::TooMany) == Ok(true)
+        && are_the_most(alloc, limits_of_lengths(), ScriptCause::BadToken) == Ok(true);
+    assert!(rt; all);
+}
+
+fn push_numbered(
+    bytes: &mut Bytes,
+    before: &[u8],
+    number: u8,
+    after: &[u8],
+) -> Result<(), NoMemory> {
+    bytes.push_all(before)?;
+    write_number(bytes, i128::from(number) + 10)?;
+    bytes.push_all(after)
 }
 
 // A front, declarations whose names end in numbers of two digits, and a rest.
@@ -94,9 +113,7 @@ fn numbered(
 ) -> Result<Bytes, NoMemory> {
     let mut bytes = Bytes::new(alloc);
     for number in 0..count {
-        bytes.push_all(before)?;
-        write_number(&mut bytes, i128::from(number) + 10)?;
-        bytes.push_all(after)?;
+        push_numbered(&mut bytes, before, number, after)?;
     }
     bytes.push_all(rest)?;
     Ok(bytes)
@@ -134,12 +151,10 @@ fn are_most_fields(alloc: Global) -> Result<bool, NoMemory> {
 }
 
 #[test]
-fn as_many_names_as_are_allowed(rt: HostRuntime) -> Result<(), Fail> {
+fn as_many_names_as_are_allowed(rt: HostRuntime) {
     let alloc = rt.alloc();
-    assert!(rt;
-        are_most_names(alloc, b"actor m", 32, b" { } ", b"", 454)?
-            && are_most_names(alloc, b"message a", 64, b"() ", b"actor m { }", 904)?
-            && are_most_fields(alloc)?
-    );
-    Ok(())
+    let all = are_most_names(alloc, b"actor m", 32, b" { } ", b"", 454) == Ok(true)
+        && are_most_names(alloc, b"message a", 64, b"() ", b"actor m { }", 904) == Ok(true)
+        && are_most_fields(alloc) == Ok(true);
+    assert!(rt; all);
 }

@@ -5,7 +5,6 @@ use join_base::{Bytes, NoMemory};
 use script_grammar::ScriptCause;
 use script_reader::read_script;
 use std::alloc::Global;
-use std::test::Fail;
 
 // The front of scripts with a text, 29 bytes.
 const TEXT: &[u8] = b"message s(t: text) actor m { ";
@@ -95,10 +94,13 @@ const UNREADABLE: &[Refused] = &[
     ),
 ];
 
+fn texts_unreadable() -> &'static [Refused] {
+    UNREADABLE
+}
+
 #[test]
-fn a_text_is_refused_at_its_first_wrong_token(rt: HostRuntime) -> Result<(), Fail> {
-    assert!(rt; all_are_refused(rt.alloc(), UNREADABLE)?);
-    Ok(())
+fn a_text_is_refused_at_its_first_wrong_token(rt: HostRuntime) {
+    assert!(rt; all_are_refused(rt.alloc(), texts_unreadable()) == Ok(true));
 }
 
 // What is read, though it may look odd, and though names or types may be wrong.
@@ -145,10 +147,13 @@ fn are_read(alloc: Global, rows: &[(&[u8], &[u8])]) -> Result<bool, NoMemory> {
     Ok(true)
 }
 
+fn texts_readable() -> &'static [(&'static [u8], &'static [u8])] {
+    READABLE
+}
+
 #[test]
-fn what_looks_odd_is_read(rt: HostRuntime) -> Result<(), Fail> {
-    assert!(rt; are_read(rt.alloc(), READABLE)?);
-    Ok(())
+fn what_looks_odd_is_read(rt: HostRuntime) {
+    assert!(rt; are_read(rt.alloc(), texts_readable()) == Ok(true));
 }
 
 // Wrong names and numbers over an integer.
@@ -263,13 +268,25 @@ const TWICE: &[Refused] = &[
     ),
 ];
 
+fn wrong_numbers() -> &'static [Refused] {
+    WRONG
+}
+
+fn wrong_texts() -> &'static [Refused] {
+    WRONG_TEXTS
+}
+
+fn names_twice() -> &'static [Refused] {
+    TWICE
+}
+
 #[test]
-fn each_cause_has_its_place(rt: HostRuntime) -> Result<(), Fail> {
+fn each_cause_has_its_place(rt: HostRuntime) {
     let alloc = rt.alloc();
-    assert!(rt; all_are_refused(alloc, WRONG)?);
-    assert!(rt; all_are_refused(alloc, WRONG_TEXTS)?);
-    assert!(rt; all_are_refused(alloc, TWICE)?);
-    Ok(())
+    let all = all_are_refused(alloc, wrong_numbers()) == Ok(true)
+        && all_are_refused(alloc, wrong_texts()) == Ok(true)
+        && all_are_refused(alloc, names_twice()) == Ok(true);
+    assert!(rt; all);
 }
 
 const RIGHT_NUMBERS: &[&[u8]] = &[
@@ -287,11 +304,20 @@ const RIGHT_NAMES: &[&[u8]] = &[
     b"message a(x: int, y: int) actor m { when a(_, _) { } when a(x, _) { } }",
 ];
 
+fn right_numbers() -> &'static [&'static [u8]] {
+    RIGHT_NUMBERS
+}
+
+fn right_names() -> &'static [&'static [u8]] {
+    RIGHT_NAMES
+}
+
 #[test]
-fn right_names_and_numbers_have_plans(rt: HostRuntime) -> Result<(), Fail> {
+fn right_names_and_numbers_have_plans(rt: HostRuntime) {
     let alloc = rt.alloc();
-    assert!(rt; have_plans(alloc, INT, RIGHT_NUMBERS)? && have_plans(alloc, b"", RIGHT_NAMES)?);
-    Ok(())
+    let all = have_plans(alloc, INT, right_numbers()) == Ok(true)
+        && have_plans(alloc, b"", right_names()) == Ok(true);
+    assert!(rt; all);
 }
 
 fn many(alloc: Global, rest: &[u8]) -> Result<Bytes, NoMemory> {
@@ -320,16 +346,14 @@ fn are_many_read(alloc: Global) -> Result<bool, NoMemory> {
 
 // The tokens are cut off in fronts: a text of many tokens is read, or refused at its end.
 #[test]
-fn texts_of_many_tokens_are_read(rt: HostRuntime) -> Result<(), Fail> {
-    assert!(rt; are_many_read(rt.alloc())?);
-    Ok(())
+fn texts_of_many_tokens_are_read(rt: HostRuntime) {
+    assert!(rt; are_many_read(rt.alloc()) == Ok(true));
 }
 
 #[test]
-fn texts_of_many_tokens_are_refused(rt: HostRuntime) -> Result<(), Fail> {
-    assert!(rt;
-        is_refused_behind_many(rt.alloc(), b"", ScriptCause::BadSyntax)?
-            && is_refused_behind_many(rt.alloc(), b"= }", ScriptCause::BadToken)?
-    );
-    Ok(())
+fn texts_of_many_tokens_are_refused(rt: HostRuntime) {
+    let alloc = rt.alloc();
+    let all = is_refused_behind_many(alloc, b"", ScriptCause::BadSyntax) == Ok(true)
+        && is_refused_behind_many(alloc, b"= }", ScriptCause::BadToken) == Ok(true);
+    assert!(rt; all);
 }

@@ -6,6 +6,7 @@
 //! be accepted with its arrivals. Nothing is proved here but that it is safe, and ends where `join_main` does.
 #![tactic(auto)]
 
+mod asked;
 mod building;
 mod changed;
 mod example;
@@ -29,6 +30,7 @@ fn main(rt: HostRuntime) -> io::Result<()> {
     all &= files::are_right(&rt, alloc);
     all &= feeds::are_right(&rt, alloc);
     all &= runs::are_right(&rt, alloc);
+    all &= asked::are_right(&rt, alloc);
     all &= several::are_right(&rt, alloc);
     all &= varying::are_right(&rt, alloc);
     all &= logs::are_right(&rt, alloc);

@@ -56,8 +56,8 @@ const OPTIONS: &[Refused] = &[
 
 // Words with too few or too many files, or of no command.
 const OTHERS: &[Refused] = &[
-    ("ask is no command", &["ask", "s", "f"]),
-    ("ask without a feed is no command", &["ask", "s"]),
+    ("ask without feed", &["ask", "s"]),
+    ("ask with another option", &["ask", "--rows", "2", "s", "f"]),
     ("check two words", &["check", "s", "t"]),
     ("check with option", &["check", "--arrivals", "5", "s"]),
     ("help word", &["help"]),

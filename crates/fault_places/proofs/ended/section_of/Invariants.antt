@@ -1,5 +1,5 @@
 use Rattle.std.proofs.Common.{length}
-use Rattle.fault_places.proofs.ended.EndWatch.see.Given as goal
+use Rattle.fault_places.proofs.ended.section_of.Given as goal
 
 abbrev pub decreases-lines : goal.decreases-lines
 decreases-lines l = length l.rest
