@@ -59,6 +59,12 @@ pub const PRINTED: &[(&str, &[&str])] = &[
         &["run", "two_persons.join", "two_persons.feed"],
     ),
     ("workers.log", &["run", "workers.join", "workers.feed"]),
+    (
+        "numbered_tickets.answers",
+        &["ask", "numbered_tickets.join", "numbered_tickets.feed"],
+    ),
+    ("prices.answers", &["ask", "prices.join", "prices.feed"]),
+    ("workers.answers", &["ask", "workers.join", "workers.feed"]),
     ("findings.lint", &["lint", "findings.join"]),
     ("load.summary", &["load", "3"]),
     (
