@@ -1,7 +1,7 @@
 -- What steps ask and tell, whatever the rule.
 use Rattle.std.proofs.Common.{◌≡◌, ℕ, zero, suc, ◌+◌, ◌<◌, ◌≤◌, List, [], ◌∷◌, ◌∙◌, refl}
 use Rattle.std.proofs.Common.{length, map, set, get_or, take, arith, sym, ap, subst}
-use Rattle.std.specs.Prelude.{All, Some, slice_get}
+use Rattle.std.specs.Prelude.{All, Some}
 use Rattle.std.proofs.lemmas.List.{length-map, get_or-map, map-set, take_all}
 use Rattle.std.proofs.lemmas.List.Elements.{All-nil, All-cons, All-more}
 use Rattle.std.proofs.lemmas.Option.{slice_get-get_or}
@@ -68,9 +68,9 @@ module _ {P : Type 0} (holds : List ℕ → List DequeView → Type 0) where
       let same = ap length numbers in
       let lt' : k < length olds = omega arith in
       may_steal_again (get_or olds k d) (get_or nows k d)
-          (sym (same_at thief_number olds nows k d lt numbers) ∙ get_or-map thief_number olds k d (thief_number d) lt')
-          (sym (same_at thief_view olds nows k d lt views) ∙ get_or-map thief_view olds k d (thief_view d) lt')
-          (may k d lt')
+      (sym (same_at thief_number olds nows k d lt numbers) ∙ get_or-map thief_number olds k d (thief_number d) lt')
+      (sym (same_at thief_view olds nows k d lt views) ∙ get_or-map thief_view olds k d (thief_view d) lt')
+      (may k d lt')
 
   -- a ticket was stolen from the deque at the place i
   pub takes_one : (olds nows : List (Thief P)) (i x : ℕ) (d u : Thief P) → i < length nows

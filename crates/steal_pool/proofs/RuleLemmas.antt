@@ -14,7 +14,7 @@ use Rattle.steal_pool.specs.View.{new_view, with_put, with_taken, with_none}
 use Rattle.steal_pool.specs.Moments.{MayPut, MayTake, MayCount}
 use Rattle.steal_pool.specs.Passes.{own_number, own_view, made_for}
 use Rattle.steal_pool.specs.Taking.{MayTakeAny}
-use Rattle.steal_pool.specs.Rule.{times, times_taken, put_of, DequeRule}
+use Rattle.steal_pool.specs.Rule.{times, put_of, DequeRule}
 
 -- a sum over all views, after the view of one pass has changed
 sum_by_at : (f : DequeView → ℕ) (views : List DequeView) (pass : ℕ) (v w : DequeView)

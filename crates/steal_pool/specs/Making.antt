@@ -22,4 +22,4 @@ module _ {P : Type 0} where
   -- each pass is for the own deques of all passes
   abbrev pub AreLinked : List (StealPass P) → Type 0
   AreLinked passes =
-    (k : ℕ) (d : StealPass P) → k < length passes → SeesAll (map own_deque passes) k (get_or passes k d)
+      (k : ℕ) (d : StealPass P) → k < length passes → SeesAll (map own_deque passes) k (get_or passes k d)

@@ -15,7 +15,7 @@ module _ {P : Type 0} where
   -- it made a claim for each ticket of an actor that it took, in its deques or in the pool's queue
   abbrev pub WorksStealing : Pool → StealPass P → StealPass P → Helper → Helper → Type 0
   WorksStealing p before after old now =
-    WorksFrom p (taken_below (actor_count p) before) (taken_below (actor_count p) after) old now
+      WorksFrom p (taken_below (actor_count p) before) (taken_below (actor_count p) after) old now
 
   -- it found each deque empty
   abbrev pub FindsEmpty : StealPass P → StealPass P → Type 0

@@ -6,7 +6,9 @@ ghost use Rattle.actor_pool.specs.Helpers.{IsHelperOf, actor_count};
 ghost use Rattle.actor_pool.specs.Working.{FindsNone};
 
 use crate::pass::StealPass;
-use actor_pool::{Gate, Helper, Pool, TicketSource, mark_only, take_ticket, unmark_only, work_from};
+use actor_pool::{
+    Gate, Helper, Pool, TicketSource, mark_only, take_ticket, unmark_only, work_from,
+};
 use join_base::NoMemory;
 use std::alloc::Global;
 use std::sync::Wait;

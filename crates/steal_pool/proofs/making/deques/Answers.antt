@@ -1,4 +1,4 @@
-use Rattle.std.proofs.Common.{◌∙◌, ◌<◌, ◌≡◌, arith, ap, length, map, subst, sym}
+use Rattle.std.proofs.Common.{◌∙◌, ◌<◌, ◌≡◌, arith, ap, length, subst, sym}
 use Rattle.std.proofs.Math.Seq.{map-set_same}
 use Rattle.std.proofs.lemmas.List.{length-set}
 use Rattle.std.proofs.lemmas.List.Elements.{All-map, All-set}
@@ -17,11 +17,11 @@ loop-own-preserved g c =
     let here = c.index_mut.ensures.value in
     let IsNew : StealPass g.row.P.Denot → Type 0 = IsNewPass g.P.Protocol.first g.P.Protocol.guest in
     let lt : own < length items =
-        (let count = before.count in
-        let test = c.loop-own-test.true in
-        let end = c.len-own-end.ensures in
-        let long = c.in_ok-passes.passes.ok.0 in
-        omega arith) in
+    (let count = before.count in
+    let test = c.loop-own-test.true in
+    let end = c.len-own-end.ensures in
+    let long = c.in_ok-passes.passes.ok.0 in
+    omega arith) in
     let made = c.in_ok-thieves.ensures in
     let others = made.deques ∙ ap (others_from own) c.as_slice.ensures.value in
     let was_new = subst IsNew (sym here) (before.new own p lt) in

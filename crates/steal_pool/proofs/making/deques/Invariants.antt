@@ -11,6 +11,6 @@ invariant-loop-own g l = record {
   actors : All (λ p. made_for p ≡ l.actors) l.passes.items;
   new : All (IsNewPass g.P.Protocol.first g.P.Protocol.guest) l.passes.items;
   linked :
-    (k : ℕ) (d : StealPass g.row.P.Denot) → k < l.own → k < length l.passes.items
-    → SeesAll (map own_deque l.initial.passes.items) k (get_or l.passes.items k d);
+      (k : ℕ) (d : StealPass g.row.P.Denot) → k < l.own → k < length l.passes.items
+      → SeesAll (map own_deque l.initial.passes.items) k (get_or l.passes.items k d);
 }

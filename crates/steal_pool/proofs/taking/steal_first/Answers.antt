@@ -9,7 +9,7 @@ pub steal-requires : goal.steal-requires
 steal-requires g c =
     let before = c.loop-thief.invariant in
     let lt : c.loop-thief.thief-index < length c.loop-thief.thieves =
-        (let same = c.loop-thief.auto.thieves in let here = c.loop-thief-test.true in omega arith) in
+    (let same = c.loop-thief.auto.thieves in let here = c.loop-thief-test.true in omega arith) in
     let holds = g.P.Protocol.holds in
     let item = c.thief-item.result in
     record { kept = may_steal_all holds _ _ before.numbers before.views c.requires.kept _ item lt }
@@ -27,7 +27,7 @@ returns-in-Some-clause-taken g c =
     let before = c.loop-thief.invariant in
     let step = c.in-Some.ensures in
     let lt : c.loop-thief.thief-index < length c.loop-thief.thieves =
-        (let same = c.loop-thief.auto.thieves in let here = c.loop-thief-test.true in omega arith) in
+    (let same = c.loop-thief.auto.thieves in let here = c.loop-thief-test.true in omega arith) in
     let item = c.thief-item.result in
     takes_one g.P.Protocol.holds _ _ _ _ item _ lt before.views before.empty step.taken step.front
 
@@ -38,7 +38,7 @@ loop-thief-preserved g c =
     let thieves = c.loop-thief.thieves in
     let item = c.thief-item.result in
     let lt : c.loop-thief.thief-index < length c.loop-thief.thieves =
-        (let same = c.loop-thief.auto.thieves in let here = c.loop-thief-test.true in omega arith) in
+    (let same = c.loop-thief.auto.thieves in let here = c.loop-thief-test.true in omega arith) in
     record {
       deques = map-set_same thief_deque _ _ _ item step.deque ∙ before.deques;
       numbers = map-set_same thief_number _ _ _ item step.number ∙ before.numbers;
