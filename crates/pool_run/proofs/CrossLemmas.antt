@@ -65,6 +65,8 @@ use Rattle.atomic_table.proofs.send_lease.SendLease.TheSendSync.{the_sync as lea
 use Rattle.atomic_table.proofs.shared.Shared.TheSendSync.{the_sync as shared-sync}
 use Rattle.actor_pool.specs.contracts.pool.Pool as Pool
 use Rattle.pool_run.specs.contracts.parts.FeedPart as FeedPart
+use Rattle.pool_run.specs.contracts.parts.HelperBack as HelperBack
+use Rattle.pool_run.specs.contracts.parts.WorkPart as WorkPart
 use Rattle.pool_run.specs.contracts.parts.Returned as Returned
 use Rattle.rtrb.proofs.end.End.TheSendSync.{the_send as end-send}
 
@@ -289,19 +291,30 @@ helper-send = search (sendable, crosses, seat-send, cell-send) depth 40 fits 100
 poster-send : IsSend Poster.the_row
 poster-send = search (sendable, crosses, seat-send, cell-send, outward-send) depth 40 fits 100000
 
--- ---- what threads share, are given and give back
+-- ---- what threads share
 
 pub pool-sync : IsSync Pool.the_row
 pool-sync = declared_sync Pool.the_type (search (sendable, crosses, shared-sync, lease-sync, cell-send) depth 40 fits 100000, (search (sendable, crosses, shared-sync, lease-sync) depth 40 fits 100000, (search (sendable, crosses) depth 40, (search (sendable, crosses) depth 40, (search (sendable, crosses) depth 40, (search (sendable, crosses) depth 40, tt))))))
 
-part-send : IsSend FeedPart.the_row
-part-send = declared_send FeedPart.the_type (search (sendable, crosses, poster-send) depth 40, (search (sendable, crosses, helper-send) depth 40, (search (sendable, crosses, message-send) depth 40, tt)))
+-- ---- what threads are given and give back, where what stands beside and the sources may be sent
 
-pub returned-send : IsSend Returned.the_row
-returned-send = declared_send Returned.the_type (search (sendable, crosses, poster-send) depth 40, (search (sendable, crosses, helper-send) depth 40, tt))
+part-send : (B : RattleType) → IsSend B → IsSend (FeedPart.the_row B)
+part-send B s = declared_send (FeedPart.the_type B) (search (sendable, crosses, poster-send) depth 40, (search (sendable, crosses, helper-send) depth 40, (search (sendable, crosses, message-send) depth 40, (search (sendable, crosses) depth 40, tt))))
 
-pub parts-send : IsSend (Vec.the_row FeedPart.the_row Global.the_row ghosts)
-parts-send = vec-send FeedPart.the_row part-send
+worker-send : (S B : RattleType) → IsSend S → IsSend B → IsSend (WorkPart.the_row S B)
+worker-send S B s t = declared_send (WorkPart.the_type S B) (search (sendable, crosses, helper-send) depth 40, (search (sendable, crosses) depth 40, (search (sendable, crosses) depth 40, tt)))
 
-pub helpers-send : IsSend (Vec.the_row Helper.the_row Global.the_row ghosts)
-helpers-send = vec-send Helper.the_row helper-send
+pub back-send : (B : RattleType) → IsSend B → IsSend (HelperBack.the_row B)
+back-send B s = declared_send (HelperBack.the_type B) (search (sendable, crosses, helper-send) depth 40, (search (sendable, crosses) depth 40, tt))
+
+pub backs-send : (B : RattleType) → IsSend B → IsSend (Vec.the_row (HelperBack.the_row B) Global.the_row ghosts)
+backs-send B s = vec-send (HelperBack.the_row B) (back-send B s)
+
+pub returned-send : (B : RattleType) → IsSend B → IsSend (Returned.the_row B)
+returned-send B s = declared_send (Returned.the_type B) (search (sendable, crosses, poster-send) depth 40, (as_row_send (row_field (Vec.the_row (HelperBack.the_row B) Global.the_row ghosts)) (backs-send B s), tt))
+
+pub parts-send : (B : RattleType) → IsSend B → IsSend (Vec.the_row (FeedPart.the_row B) Global.the_row ghosts)
+parts-send B s = vec-send (FeedPart.the_row B) (part-send B s)
+
+pub crew-send : (S B : RattleType) → IsSend S → IsSend B → IsSend (Vec.the_row (WorkPart.the_row S B) Global.the_row ghosts)
+crew-send S B s t = vec-send (WorkPart.the_row S B) (worker-send S B s t)

@@ -1,9 +1,9 @@
 -- From what threads gave back to what finishing asks.
-use Rattle.std.proofs.Common.{◌≡◌, ℕ, zero, suc, ◌<◌, List, [], ◌∷◌, ◌++◌, Bool, true, false, All, length, map, refl, sym, ap, ◌∙◌, subst, arith}
+use Rattle.std.proofs.Common.{◌≡◌, ℕ, zero, suc, ◌<◌, List, [], ◌∷◌, ◌++◌, Bool, true, false, All, length, map, refl, sym, ap, ◌∙◌, subst}
 use Rattle.std.specs.Prelude.{Some, slice_get, ◌==◌, if◌then◌else◌}
 use Rattle.std.specs.List.{AllByRecursion, AllZip, filter_map}
-use Rattle.std.proofs.lemmas.List.{length-append, length-map}
-use Rattle.std.proofs.lemmas.List.Elements.{All-nil, All-cons, All-head, All-push, All-tail}
+use Rattle.std.proofs.lemmas.List.{length-map}
+use Rattle.std.proofs.lemmas.List.Elements.{All-nil, All-cons, All-head, All-tail}
 use Rattle.join_base.specs.declared.message.Message.{Message}
 use Rattle.join_base.specs.declared.message.Stamped.{Stamped}
 use Rattle.script_types.specs.declared.plan.Plan.{Plan}
@@ -24,9 +24,8 @@ use Rattle.actor_pool.specs.Posters.{IsPosterOf, feed_ends, feed_tag, feed_links
 use Rattle.actor_cells.specs.Tags.{AreTagsOf}
 use Rattle.actor_pool.specs.Whole.{IsWhole}
 use Rattle.pool_run.specs.declared.parts.FeedPart.{FeedPart}
-use Rattle.pool_run.specs.declared.parts.Returned.{Returned}
 use Rattle.pool_run.specs.Finishing.{AreSent}
-use Rattle.pool_run.specs.Parts.{AreReturned, IsFed, IsSpare, part_poster, part_posts}
+use Rattle.pool_run.specs.Parts.{IsFed, part_poster, part_posts}
 
 -- ---- what the posts of feeds are
 
@@ -59,43 +58,36 @@ zip-more R [] (b ∷ ys) x y all one = absurd all
 zip-more R (a ∷ xs) [] x y all one = absurd all
 zip-more R (a ∷ xs) (b ∷ ys) x y all one = (all.0, zip-more R xs ys x y all.1 one)
 
-module _ (p : Pool) where
-  fed-count : (parts : List FeedPart) (posters : List Poster) → AllZip (IsFed p) parts posters → length posters ≡ length parts
+-- the same where both lists got one more at their end
+pub zip-on : {A B : Type 0} (R : A → B → Type 0) (xs now : List A) (ys later : List B) (x : A) (y : B) → now ≡ xs ++ x ∷ [] → later ≡ ys ++ y ∷ [] → AllZip R xs ys → R x y → AllZip R now later
+zip-on {A} R xs now ys later x y last more all one = subst (λ (l : List A). AllZip R l later) (sym last) (subst (AllZip R (xs ++ x ∷ [])) (sym more) (zip-more R xs ys x y all one))
+
+module _ {B : Type 0} (p : Pool) where
+  fed-count : (parts : List (FeedPart B)) (posters : List Poster) → AllZip (IsFed p) parts posters → length posters ≡ length parts
   fed-count [] [] all = refl
   fed-count [] (b ∷ posters) all = absurd all
   fed-count (a ∷ parts) [] all = absurd all
   fed-count (a ∷ parts) (b ∷ posters) all = ap suc (fed-count parts posters all.1)
 
-  fed-own : (parts : List FeedPart) (posters : List Poster) → AllZip (IsFed p) parts posters → All (IsPosterOf p) posters
+  fed-own : (parts : List (FeedPart B)) (posters : List Poster) → AllZip (IsFed p) parts posters → All (IsPosterOf p) posters
   fed-own [] [] all = All-nil (IsPosterOf p)
   fed-own [] (b ∷ posters) all = absurd all
   fed-own (a ∷ parts) [] all = absurd all
   fed-own (a ∷ parts) (b ∷ posters) all = All-cons (IsPosterOf p) b posters all.0.own (fed-own parts posters all.1)
 
-  fed-tags : (parts : List FeedPart) (posters : List Poster) → AllZip (IsFed p) parts posters → map feed_tag posters ≡ map feed_tag (map part_poster parts)
+  fed-tags : (parts : List (FeedPart B)) (posters : List Poster) → AllZip (IsFed p) parts posters → map feed_tag posters ≡ map feed_tag (map part_poster parts)
   fed-tags [] [] all = refl
   fed-tags [] (b ∷ posters) all = absurd all
   fed-tags (a ∷ parts) [] all = absurd all
   fed-tags (a ∷ parts) (b ∷ posters) all = λ i. all.0.tag i ∷ fed-tags parts posters all.1 i
 
-  fed-at : (parts : List FeedPart) (posters : List Poster) (k : ℕ) (now : Poster) → AllZip (IsFed p) parts posters → slice_get posters k ≡ Some now
-      → (part : FeedPart) × (slice_get (map part_poster parts) k ≡ Some part.poster) × (slice_get (map part_posts parts) k ≡ Some part.posts) × IsFed p part now
+  fed-at : (parts : List (FeedPart B)) (posters : List Poster) (k : ℕ) (now : Poster) → AllZip (IsFed p) parts posters → slice_get posters k ≡ Some now
+      → (part : FeedPart B) × (slice_get (map part_poster parts) k ≡ Some part.poster) × (slice_get (map part_posts parts) k ≡ Some part.posts) × IsFed p part now
   fed-at [] [] k now all at = absurd (let e : ⊥ = cc in e)
   fed-at [] (b ∷ posters) k now all at = absurd all
   fed-at (a ∷ parts) [] k now all at = absurd all
   fed-at (a ∷ parts) (b ∷ posters) zero now all at = (a, refl, refl, (let e : b ≡ now = cc in subst (IsFed p a) e all.0))
   fed-at (a ∷ parts) (b ∷ posters) (suc k) now all at = fed-at parts posters k now all.1 at
-
--- one part more came back
-pub returned-more : (p : Pool) (parts left : List FeedPart) (part : FeedPart) (workers : ℕ) (back now : Returned) (poster : Poster) (helper : Helper) → parts ≡ left ++ part ∷ [] → AreReturned p left workers back → IsFed p part poster → IsSpare p helper
-    → now.posters.items ≡ back.posters.items ++ poster ∷ [] → now.helpers.items ≡ back.helpers.items ++ helper ∷ [] → AreReturned p parts workers now
-returned-more p parts left part workers back now poster helper last before fed spare posters helpers =
-    let count = before.count in record {
-      fed = subst (λ (l : List FeedPart). AllZip (IsFed p) l now.posters.items) (sym last)
-          (subst (AllZip (IsFed p) (left ++ part ∷ [])) (sym posters) (zip-more (IsFed p) left back.posters.items part poster before.fed fed));
-      count = omega (arith, count, ap length last, ap length helpers, length-append left (part ∷ []), length-append back.helpers.items (helper ∷ []));
-      spare = subst (All (IsSpare p)) (sym helpers) (All-push (IsSpare p) back.helpers.items helper before.spare spare);
-    }
 
 -- a new poster has sent nothing
 new-sent : (ring : ℕ) (outward : List Outward) (actor : ℕ) → All (IsNewOut ring) outward → sent_to outward actor ≡ []
@@ -112,7 +104,7 @@ All-at P (y ∷ xs) zero x all at = (let e : y ≡ x = cc in subst P e (All-head
 All-at P (y ∷ xs) (suc k) x all at = All-at P xs k x (All-tail P y xs all) at
 
 -- what was sent are the posts of the feeds
-pub sent-now : (plan : Plan) (p : Pool) (actors ring : ℕ) (posters : List Poster) (feeds : List (List (ℕ × Message))) (parts : List FeedPart) (now : List Poster) → map part_poster parts ≡ posters → map part_posts parts ≡ feeds
+pub sent-now : {B : Type 0} (plan : Plan) (p : Pool) (actors ring : ℕ) (posters : List Poster) (feeds : List (List (ℕ × Message))) (parts : List (FeedPart B)) (now : List Poster) → map part_poster parts ≡ posters → map part_posts parts ≡ feeds
     → All (λ (poster : Poster). IsNewPoster actors ring (feed_ends poster)) posters → AllZip (IsFed p) parts now → FeedsFit feeds → AreSent plan now feeds
 sent-now plan p actors ring posters feeds parts now same posts new fed fits = record {
   count = ap length (sym posts) ∙ length-map parts part_posts ∙ sym (fed-count p parts now fed);
@@ -126,7 +118,7 @@ sent-now plan p actors ring posters feeds parts now same posts new fed fits = re
 }
 
 -- the pool has all its parts again
-pub whole-now : (plan : Plan) (limits : Limits) (p : Pool) (posters : List Poster) (h : Helper) (parts : List FeedPart) (now : List Poster) (helper : Helper) → IsWhole plan limits p posters h → map part_poster parts ≡ posters
+pub whole-now : {B : Type 0} (plan : Plan) (limits : Limits) (p : Pool) (posters : List Poster) (h : Helper) (parts : List (FeedPart B)) (now : List Poster) (helper : Helper) → IsWhole plan limits p posters h → map part_poster parts ≡ posters
     → AllZip (IsFed p) parts now → IsHelperOf p helper → IsFirstHelper p 0 helper → (seat_of helper).tags ≡ (seat_of h).tags → IsWhole plan limits p now helper
 whole-now plan limits p posters h parts now helper whole same fed own first tags =
     let count : length now ≡ length posters = fed-count p parts now fed ∙ sym (length-map parts part_poster) ∙ ap length same in
@@ -141,5 +133,9 @@ whole-now plan limits p posters h parts now helper whole same fed own first tags
     }
 
 -- as many posters came back as there are feeds
-pub count-now : (p : Pool) (feeds : List (List (ℕ × Message))) (parts : List FeedPart) (now : List Poster) → map part_posts parts ≡ feeds → AllZip (IsFed p) parts now → length now ≡ length feeds
+pub count-now : {B : Type 0} (p : Pool) (feeds : List (List (ℕ × Message))) (parts : List (FeedPart B)) (now : List Poster) → map part_posts parts ≡ feeds → AllZip (IsFed p) parts now → length now ≡ length feeds
 count-now p feeds parts now posts fed = fed-count p parts now fed ∙ sym (length-map parts part_posts) ∙ ap length posts
+
+-- there is a part for each feed
+pub feeds-count : {B : Type 0} (feeds : List (List (ℕ × Message))) (parts : List (FeedPart B)) → map part_posts parts ≡ feeds → length parts ≡ length feeds
+feeds-count feeds parts posts = sym (length-map parts part_posts) ∙ ap length posts

@@ -5,15 +5,31 @@ use join_base::Posts;
 
 /// What the thread of a feed is given.
 #[derive(Drop)]
-pub(crate) struct FeedPart {
+pub(crate) struct FeedPart<B> {
     pub(crate) poster: Poster,
     pub(crate) helper: Helper,
     pub(crate) posts: Posts,
+    pub(crate) beside: B,
+}
+
+/// What the thread of a worker is given.
+#[derive(Drop)]
+pub(crate) struct WorkPart<S, B> {
+    pub(crate) helper: Helper,
+    pub(crate) source: S,
+    pub(crate) beside: B,
+}
+
+/// A helper that comes back, with what stood beside it.
+#[derive(Drop)]
+pub(crate) struct HelperBack<B> {
+    pub(crate) helper: Helper,
+    pub(crate) beside: B,
 }
 
 /// What comes back once all threads have ended: the posters of the feeds, in order, and all helpers.
 #[derive(Drop)]
-pub(crate) struct Returned {
+pub(crate) struct Returned<B> {
     pub(crate) posters: Vec<Poster>,
-    pub(crate) helpers: Vec<Helper>,
+    pub(crate) helpers: Vec<HelperBack<B>>,
 }
