@@ -3,3 +3,4 @@ pub mod Finishing
 pub mod Running
 -- what private functions do: the parts of threads, and what comes back
 pub mod Parts
+pub mod Stealing
