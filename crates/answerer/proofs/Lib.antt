@@ -1,0 +1,9 @@
+-- The lemmas by topic:
+-- - the ask of each arrival, and how it is found as arrivals are noted: AskLemmas
+-- - what answering one reply after the other does: AnsweredLemmas
+-- - what joining does: JoinLemmas
+-- - when an answerer fits, as it reads, as arrivals go on, and beside another actor: FitLemmas
+pub mod AskLemmas
+pub mod AnsweredLemmas
+pub mod FitLemmas
+pub mod JoinLemmas

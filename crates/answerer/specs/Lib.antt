@@ -1,0 +1,4 @@
+-- what is claimed: when an answerer fits the entries of an actor, and which replies were tried
+pub mod Fit
+pub mod Answered
+pub mod Asks
