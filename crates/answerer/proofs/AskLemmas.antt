@@ -1,12 +1,11 @@
 -- The ask of each arrival of an actor.
-use Rattle.std.proofs.Common.{◌≡◌, ◌∙◌, ◌+◌, ◌-◌, ◌<◌, ◌≤◌, ◌^◌, ℕ, zero, suc, List, [], ◌∷◌, ◌++◌, append_assoc, append-nil, Bool, true, false, Option, Some, None, length, length-append, take, get_or, slice_get, refl, sym, ap, sub-one, arith, ◌⊎◌, inl, inr}
+use Rattle.std.proofs.Common.{◌≡◌, ◌∙◌, ◌+◌, ◌-◌, ◌<◌, ◌≤◌, ◌^◌, ℕ, zero, suc, List, [], ◌∷◌, ◌++◌, append_assoc, append-nil, Bool, true, false, Option, Some, None, length, length-append, take, get_or, slice_get, refl, sym, ap, arith}
 use Rattle.std.specs.Prelude.{◌==◌, if◌then◌else◌}
 use Rattle.std.specs.Option.{option_flatten}
 use Rattle.std.specs.List.{cons_option}
 use Rattle.std.proofs.lemmas.Bool.Decides.{nat_tests}
 use Rattle.std.proofs.lemmas.List.{length-take-le, length_push, take-append-le, take_all, take_more}
 use Rattle.std.proofs.lemmas.List.Elements.{filter_map-append}
-use Rattle.std.proofs.lemmas.Option.{slice_get-get_or}
 use Rattle.join_base.specs.declared.message.Source.{Source}
 use Rattle.join_base.specs.declared.message.Source.TheVariants.{Feed, Actor}
 use Rattle.fair_semantics.specs.declared.run.Entry.{Entry}

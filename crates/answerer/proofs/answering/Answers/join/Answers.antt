@@ -1,4 +1,4 @@
-use Rattle.std.proofs.Common.{◌≡◌, ◌∙◌, List, IsSome, get_or, refl, sym, subst}
+use Rattle.std.proofs.Common.{◌∙◌, List, IsSome, get_or, refl, sym, subst}
 use Rattle.std.proofs.lemmas.List.{take_all}
 use Rattle.pattern_core.specs.Members.{IsIn}
 use Rattle.ask_board.specs.View.{known_of}

@@ -3,7 +3,7 @@ use Rattle.std.proofs.lemmas.List.{length_push}
 use Rattle.fair_semantics.specs.declared.run.Entry.{Entry}
 use Rattle.ask_board.specs.declared.view.Ask.{Ask}
 use Rattle.answerer.specs.Asks.{last_place, next_ask}
-use Rattle.answerer.proofs.AskLemmas.{noted_all, noted_room, noted_step}
+use Rattle.answerer.proofs.AskLemmas.{noted_room, noted_step}
 use Rattle.answerer.proofs.noting.Progress.note.Goals as goal
 
 pub next_ask-ask-requires : goal.next_ask-ask-requires
