@@ -13,8 +13,6 @@
 
 mod board;
 mod same;
-#[cfg(test)]
-mod tests;
 mod view;
 
 pub use board::{AnswerFault, AskBoard};
