@@ -1,17 +1,17 @@
 //! A pool of two actors that get a turn each, and that then is finished.
-ghost use Rattle.std.specs.Prelude.{◌≡◌, ℕ, ◌<◌, All, length, map};
+ghost use Rattle.std.specs.Prelude.{◌≡◌, ◌<◌, All, length, map};
 ghost use Rattle.script_types.specs.Typed.{IsTyped};
-ghost use Rattle.fair_semantics.specs.Fits.{IsFrom1To};
 ghost use Rattle.actor_turn.specs.Held.{AreLimits};
 ghost use Rattle.actor_pool.specs.Helpers.{IsHelperOf, actor_count, seat_of};
 ghost use Rattle.actor_pool.specs.Posters.{IsPosterOf, feed_tag};
 
+use crate::cases::{Case, ping_pong};
 use crate::fed::{limits_of, plan_of};
-use crate::one_thread::{feed_of, run_on_one_thread};
 use crate::whole_runs::same_run;
 use actor_pool::{Helper, Pool, Poster, turn};
 use fair_semantics::{Limits, Run};
 use join_base::{Message, NoMemory, Steps};
+use log_reader::read_log;
 use pool_run::finish;
 use script_types::Plan;
 use sensor_feed::read_feed;
@@ -19,10 +19,6 @@ use std::alloc::Global;
 use std::marker::Brand;
 use std::sync::ledger::{Blank, Ledger};
 use std::test::Fail;
-
-// Two actors that answer each other, until one of them has had as many messages as it may.
-pub const PING_PONG: &[u8] =
-    b"message t(n: int) actor p { when t(n) { post q t(n + 1); } } actor q { when t(n) { post p t(n + 1); } }";
 
 // Posts a message to the first actor. The answer is whether there was room.
 fn is_posted(pool: &Pool, posters: &mut Vec<Poster>, message: Message) -> bool
@@ -95,18 +91,23 @@ fn finished_run<L: Ledger>(
     Ok((posted && served, run))
 }
 
-// Whether the pool comes to the run of one thread. Its actors answer each other, and one of them ends at its limit.
-fn is_finished(alloc: Global, plan: &Plan, limits: Limits, message: Message) -> Result<bool, Fail>
+// Whether the pool comes to the run of the log. Its actors answer each other, and one of them ends at its limit.
+fn is_finished(
+    alloc: Global,
+    plan: &Plan,
+    limits: Limits,
+    message: Message,
+    log: &[u8],
+) -> Result<bool, Fail>
     requires typed { IsTyped plan.now }
     requires limits { AreLimits limits }
 {
     if plan.actors.len() != 2 {
         return Ok(false);
     }
-    let feeds = feed_of(alloc, plan, b"p,t,0\n")?;
-    let run = run_on_one_thread(alloc, plan, limits, feeds)?;
-    let (served, other) = finished_run::<Brand>(alloc, plan, limits, message, Blank::new(1))?;
-    Ok(served && same_run(&run, &other))
+    let expected = read_log(alloc, plan, log)?;
+    let (served, run) = finished_run::<Brand>(alloc, plan, limits, message, Blank::new(1))?;
+    Ok(served && same_run(&expected, &run))
 }
 
 // The message of the only row of a feed.
@@ -121,16 +122,17 @@ fn message_of(alloc: Global, plan: &Plan, row: &[u8]) -> Result<Option<Message>,
     }
 }
 
-fn ping_pong_is_finished(alloc: Global) -> Result<bool, Fail> {
-    let plan = plan_of(alloc, PING_PONG)?;
-    match message_of(alloc, &plan, b"p,t,0\n")? {
-        Some(message) => is_finished(alloc, &plan, limits_of(3, 65_536), message),
+fn comes_to_the_log(alloc: Global, case: Case<'_>) -> Result<bool, Fail> {
+    let plan = plan_of(alloc, case.script)?;
+    let limits = limits_of(case.most.0, case.most.1);
+    match message_of(alloc, &plan, case.rows)? {
+        Some(message) => is_finished(alloc, &plan, limits, message, case.log),
         None => Ok(false),
     }
 }
 
 #[test]
 fn a_turn_for_each_actor_and_then_the_end(rt: HostRuntime) -> Result<(), Fail> {
-    assert!(rt; ping_pong_is_finished(rt.alloc())?);
+    assert!(rt; comes_to_the_log(rt.alloc(), ping_pong())?);
     Ok(())
 }

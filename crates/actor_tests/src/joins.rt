@@ -111,29 +111,44 @@ fn condition(guard: Guard) -> &'static str {
     }
 }
 
+fn push_rule(text: &mut String, rule: &Rule) -> Result<(), Fail> {
+    text.push_str(pattern(rule.kinds[0], " when a(x)", " when b(x)"))?;
+    text.push_str(pattern(rule.kinds[1], " & a(y)", " & b(y)"))?;
+    text.push_str(pattern(rule.kinds[2], " & a(z)", " & b(z)"))?;
+    text.push_str(condition(rule.guard))?;
+    text.push_str(" { }")?;
+    Ok(())
+}
+
+fn push_script(text: &mut String, rules: &[Rule; 2]) -> Result<(), Fail> {
+    text.push_str("message a(x: int) message b(x: int) actor m {")?;
+    push_rule(text, &rules[0])?;
+    push_rule(text, &rules[1])?;
+    text.push_str(" }")?;
+    Ok(())
+}
+
 fn script_of(alloc: Global, rules: &[Rule; 2]) -> Result<String, Fail> {
     let mut text = String::new(alloc);
-    text.push_str("message a(x: int) message b(x: int) actor m {")?;
-    for rule in rules {
-        text.push_str(pattern(rule.kinds[0], " when a(x)", " when b(x)"))?;
-        text.push_str(pattern(rule.kinds[1], " & a(y)", " & b(y)"))?;
-        text.push_str(pattern(rule.kinds[2], " & a(z)", " & b(z)"))?;
-        text.push_str(condition(rule.guard))?;
-        text.push_str(" { }")?;
-    }
-    text.push_str(" }")?;
+    push_script(&mut text, rules)?;
     Ok(text)
+}
+
+fn row_of(letter: &Letter) -> &'static str {
+    match (letter.kind, letter.value) {
+        (0, 0) => "m,a,0\n",
+        (0, 1) => "m,a,1\n",
+        (0, _) => "m,a,2\n",
+        (_, 0) => "m,b,0\n",
+        (_, 1) => "m,b,1\n",
+        (_, _) => "m,b,2\n",
+    }
 }
 
 fn feed_of(alloc: Global, letters: &[Letter]) -> Result<String, Fail> {
     let mut text = String::new(alloc);
     for letter in letters {
-        text.push_str(if letter.kind == 0 { "m,a," } else { "m,b," })?;
-        text.push_str(match letter.value {
-            0 => "0\n",
-            1 => "1\n",
-            _ => "2\n",
-        })?;
+        text.push_str(row_of(letter))?;
     }
     Ok(text)
 }

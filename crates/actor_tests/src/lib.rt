@@ -3,6 +3,12 @@
 #![tactic(auto)]
 
 #[cfg(test)]
+mod both_ways;
+#[cfg(test)]
+mod by_cells;
+#[cfg(test)]
+mod cases;
+#[cfg(test)]
 mod fed;
 #[cfg(test)]
 mod finished;
@@ -10,6 +16,8 @@ mod finished;
 mod joins;
 #[cfg(test)]
 mod load;
+#[cfg(test)]
+mod one_feed;
 #[cfg(test)]
 mod one_thread;
 #[cfg(test)]

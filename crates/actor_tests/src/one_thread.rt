@@ -2,7 +2,7 @@
 ghost use Rattle.std.specs.Prelude.{◌≡◌, ◌<◌, IfOk, length};
 ghost use Rattle.std.specs.List.{AllByRecursion};
 ghost use Rattle.script_types.specs.Typed.{IsTyped};
-ghost use Rattle.fair_semantics.specs.Fits.{PostFits};
+ghost use Rattle.fair_semantics.specs.Fits.{IsFrom1To, PostFits};
 ghost use Rattle.actor_turn.specs.Held.{AreLimits};
 
 use actor_system::System;
@@ -19,6 +19,7 @@ use std::test::Fail;
 pub fn feed_of(alloc: Global, plan: &Plan, rows: &[u8]) -> Result<FeedList, Fail>
     requires typed { IsTyped plan.now }
     ensures one { IfOk result (λ feeds. length feeds ≡ 1) }
+    ensures count { IfOk result (λ feeds. IsFrom1To 16 (length feeds)) }
     ensures fits { IfOk result (AllByRecursion (AllByRecursion (PostFits plan.now))) }
 {
     let posts = read_feed(alloc, plan, rows)?;

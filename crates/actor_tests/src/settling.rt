@@ -8,7 +8,8 @@ ghost use Rattle.actor_cells.specs.Lawful.{cell_tag};
 ghost use Rattle.actor_cells.specs.Prepared.{AreWired, cells_of};
 ghost use Rattle.actor_cells.specs.Tags.{AreTagsOf};
 
-use actor_cells::{Cells, Turned, prepare};
+use crate::by_cells;
+use actor_cells::{Cells, Turned};
 use cell_links::Poster;
 use fair_semantics::{Limits, Run};
 use join_base::{Fields, Items, Message, Name, NoMemory, Steps};
@@ -53,7 +54,7 @@ fn prepared(alloc: Global, plan: &Plan, limits: Limits) -> Result<(Cells, Vec<Po
     ensures links { IfOk result (λ made. All (λ p. link_count p ≡ 1) made.1.items) }
     ensures rules { OnOk result ((actor : ℕ) → actor < length plan.now.actors → RulesFit plan.now limits actor) }
 {
-    let made = prepare(alloc, plan, limits, 1, 4096)?;
+    let made = by_cells::prepared(alloc, plan, limits, 4096)?;
     Ok(made)
 }
 

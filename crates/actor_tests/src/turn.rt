@@ -2,6 +2,7 @@ ghost use Rattle.std.specs.Prelude.{◌≡◌, ◌<◌};
 ghost use Rattle.join_base.specs.Late.{HasCount};
 ghost use Rattle.join_base.specs.declared.message.Source.TheVariants as source;
 
+use crate::cases::STOPS;
 use crate::fed::{first_actor, limits_of, outcomes, plan_of};
 use actor_turn::{Actor, give_room_back};
 use fair_semantics::{Ending, Outcome};
@@ -15,10 +16,6 @@ use std::test::Fail;
 // An actor that joins three kinds.
 const THREE: &[u8] =
     b"message a(x: int) message b(x: int) message c(x: int) actor m { when a(x) & b(y) & c(z) { } }";
-
-// One that prints a message, and then stops.
-const STOPS: &[u8] =
-    b"message a(x: int) message b(x: int) actor m { when a(x) { print \"bye\"; stop; } }";
 
 // A script, the most arrivals and partial matches of its first actor, a feed, and what the actor comes to: how each
 // message comes out, how the actor ends, and how many arrivals and partial matches it has.

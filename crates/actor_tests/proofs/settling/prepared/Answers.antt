@@ -1,9 +1,5 @@
 use Rattle.std.proofs.Common.{◌∙◌}
-use Rattle.actor_tests.proofs.CellLemmas.{prepared_tags}
 use Rattle.actor_tests.proofs.settling.prepared.Goals as goal
 
-pub returns-clause-tags : goal.returns-clause-tags
-returns-clause-tags c = prepared_tags _ _ _ _ _ _ c.in_ok-made.ensures.prepared
-
 pub returns-clause-links : goal.returns-clause-links
-returns-clause-links c = λ k d lt. (c.in_ok-made.ensures.prepared.each k d lt).count ∙ c.requires.one
+returns-clause-links c = λ k d lt. c.in_ok-made.ensures.links k d lt ∙ c.in_ok-made.ensures.cells ∙ c.requires.one
