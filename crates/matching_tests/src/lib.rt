@@ -25,4 +25,6 @@ mod texts;
 #[cfg(test)]
 mod trees;
 #[cfg(test)]
+mod tried;
+#[cfg(test)]
 mod values;

@@ -2,6 +2,7 @@ ghost use Rattle.std.specs.Prelude.{◌≡◌, ◌+◌, ◌-◌, ◌^◌, ◌<�
 ghost use Rattle.std.specs.List.{AllByRecursion};
 ghost use Rattle.guard_eval.specs.Meaning.{has_sort};
 ghost use Rattle.matching_tests.specs.Samples.{AreInts, AreSamples, HasAll};
+ghost use Rattle.matching_tests.specs.Tried.{GrowsBy};
 ghost use Rattle.pattern_core.specs.Window.{SeesLatest, oldest_seen};
 ghost use Rattle.match_tree.specs.Tree.{offer_to};
 ghost use Rattle.match_tree.specs.Offering.{CanOffer};
@@ -105,7 +106,7 @@ fn first_fields(alloc: Global) -> Result<ValueIndex, NoMemory> {
 }
 
 // An index that has all messages, also those that are not offered yet, and those that have fired.
-fn index_of(alloc: Global, letters: &[Message]) -> Result<ValueIndex, NoMemory>
+pub fn index_of(alloc: Global, letters: &[Message]) -> Result<ValueIndex, NoMemory>
     requires few { length letters.now < 100 }
     ensures { IfOk result (λ index. HasAll index letters.now) }
 {
@@ -119,7 +120,7 @@ fn index_of(alloc: Global, letters: &[Message]) -> Result<ValueIndex, NoMemory>
 // ---- the tree
 
 // Offers a message to the tree. Where it completes a match, that fires, and else the tree keeps the message.
-fn arrive<L: Ledger>(
+pub fn arrive<L: Ledger>(
     tree: &mut MatchTree,
     letters: &[Message],
     index: &ValueIndex,
@@ -135,6 +136,7 @@ fn arrive<L: Ledger>(
     ensures definition { tree.new.definition ≡ tree.old.definition }
     ensures settled { OnOk result (tree.new.reserve ≡ None) }
     ensures can { OnOk result (AllByRecursion (CanOffer (offer_to tree.new letters.now (number + 1))) tree.new.paths) }
+    ensures grows { OnOk result (GrowsBy (offer_to tree.old letters.now number) tree.old.paths tree.new.paths) }
 {
     tree.reserve_for(letters, index, number, steps)?;
     tree.expire(number);

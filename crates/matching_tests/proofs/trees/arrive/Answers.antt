@@ -5,7 +5,9 @@ use Rattle.match_tree.specs.Offering.{CanOffer}
 use Rattle.match_tree.specs.Tree.{Tree, Reserve, offer_to, is_path_seen, is_path_without, IsReserved}
 use Rattle.pattern_core.specs.Window.{oldest_seen}
 use Rattle.match_tree.proofs.NextLemmas.{kept_can, left_can, both_gains}
+use Rattle.matching_tests.specs.Tried.{GrowsBy}
 use Rattle.matching_tests.proofs.IndexLemmas.{all_indexed}
+use Rattle.matching_tests.proofs.TriedLemmas.{kept_grows, left_grows}
 use Rattle.matching_tests.proofs.trees.arrive.Goals as goal
 use Rattle.matching_tests.proofs.trees.arrive.Goals.{in-None, in-Some}
 
@@ -34,6 +36,30 @@ returns-clause-can g c =
           let paths = ap (λ (u : Tree). u.paths) w.prune.ensures ∙ ap (filter p) (ap (λ (u : Tree). u.paths) w.forget.ensures ∙ left) in
           let same = ap (λ (u : Tree). u.definition) w.prune.ensures ∙ ap (λ (u : Tree). u.definition) w.forget.ensures ∙ definition in
           subst Can (sym w.tree-is) (left_can t after letters n p q c.requires.recorded c.requires.can paths same)
+    ]
+
+pub returns-clause-grows : goal.returns-clause-grows
+returns-clause-grows g c =
+    let t : Tree = c.args.tree.now in
+    let letters = c.args.letters.now in
+    let n : ℕ = c.args.number in
+    let reserved = c.reserve_for.new.self in
+    let before : Tree = c.expire.new.self in
+    let q : Assignment → Bool = is_path_seen (oldest_seen reserved.definition.window n) in
+    let left : before.paths ≡ filter q t.paths = ap (λ (u : Tree). u.paths) c.expire.ensures ∙ ap (filter q) c.in_ok-reserve_for.ensures.paths in
+    let kept = ap (λ (u : Tree). u.reserve) c.expire.ensures in
+    let found = subst (λ (r : Option Reserve). IsReserved (offer_to t letters n) t.paths r) (sym kept) c.in_ok-reserve_for.ensures.reserved in
+    let Grows : Tree → Type 0 = λ u. GrowsBy (offer_to t letters n) t.paths u.paths in
+    elim c.match-found.branch [
+      | in-None w ↦
+          let after : Tree = w.extend.new.self in
+          let gains = both_gains before.reserve c.best_with-found.result before.paths after.paths w.in-None.is c.best_with-found.ensures.best w.extend.ensures.gains in
+          subst Grows (sym w.tree-is) (kept_grows t before after letters n q before.reserve found left gains)
+      | in-Some w ↦
+          let after : Tree = w.prune.new.self in
+          let p : Assignment → Bool = is_path_without w.in-Some.best.taken in
+          let paths = ap (λ (u : Tree). u.paths) w.prune.ensures ∙ ap (filter p) (ap (λ (u : Tree). u.paths) w.forget.ensures ∙ left) in
+          subst Grows (sym w.tree-is) (left_grows t after letters n p q paths)
     ]
 
 pub reserve_for-requires-clause-indexed : goal.reserve_for-requires-clause-indexed

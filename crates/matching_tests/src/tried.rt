@@ -1,0 +1,147 @@
+//! How often a message is tried, where a conjunct of the guard speaks of one message alone.
+ghost use Rattle.std.specs.Prelude.{◌≡◌, ◌+◌, ◌++◌, ◌∷◌, [], ◌<◌, ◌≤◌, IfOk, OnOk, None};
+ghost use Rattle.std.specs.List.{AllByRecursion};
+ghost use Rattle.join_base.specs.declared.message.Value.{Value};
+ghost use Rattle.guard_eval.specs.Shape.{conjunct_condition};
+ghost use Rattle.matching_tests.specs.Samples.{HasAll};
+ghost use Rattle.matching_tests.specs.Tried.{AreAmong, equality, kept, one, pair, row, variable};
+ghost use Rattle.match_tree.specs.Tree.{empty_of, offer_to};
+ghost use Rattle.match_tree.specs.Offering.{CanOffer};
+
+use crate::made;
+use crate::trees::{arrive, index_of};
+use guard_eval::{Conjunct, ConjunctList};
+use join_base::{Items, Letters, Message, NoMemory, Relation, Steps};
+use match_tree::MatchTree;
+use pattern_core::Definition;
+use std::alloc::Global;
+use std::marker::Brand;
+use std::sync::ledger::{Blank, Ledger};
+use std::test::Fail;
+use value_index::ValueIndex;
+
+// x == 1, of the first pattern.
+fn is_one(alloc: Global) -> Result<Conjunct, NoMemory>
+    ensures { IfOk result (λ c. conjunct_condition c ≡ equality (variable 0) one) }
+{
+    let first = made::variable(alloc, 0)?;
+    let one = made::number(alloc, 1)?;
+    made::comparison(alloc, first, Relation::Equal, one)
+}
+
+fn conjuncts(alloc: Global) -> Result<ConjunctList, NoMemory>
+    ensures { IfOk result (λ cs. cs ≡ pair.conjuncts) }
+{
+    let mut conjuncts = ConjunctList::new(alloc);
+    conjuncts.push(is_one(alloc)?)?;
+    conjuncts.push(made::equality(alloc)?)?;
+    Ok(conjuncts)
+}
+
+fn pair(alloc: Global) -> Result<Definition, NoMemory>
+    ensures { IfOk result (λ d. d ≡ pair) }
+{
+    let conjuncts = conjuncts(alloc)?;
+    let mut patterns = Items::new(alloc);
+    patterns.push(0)?;
+    patterns.push(1)?;
+    Ok(Definition {
+        patterns,
+        conjuncts,
+        window: None,
+    })
+}
+
+fn push(letters: &mut Letters, alloc: Global, kind: u32, value: i64) -> Result<(), NoMemory>
+    ensures { OnOk result (letters.new ≡ letters.old ++ record { kind = kind; fields = Value.Int value ∷ [] } ∷ []) }
+{
+    let message = made::message(alloc, kind, value)?;
+    letters.push(message)
+}
+
+fn push_row(letters: &mut Letters, alloc: Global) -> Result<(), NoMemory>
+    requires empty { letters.old ≡ [] }
+    ensures row { OnOk result (letters.new ≡ row) }
+{
+    push(letters, alloc, 0, 1)?;
+    push(letters, alloc, 0, 2)?;
+    push(letters, alloc, 0, 3)?;
+    push(letters, alloc, 1, 7)
+}
+
+fn letters_of_row(alloc: Global) -> Result<Letters, NoMemory>
+    ensures { IfOk result (λ letters. letters ≡ row) }
+{
+    let mut letters = Items::new(alloc);
+    push_row(&mut letters, alloc)?;
+    Ok(letters)
+}
+
+// Brings the tree the first three messages of the row.
+fn bring_three<L: Ledger>(
+    tree: &mut MatchTree,
+    letters: &[Message],
+    index: &ValueIndex,
+    steps: &mut Steps<L>,
+) -> Result<(), NoMemory>
+    requires opening { tree.old ≡ record { definition = pair; rule = 1; paths = empty_of pair ∷ []; reserve = None } }
+    requires letters { letters.now ≡ row }
+    requires indexed { HasAll index.now letters.now }
+    ensures definition { OnOk result (tree.new.definition ≡ pair) }
+    ensures settled { OnOk result (tree.new.reserve ≡ None) }
+    ensures can { OnOk result (AllByRecursion (CanOffer (offer_to tree.new letters.now 4)) tree.new.paths) }
+    ensures among { OnOk result (AreAmong tree.new.paths kept) }
+{
+    for number in 1..4 {
+        arrive(tree, letters, index, number, steps)?;
+    }
+    Ok(())
+}
+
+// Offers the fourth message, which is tried twice: at the empty partial match, and at that of the first message.
+fn offer_fourth<L: Ledger>(
+    tree: &mut MatchTree,
+    letters: &[Message],
+    index: &ValueIndex,
+    steps: &mut Steps<L>,
+) -> Result<(), NoMemory>
+    requires definition { tree.old.definition ≡ pair }
+    requires settled { tree.old.reserve ≡ None }
+    requires letters { letters.now ≡ row }
+    requires indexed { HasAll index.now letters.now }
+    requires can { AllByRecursion (CanOffer (offer_to tree.old letters.now 4)) tree.old.paths }
+    requires among { AreAmong tree.old.paths kept }
+    ensures twice { steps.new ≤ steps.old + 2 }
+{
+    // That none stands twice is told here.
+    let _ = tree.partials();
+    tree.reserve_for(letters, index, 4, steps)
+}
+
+// How many partial matches the tree keeps of the first three messages. The fourth is offered then.
+fn kept_of_three<L: Ledger>(alloc: Global, blank: Blank) -> Result<u64, NoMemory>
+    requires name { blank.name ≡ L.name }
+    requires parts { blank.parts ≡ L.parts }
+    requires owned { 0 < L.parts }
+{
+    let mut steps = Steps::<L>::new(blank);
+    let definition = pair(alloc)?;
+    let letters = letters_of_row(alloc)?;
+    let shown = letters.as_slice();
+    let index = index_of(alloc, shown)?;
+    let mut tree = MatchTree::new(alloc, &definition, 1)?;
+    bring_three(&mut tree, shown, &index, &mut steps)?;
+    let kept = tree.partials();
+    offer_fourth(&mut tree, shown, &index, &mut steps)?;
+    Ok(kept)
+}
+
+fn are_two_kept(alloc: Global) -> Result<bool, NoMemory> {
+    Ok(kept_of_three::<Brand>(alloc, Blank::new(1))? == 2)
+}
+
+#[test]
+fn a_message_is_tried_at_what_is_kept_alone(rt: HostRuntime) -> Result<(), Fail> {
+    assert!(rt; are_two_kept(rt.alloc())?);
+    Ok(())
+}
