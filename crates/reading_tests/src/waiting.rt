@@ -46,9 +46,17 @@ actor m
 end running left 1,2,3,4,5 partials 4
 ";
 
+const FIRED_LOG: &[u8] = b"joinlog 2 arrivals 50000 partials 65536 feeds 1
+actor m
+1 at 1 from feed 1 b(4)
+fire rule 2 take 1
+end running left - partials 3
+";
+
 const ENDED_LOG: &[u8] = b"joinlog 2 arrivals 50000 partials 65536 feeds 1
 actor m
-end running left - partials 3
+1 at 1 from feed 1 d(0)
+end stopped left - partials 3
 ";
 
 const TOLD: &[Told] = &[
@@ -100,7 +108,19 @@ rule 3: it has 1 of 1
   1 == 2 is false
 ",
     ),
-    (MIXED, MIXED_LOG, Some(6), b"6 does not wait\n"),
+    (MIXED, MIXED_LOG, Some(6), b"6 did not arrive\n"),
+    (
+        MIXED,
+        FIRED_LOG,
+        Some(1),
+        b"1 b(4) was taken by rule 2 at arrival 1\n",
+    ),
+    (
+        MIXED,
+        ENDED_LOG,
+        Some(1),
+        b"1 d(0) was let go when the actor ended\n",
+    ),
     (MIXED, ENDED_LOG, None, b"nothing waits\n"),
 ];
 

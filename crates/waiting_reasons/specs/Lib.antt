@@ -1,5 +1,6 @@
 -- what is claimed: why messages wait, and that the reasons are true
 pub mod Text
+pub mod Gone
 pub mod Ways
 pub mod Guards
 pub mod Law

@@ -23,6 +23,7 @@ use Rattle.plan_text.specs.PlanNames.{Variables, row_of, variable_name}
 use Rattle.plan_text.specs.PlanText.{line_end, pattern_text}
 use Rattle.waiting_reasons.specs.declared.reason.Reason.{Reason}
 use Rattle.waiting_reasons.specs.declared.reason.Reason.TheVariants.{Passed, Misfits, Fullest}
+use Rattle.waiting_reasons.specs.Gone.{fate_text, taker}
 use Rattle.waiting_reasons.specs.Guards.{first_false, first_untrue, has_place, places_of}
 use Rattle.waiting_reasons.specs.Ways.{filled_count, no_numbers, reason_of}
 
@@ -79,9 +80,9 @@ abbrev pub candidate_line : Plan → Rule → List Message → Assignment → �
 candidate_line plan rule letters slots place number =
     codes "    " ++ (numbered_text plan letters number ++ (codes ": " ++ (candidate_text rule letters slots place number ++ line_end)))
 
--- `none waits` or `N wait`
+-- `none waits`, `1 waits` or `N wait`
 abbrev pub waits_text : ℕ → List ℕ
-waits_text count = if count == 0 then codes "none waits" else decimal count ++ codes " wait"
+waits_text count = if count == 0 then codes "none waits" else (if count == 1 then codes "1 waits" else decimal count ++ codes " wait")
 
 -- `  PATTERN`
 abbrev pub pattern_front : Plan → Rule → ℕ → ℕ → List ℕ
@@ -189,6 +190,16 @@ abbrev pub message_lines : Plan → List Rule → List Message → List ℕ → 
 message_lines plan rules letters left number =
     numbered_text plan letters number ++ (untaken_text rules letters number ++ (line_end ++ rules_lines plan letters left number 1 rules))
 
+-- ---- a message that doesn't wait
+
+-- `N did not arrive`; or `N KIND(VALUES)`, and what became of it
+abbrev pub gone_by : Plan → List Entry → List Message → ℕ → Option Message → List ℕ
+gone_by plan entries letters number None = decimal number ++ (codes " did not arrive" ++ line_end)
+gone_by plan entries letters number (Some message) = numbered_text plan letters number ++ (fate_text (taker number entries) ++ line_end)
+
+abbrev pub gone_line : Plan → List Entry → List Message → ℕ → List ℕ
+gone_line plan entries letters number = gone_by plan entries letters number (letter_at letters number)
+
 -- ---- an actor at the end of its run
 
 abbrev pub entries_in : Option ActorRun → List Entry
@@ -204,17 +215,13 @@ abbrev pub waiting_lines : Plan → List Rule → List Message → List ℕ → 
 waiting_lines plan rules letters left =
     if length left == 0 then codes "nothing waits" ++ line_end else flat_map (message_line plan rules letters left) left
 
--- `N does not wait`
-abbrev pub gone_line : ℕ → List ℕ
-gone_line number = decimal number ++ (codes " does not wait" ++ line_end)
-
--- all that wait in a line each, or one of them in full
-abbrev pub why_lines : Plan → List Rule → List Message → List ℕ → Option ℕ → List ℕ
-why_lines plan rules letters left None = waiting_lines plan rules letters left
-why_lines plan rules letters left (Some number) =
-    if contains_number left number then message_lines plan rules letters left number else gone_line number
+-- all that wait in a line each; or one of them in full, or what became of one that doesn't
+abbrev pub why_lines : Plan → List Rule → List Entry → List Message → List ℕ → Option ℕ → List ℕ
+why_lines plan rules entries letters left None = waiting_lines plan rules letters left
+why_lines plan rules entries letters left (Some number) =
+    if contains_number left number then message_lines plan rules letters left number else gone_line plan entries letters number
 
 -- why the messages of the actor wait at the end of the run, or why this one does
 abbrev pub why_text : Plan → Run → ℕ → Option ℕ → List ℕ
 why_text plan run actor wanted =
-    why_lines plan (rules_of (slice_get plan.actors actor)) (letters_of (entries_in (slice_get run.actors actor))) (left_in (slice_get run.actors actor)) wanted
+    why_lines plan (rules_of (slice_get plan.actors actor)) (entries_in (slice_get run.actors actor)) (letters_of (entries_in (slice_get run.actors actor))) (left_in (slice_get run.actors actor)) wanted

@@ -125,12 +125,15 @@ fn write_candidates(
     Ok(())
 }
 
-// `none waits` or `N wait`.
+// `none waits`, `1 waits` or `N wait`.
 fn write_waits(text: &mut Bytes, count: usize) -> Result<(), NoMemory>
     ensures { OnOk result (text.new ≡ text.old ++ waits_text count) }
 {
     if count == 0 {
         return text.push_all(b"none waits");
+    }
+    if count == 1 {
+        return text.push_all(b"1 waits");
     }
     write_number(text, i128::from(count as u64))?;
     text.push_all(b" wait")

@@ -5,13 +5,14 @@ ghost use Rattle.script_types.specs.Typed.{IsTyped};
 ghost use Rattle.fair_semantics.specs.Fair.{rules_of};
 ghost use Rattle.fair_semantics.specs.Fits.{RunFits};
 ghost use Rattle.waiting_reasons.specs.Inside.{RuleSuits};
-ghost use Rattle.waiting_reasons.specs.Text.{entries_in, gone_line, left_in, why_lines, why_text};
+ghost use Rattle.waiting_reasons.specs.Text.{entries_in, left_in, why_lines, why_text};
 
+use crate::gone::write_gone;
 use crate::letters::{contains_number, copy_letters};
 use crate::lines::write_message;
 use crate::notes::write_waiting;
 use fair_semantics::{Entry, Run};
-use join_base::{Bytes, Message, NoMemory, write_number};
+use join_base::{Bytes, Message, NoMemory};
 use script_types::{Plan, Rule};
 use std::alloc::Global;
 
@@ -45,32 +46,25 @@ fn left_at(run: &Run, actor: u32) -> &[u32]
     }
 }
 
-// `N does not wait`.
-fn write_gone(text: &mut Bytes, number: u32) -> Result<(), NoMemory>
-    ensures { OnOk result (text.new ≡ text.old ++ gone_line number) }
-{
-    write_number(text, i128::from(number))?;
-    text.push_all(b" does not wait\n")
-}
-
 fn write_why(
     alloc: Global,
     text: &mut Bytes,
     plan: &Plan,
     rules: &[Rule],
+    entries: &[Entry],
     letters: &[Message],
     left: &[u32],
     wanted: Option<u32>,
 ) -> Result<(), NoMemory>
     requires all { AllByRecursion (RuleSuits letters.now) rules.now }
     requires few { length rules.now ≤ 16 }
-    ensures { OnOk result (text.new ≡ text.old ++ why_lines plan.now rules.now letters.now left.now wanted) }
+    ensures { OnOk result (text.new ≡ text.old ++ why_lines plan.now rules.now entries.now letters.now left.now wanted) }
 {
     match wanted {
         None => write_waiting(alloc, text, plan, rules, letters, left),
         Some(number) => {
             if !contains_number(left, number) {
-                return write_gone(text, number);
+                return write_gone(text, plan, entries, letters, number);
             }
             write_message(alloc, text, plan, rules, letters, left, number)
         }
@@ -78,8 +72,8 @@ fn write_why(
 }
 
 /// Appends why the messages that an actor has left wait at the end of a run: a line for each, or, where a number is
-/// wanted, all that is said of the message with this arrival number. Actors are counted from 0. After `NoMemory`
-/// nothing was appended.
+/// wanted, all that is said of the message with this arrival number, or what became of it. Actors are counted from 0.
+/// After `NoMemory` nothing was appended.
 ///
 /// The line of a message is `N KIND(VALUES); rule R: REASON`, with a reason for each definition that has a pattern of
 /// its kind. Of one message each reason has a line of its own. Below it stand the patterns of the fullest assignment
@@ -98,7 +92,8 @@ pub fn print_why(
     ensures ok { OnOk result (out.new ≡ out.old ++ why_text plan.now run.now actor wanted) }
     ensures err { OnErr result (out.new ≡ out.old) }
 {
-    let letters = copy_letters(alloc, entries_at(run, actor))?;
+    let entries = entries_at(run, actor);
+    let letters = copy_letters(alloc, entries)?;
     let rules = rules_at(plan, actor);
     let left = left_at(run, actor);
     let mut text = Bytes::new(alloc);
@@ -107,6 +102,7 @@ pub fn print_why(
         &mut text,
         plan,
         rules,
+        entries,
         letters.as_slice(),
         left,
         wanted,
