@@ -17,12 +17,12 @@ use Rattle.join_command.specs.Verdict as usual
 use Rattle.join_command.specs.Verdict.{Words, replay_asks_nothing}
 use Rattle.join_command.specs.Writing.{Writes}
 use Rattle.look_command.specs.declared.reply.Reply.{Reply}
-use Rattle.look_command.specs.Answer.{AnswersWhereTold, Decides, IsAnswer}
+use Rattle.look_command.specs.Answer.{AnswersWhereTold, CompletesWhereTold, Decides, IsAnswer}
 use Rattle.look_command.specs.Output.{IsOutput}
 use Rattle.look_command.specs.Preparing.{DecidesOutput, Prepares, PreparesOutput, PreparesRequest}
 use Rattle.look_command.specs.Replying.{Replies, verdict_of}
 use Rattle.look_command.specs.Request.{Request, Audit, Reactions, Why, request_of}
-use Rattle.look_command.specs.Verdict.{MayAskBy, OfWords, Usual, Verdict, asks_nothing}
+use Rattle.look_command.specs.Verdict.{MayAskBy, OfWords, OneVerdict, Usual, Verdict, asks_nothing}
 
 -- ---- a request
 
@@ -146,3 +146,14 @@ module _ (words : Words) where
         are_asked = prepared.are_asked;
         is_answer = record { answer = answer; rest = wrote.rest; decides = subst P wrote.parts prepared.output };
       }
+
+  -- ---- the one verdict
+
+  pub completes : OneVerdict → (told told_now : Option Told) (answer : Status) (output : List ℕ) (read_before read_now write_before write_now : ℕ)
+      → Tells told told_now (λ before now. Prepares words before now (Ok (answer, output))) → CompletesWhereTold words told read_before read_now write_before write_now answer
+  completes one None told_now answer output read_before read_now write_before write_now prepared = tt
+  completes one (Some told) None answer output read_before read_now write_before write_now prepared = absurd prepared
+  completes one (Some told) (Some told_now) answer output read_before read_now write_before write_now prepared = λ verdict is reads writes.
+      let d = prepared.output in
+      let P : Verdict → Type 0 = λ (v : Verdict). IsOutput v answer output in
+      inl (output, subst P (one words told.files d.verdict verdict d.is_verdict is) d.is_output)

@@ -1,12 +1,12 @@
 -- What the program answers, where the inputs tell what they hold and the sink what it took.
 use Rattle.std.specs.Prelude.{◌≡◌, ◌⊎◌, ℕ, List, [], ◌++◌, Option, None, Some}
-use Rattle.join_base.specs.Outside.{Files, Told}
+use Rattle.join_base.specs.Outside.{Files, Told, Rose}
 use Rattle.join_command.specs.declared.status.Status.{Status}
 use Rattle.join_command.specs.declared.status.Status.TheVariants as status
 use Rattle.join_command.specs.Verdict.{Words}
 use Rattle.look_command.specs.Request.{request_of}
 use Rattle.look_command.specs.Verdict.{Verdict, IsVerdict, AreAsked}
-use Rattle.look_command.specs.Output.{IsOutput}
+use Rattle.look_command.specs.Output.{HasStatus, IsOutput}
 
 -- the verdict of the words and the files has this status and this output
 pub record Decides (words : Words) (files : Files) (answer : Status) (output : List ℕ) : Type 0 where
@@ -53,6 +53,16 @@ pub record FetchesInOrder (words : Words) (before now : Told) : Type 0 where
   pub asked : List (List ℕ)
   pub told_is : now ≡ record { files = before.files; asked = before.asked ++ asked }
   pub are_asked : AreAsked words before.files asked
+
+-- where no fault was counted, the status is that of the verdict, or there was no memory
+abbrev pub Completes : Words → Files → ℕ → ℕ → ℕ → ℕ → Status → Type 0
+Completes words files read_before read_now write_before write_now answer =
+    (verdict : Verdict) → IsVerdict words files verdict
+    → ¬ Rose read_before read_now → ¬ Rose write_before write_now → HasStatus verdict answer ⊎ (answer ≡ status.NoMemory)
+
+abbrev pub CompletesWhereTold : Words → Option Told → ℕ → ℕ → ℕ → ℕ → Status → Type 0
+CompletesWhereTold words None read_before read_now write_before write_now answer = Unit {0}
+CompletesWhereTold words (Some told) read_before read_now write_before write_now answer = Completes words told.files read_before read_now write_before write_now answer
 
 -- words that are no request are refused, but for a write that failed or want of memory
 abbrev pub RefusesWords : Words → Status → Type 0

@@ -31,3 +31,7 @@ IsOutput (OtherRow difference shown) answer output = (answer ≡ status.LogRefus
 IsOutput UnknownActor answer output = (answer ≡ status.ScriptRefused) × (output ≡ line (codes "refused actor"))
 IsOutput (Reacts plan run only) answer output = (answer ≡ status.Done) × IsReactionsText plan run only output
 IsOutput (Explains plan run actor wanted) answer output = (answer ≡ status.Done) × (output ≡ why_text plan run actor wanted)
+
+-- the status of a verdict
+abbrev pub HasStatus : Verdict → Status → Type 0
+HasStatus verdict answer = (output : List ℕ) × IsOutput verdict answer output

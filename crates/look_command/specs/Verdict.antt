@@ -132,6 +132,10 @@ OfWords files (Some request) verdict = OfRequest files request verdict
 abbrev pub IsVerdict : Words → Files → Verdict → Type 0
 IsVerdict words files verdict = OfWords files (request_of words) verdict
 
+-- words and files have one verdict at the most
+abbrev pub OneVerdict : Type 0
+OneVerdict = (words : Words) (files : Files) (one other : Verdict) → IsVerdict words files one → IsVerdict words files other → one ≡ other
+
 -- ---- the names that are asked
 
 -- `audit` asks for the script, once the script gives a plan for the log, and once there is a log for the feeds in order,

@@ -4,10 +4,11 @@ ghost use Rattle.join_command.specs.Counting.{EndsAtFault, MakesFewWrites};
 ghost use Rattle.join_command.specs.Loading.{Tells};
 ghost use Rattle.join_command.specs.Output.{IsSettled};
 ghost use Rattle.join_command.specs.Top.{CountsFault, IsAnswered, PrepareCause};
-ghost use Rattle.look_command.specs.Answer.{AnswersWhereTold, FetchesInOrder, RefusesWords};
+ghost use Rattle.look_command.specs.Answer.{AnswersWhereTold, CompletesWhereTold, FetchesInOrder, RefusesWords};
 ghost use Rattle.look_command.specs.Preparing.{Prepares, PreparesRequest, TestsWords};
 ghost use Rattle.look_command.specs.Request.{HasFewFeeds, request_in, request_of};
 
+use crate::law::one_verdict;
 use crate::output::output_of;
 use crate::reply::reply_of;
 use crate::request::{Request, request_of};
@@ -62,14 +63,20 @@ fn prepare<I: Inputs>(
     }
 }
 
-/// Carries out the request that the words are; `words` leaves out the program's name. `audit SCRIPT LOG FEED..` fetches
-/// the script, the log and then 1 to 16 feeds in order, and writes how many arrivals the log has, exactly where the log
-/// is one that `replay` accepts and its run is linked to the posts of these feeds.
+/// Carries out the request that the words are; `words` leaves out the program's name. Each request fetches the script,
+/// and then the log.
+///
+/// - `audit SCRIPT LOG FEED..` fetches 1 to 16 feeds behind them, in order. It writes how many arrivals the log has,
+///   exactly where the log is one that `replay` accepts and its run is linked to the posts of these feeds.
+/// - `reactions SCRIPT LOG [ACTOR]` writes what the firings of the log printed and posted, of one actor or of all, each
+///   with the rows of feeds that led to it.
+/// - `why SCRIPT LOG ACTOR [NUMBER]` writes why the messages that the actor has left wait, or why one of them does.
 ///
 /// The first refusal ends the call: `Usage` where the words are no request, `TooLong` where a file has more than
-/// 16,777,216 bytes, or the log more than 268,435,456, `ScriptRefused` where the script has a fault, `FeedRefused` where
-/// a feed has a record in fault, and `LogRefused` where a line of the log is in fault, or is not that of the feeds; each
-/// writes one line. After `ReadFault` and `NoMemory` nothing was written, and after `WriteFault` a beginning of the
+/// 16,777,216 bytes, or the log more than 268,435,456, `ScriptRefused` where the script has a fault, or no actor of the
+/// name, `FeedRefused` where a feed has a record in fault, and `LogRefused` where a line of the log is in fault, or is
+/// not that of the feeds. Each writes one line, but for a line of the log that is not that of the feeds: that line and
+/// the row stand below. After `ReadFault` and `NoMemory` nothing was written, and after `WriteFault` a beginning of the
 /// output: the write that failed was the last one. `Limits` never comes.
 pub fn look_main<I: Inputs, S: CountingSink>(
     alloc: Global,
@@ -92,11 +99,17 @@ pub fn look_main<I: Inputs, S: CountingSink>(
     ensures few { MakesFewWrites (S.taken out.old) (S.taken out.new) (S.writes out.old) (S.writes out.new) result }
     ensures stops { EndsAtFault result (S.writes out.old) (S.writes out.new) }
 
+    // Where no fault was counted, the status is that of the verdict that the words and the files have, or there was no
+    // memory.
+    ensures complete { CompletesWhereTold words.now (I.tells inputs.old) (I.faults inputs.old) (I.faults inputs.new) (S.faults out.old) (S.faults out.new) result }
+
     ensures words_refused { RefusesWords words.now result }
     ensures usage_only { result ≡ Status.Usage → request_of words.now ≡ None }
     // The sink was not touched.
     ensures silent { (result ≡ Status.ReadFault) ⊎ (result ≡ Status.NoMemory) → out.new ≡ out.old }
 {
+    // It costs nothing, and completeness rests on it.
+    one_verdict();
     match prepare(alloc, words, inputs) {
         Ok((status, output)) => match write_all(out, output.bytes()) {
             Ok(()) => status,
