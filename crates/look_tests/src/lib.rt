@@ -5,3 +5,7 @@
 mod audits;
 #[cfg(test)]
 mod calls;
+#[cfg(test)]
+mod files;
+#[cfg(test)]
+mod runs;

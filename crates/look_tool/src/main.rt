@@ -1,4 +1,5 @@
-//! Looks at the log of a run: whether it is that of some feeds. What a person reads of a fault stands on standard error.
+//! Looks at the log of a run: whether it is that of some feeds, which rows led to each reaction, and why messages wait.
+//! What a person reads of a fault stands on standard error.
 #![tactic(auto)]
 
 mod again;
