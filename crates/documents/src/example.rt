@@ -9,9 +9,9 @@ use std::thread::Threads;
 use system_files::FileInputs;
 
 // More than any example prints.
-const ROOM: u64 = 65_536;
+pub const ROOM: u64 = 65_536;
 
-fn words_of(alloc: Global, texts: &[&str]) -> Result<WordList, NoMemory> {
+pub fn words_of(alloc: Global, texts: &[&str]) -> Result<WordList, NoMemory> {
     let mut words = WordList::new(alloc);
     for text in texts {
         words.push(Word::from_text(alloc, text)?)?;
@@ -25,6 +25,19 @@ pub fn held_by<R: Files>(rt: &R, alloc: Global, name: &str) -> Result<Option<Byt
         Ok(bytes) => Ok(Some(bytes)),
         Err(FetchFault::NoMemory) => Err(NoMemory),
         Err(FetchFault::Failed | FetchFault::TooLong) => Ok(None),
+    }
+}
+
+/// Whether the file holds these bytes.
+pub fn is_held<R: Files>(
+    rt: &R,
+    alloc: Global,
+    file: &str,
+    bytes: &[u8],
+) -> Result<bool, NoMemory> {
+    match held_by(rt, alloc, file)? {
+        Some(held) => Ok(bytes == held.bytes()),
+        None => Ok(false),
     }
 }
 
@@ -49,10 +62,7 @@ pub fn is_printed<R: Files + Threads + Wait + Sync>(
     file: &str,
 ) -> Result<bool, NoMemory> {
     let (_, out) = answer_to(rt, alloc, texts)?;
-    match held_by(rt, alloc, file)? {
-        Some(wanted) => Ok(out.bytes() == wanted.bytes()),
-        None => Ok(false),
-    }
+    is_held(rt, alloc, file, out.bytes())
 }
 
 /// Whether the words are carried out without a refusal.

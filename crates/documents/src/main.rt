@@ -1,5 +1,5 @@
-//! Runs the program on each example of the documents, and tells whether it prints what the documents show, tells
-//! people of a refusal what they show, and accepts the logs.
+//! Runs both programs on each example of the documents, and tells whether they print what the documents show, tell
+//! people of a refusal what they show, and accept the logs.
 //!
 //! The examples are the data of this crate, and README.md and the documents under docs/ show them behind marks, where
 //! `.ci/documents` compares them with the files. So no output behind a mark can grow old unseen. Nothing is proved here
@@ -7,10 +7,12 @@
 #![tactic(auto)]
 
 mod example;
+mod looked;
 mod table;
 mod told;
 
 use crate::example::{is_done, is_printed};
+use crate::looked::{LOOKED, is_shown};
 use crate::table::{ACCEPTED, PRINTED};
 use crate::told::{TOLD, is_told};
 use join_base::NoMemory;
@@ -46,6 +48,9 @@ fn tell_accepted(rt: &HostRuntime, name: &str, found: Result<bool, NoMemory>) ->
 fn main(rt: HostRuntime) -> io::Result<()> {
     for (file, texts) in PRINTED.iter() {
         tell(&rt, file, is_printed(&rt, rt.alloc(), texts, file))?;
+    }
+    for (file, texts) in LOOKED.iter() {
+        tell(&rt, file, is_shown(&rt, rt.alloc(), texts, file))?;
     }
     for (note, script) in TOLD.iter() {
         tell_told(&rt, note, is_told(&rt, rt.alloc(), script, note))?;

@@ -60,6 +60,10 @@ pub const PRINTED: &[(&str, &[&str])] = &[
     ),
     ("workers.log", &["run", "workers.join", "workers.feed"]),
     (
+        "three_mistakes.log",
+        &["run", "three_mistakes.join", "three_mistakes.feed"],
+    ),
+    (
         "numbered_tickets.answers",
         &["ask", "numbered_tickets.join", "numbered_tickets.feed"],
     ),
@@ -111,6 +115,8 @@ pub const ACCEPTED: &[(&str, &str)] = &[
     ("ticket_desk.join", "ticket_desk.log"),
     ("two_persons.join", "two_persons.log"),
     ("workers.join", "workers.log"),
+    ("three_mistakes.join", "three_mistakes.log"),
+    ("door_alarm.join", "door_alarm_changed.log"),
     ("bounded_buffer.join", "bounded_buffer.log"),
     ("dark_room.join", "dark_room.log"),
     ("forgotten_window.join", "forgotten_window.log"),
