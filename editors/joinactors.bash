@@ -1,4 +1,8 @@
-# Completions for ./run and join_tool in bash: source this file, from ~/.bashrc for instance.
+# Completions for ./run, ./look and their programs in bash: source this file, from ~/.bashrc for instance.
+
+_joinactors_scripts() {
+  mapfile -t COMPREPLY < <(compgen -f -X '!*.join' -- "$1"; compgen -d -- "$1")
+}
 
 _joinactors() {
   local word=${COMP_WORDS[COMP_CWORD]} before=${COMP_WORDS[COMP_CWORD - 1]} command=${COMP_WORDS[1]}
@@ -15,10 +19,22 @@ _joinactors() {
     return
   fi
   case $command:$COMP_CWORD in
-    run:2 | ask:2 | check:2 | lint:2 | replay:2) mapfile -t COMPREPLY < <(compgen -f -X '!*.join' -- "$word"; compgen -d -- "$word") ;;
+    run:2 | ask:2 | check:2 | lint:2 | replay:2) _joinactors_scripts "$word" ;;
     run:* | ask:*) mapfile -t COMPREPLY < <(compgen -f -- "$word") ;;
     replay:3) mapfile -t COMPREPLY < <(compgen -f -- "$word") ;;
   esac
 }
 
 complete -o filenames -F _joinactors ./run join_tool
+
+_joinactors_look() {
+  local word=${COMP_WORDS[COMP_CWORD]}
+  COMPREPLY=()
+  case ${COMP_WORDS[1]}:$COMP_CWORD in
+    *:1) mapfile -t COMPREPLY < <(compgen -W "audit reactions why" -- "$word") ;;
+    *:2) _joinactors_scripts "$word" ;;
+    *:3 | audit:*) mapfile -t COMPREPLY < <(compgen -f -- "$word") ;;
+  esac
+}
+
+complete -o filenames -F _joinactors_look ./look look_tool
