@@ -15,6 +15,8 @@ mod deques;
 #[cfg(test)]
 mod links;
 #[cfg(test)]
+mod pool_kinds;
+#[cfg(test)]
 mod runs;
 #[cfg(test)]
 mod tickets;
