@@ -8,7 +8,7 @@
 //! which they reply to that arrival. What fits some entries fits those that go on from them (`fit_law`). After `Ok` each
 //! reply to an arrival whose ask the board has was tried (`AreAllTried`): the ask is on the list, or has another value.
 //!
-//! Only tested: that calls answer `Ok` where memory is ample.
+//! Only tested: that `new` and `read` answer `Ok` where memory is ample. Of `join` no test shows it yet.
 #![tactic(auto)]
 
 mod answering;
