@@ -4,9 +4,10 @@
 //! actor, of which it may have read the first ones before. What they reply to arrivals from feeds it puts on the board.
 //! `join` puts the lists of two together.
 //!
-//! A contract sees when an answerer fits the entries of an actor (`Fits`): of each ask on its list it knows a value,
-//! which they reply to that arrival. What fits some entries fits those that go on from them (`fit_law`). After `Ok` each
-//! reply to an arrival whose ask the board has was tried (`AreAllTried`): the ask is on the list, or has another value.
+//! A contract sees when an answerer fits the entries of an actor (`Fits`): of each ask of this actor on its list it
+//! knows a value, which they reply to that arrival. What fits some entries fits those that go on from them
+//! (`fit_law`). After `Ok` each reply to an arrival whose ask the board has was tried (`AreAllTried`): the ask is on
+//! the list, or has another value.
 //!
 //! Only tested: that `new` and `read` answer `Ok` where memory is ample. Of `join` no test shows it yet.
 #![tactic(auto)]
