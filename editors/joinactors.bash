@@ -13,9 +13,12 @@ _joinactors() {
   fi
   case $before in
     --arrivals | --partials | --workers | --ring) return ;;
+    --pool) mapfile -t COMPREPLY < <(compgen -W "queue steal" -- "$word"); return ;;
   esac
   if [[ $word == -* ]]; then
-    [[ $command == run || $command == ask ]] && mapfile -t COMPREPLY < <(compgen -W "--arrivals --partials --workers --ring" -- "$word")
+    local options="--arrivals --partials --workers --ring"
+    [[ $command == run ]] && options+=" --pool"
+    [[ $command == run || $command == ask ]] && mapfile -t COMPREPLY < <(compgen -W "$options" -- "$word")
     return
   fi
   case $command:$COMP_CWORD in
