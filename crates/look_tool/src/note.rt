@@ -1,4 +1,6 @@
 //! What a person is told on standard error. Nothing rests on it: the output and the status stand before.
+ghost use Rattle.std.specs.Prelude.{◌<◌, IfSome, length};
+
 use crate::again::read_again;
 use fault_places::{NO_MEMORY, long_note, read_note, refusal_note, unseen_note, write_note};
 use join_base::{Bytes, NoMemory, Word, WordList};
@@ -71,7 +73,10 @@ fn bytes_of(alloc: Global, text: &[u8]) -> Result<Bytes, NoMemory> {
     Ok(bytes)
 }
 
-fn place_of_end(text: &[u8]) -> Option<usize> {
+// The place of the first line end.
+fn place_of_end(text: &[u8]) -> Option<usize>
+    ensures { IfSome result (λ place. place < length text.now) }
+{
     text.iter().position(|byte| *byte == b'\n')
 }
 
