@@ -13,12 +13,9 @@ _joinactors() {
   fi
   case $before in
     --arrivals | --partials | --workers | --ring) return ;;
-    --pool) mapfile -t COMPREPLY < <(compgen -W "queue steal" -- "$word"); return ;;
   esac
   if [[ $word == -* ]]; then
-    local options="--arrivals --partials --workers --ring"
-    [[ $command == run ]] && options+=" --pool"
-    [[ $command == run || $command == ask ]] && mapfile -t COMPREPLY < <(compgen -W "$options" -- "$word")
+    [[ $command == run || $command == ask ]] && mapfile -t COMPREPLY < <(compgen -W "--arrivals --partials --workers --ring" -- "$word")
     return
   fi
   case $command:$COMP_CWORD in

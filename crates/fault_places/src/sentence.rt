@@ -17,7 +17,6 @@ the options of run and ask, each at most once:
   --ring N        1 to 4096, usually 64
   --arrivals N    1 to 1000000, usually 50000
   --partials N    1 to 1000000, usually 65536
-  --pool P        queue or steal, usually queue; for run alone
 ";
 
 pub const NO_MEMORY: &[u8] = b"joinactors: there was not enough memory\n";

@@ -30,24 +30,14 @@ const COMMANDS: &[Command] = &[
 
 const MOST_ROWS: i64 = 20_000;
 
-/// What the value of an option may be.
-#[derive(Clone, Copy)]
-enum Values {
-    /// A number from 1 to this one.
-    UpTo(i64),
-    /// The name of a pool, for `run` alone.
-    Pools,
-}
-
-// The name of an option, and its values.
-type Choice = (&'static [u8], Values);
+// The name of an option, and the greatest number that it may have.
+type Choice = (&'static [u8], i64);
 
 const OPTIONS: &[Choice] = &[
-    (b"workers", Values::UpTo(64)),
-    (b"ring", Values::UpTo(4_096)),
-    (b"arrivals", Values::UpTo(1_000_000)),
-    (b"partials", Values::UpTo(1_000_000)),
-    (b"pool", Values::Pools),
+    (b"workers", 64),
+    (b"ring", 4_096),
+    (b"arrivals", 1_000_000),
+    (b"partials", 1_000_000),
 ];
 
 /// What is wrong with the words.
@@ -63,8 +53,8 @@ enum Wrong<'a> {
     NoOption(&'a [u8]),
     /// An option begins with two dashes.
     OneDash(&'a [u8]),
-    NoValue(Choice),
-    BadValue(Choice, &'a [u8]),
+    NoNumber(Choice),
+    BadNumber(Choice, &'a [u8]),
     Twice(&'a [u8]),
     Count(usize),
     BadRows(&'a [u8]),
@@ -74,13 +64,8 @@ fn command_named(name: &[u8]) -> Option<Command> {
     COMMANDS.iter().find(|command| command.0 == name).copied()
 }
 
-// The option of a command.
-fn option_named(command: Command, name: &[u8]) -> Option<Choice> {
-    let option = OPTIONS.iter().find(|option| option.0 == name).copied()?;
-    match option.1 {
-        Values::Pools if command.0 != b"run".as_slice() => None,
-        _ => Some(option),
-    }
+fn option_named(name: &[u8]) -> Option<Choice> {
+    OPTIONS.iter().find(|option| option.0 == name).copied()
 }
 
 // What stands in front of the first `=`, and behind it, where there is one.
@@ -100,13 +85,6 @@ fn is_in_range(value: &[u8], most: i64) -> bool {
     }
 }
 
-fn is_among(value: &[u8], values: Values) -> bool {
-    match values {
-        Values::UpTo(most) => is_in_range(value, most),
-        Values::Pools => value == b"queue".as_slice() || value == b"steal".as_slice(),
-    }
-}
-
 // What is wrong with an option that has this value, or the word behind it.
 fn wrong_value<'a>(
     option: Choice,
@@ -114,9 +92,9 @@ fn wrong_value<'a>(
     behind: Option<&'a [u8]>,
 ) -> Option<Wrong<'a>> {
     match value.or(behind) {
-        None => Some(Wrong::NoValue(option)),
-        Some(value) if is_among(value, option.1) => None,
-        Some(value) => Some(Wrong::BadValue(option, value)),
+        None => Some(Wrong::NoNumber(option)),
+        Some(value) if is_in_range(value, option.1) => None,
+        Some(value) => Some(Wrong::BadNumber(option, value)),
     }
 }
 
@@ -133,7 +111,7 @@ fn wrong_option<'a>(
         return (Some(Wrong::NoOptions(word)), false);
     }
     let (name, value) = cut(text);
-    match option_named(command, name) {
+    match option_named(name) {
         None => (Some(Wrong::NoOption(word)), false),
         Some(option) => (wrong_value(option, value, behind), value.is_none()),
     }
@@ -231,27 +209,20 @@ fn push_no_option<'a>(
     )
 }
 
-// Appends which values an option may have, and what is told of it.
-fn push_values<'a>(
+// Appends the range of an option's number, and what is told of it.
+fn push_range<'a>(
     out: &mut Bytes,
     option: Choice,
     told: &'a [u8],
     value: Part<'a>,
 ) -> Result<(), NoMemory> {
-    let (kinds, most) = match option.1 {
-        Values::UpTo(most) => (
-            Part::Text(b": a number from 1 to "),
-            Part::Number(i128::from(most)),
-        ),
-        Values::Pools => (Part::Text(b": queue or steal"), Part::Text(b"")),
-    };
     push_parts(
         out,
         &[
             Part::Text(b"--"),
             Part::Text(option.0),
-            kinds,
-            most,
+            Part::Text(b": a number from 1 to "),
+            Part::Number(i128::from(option.1)),
             Part::Text(told),
             value,
         ],
@@ -336,11 +307,11 @@ fn push_wrong(
         Wrong::OneDash(word) => {
             push_no_option(out, command, word, b", and behind -- a word is a file")
         }
-        Wrong::NoValue(option) => {
-            push_values(out, option, b" is wanted behind it", Part::Text(b""))
+        Wrong::NoNumber(option) => {
+            push_range(out, option, b" is wanted behind it", Part::Text(b""))
         }
-        Wrong::BadValue(option, value) => {
-            push_values(out, option, b" is wanted, and not ", word_part(value))
+        Wrong::BadNumber(option, value) => {
+            push_range(out, option, b" is wanted, and not ", word_part(value))
         }
         Wrong::Twice(word) => push_word(out, cut(word).0, b" is given twice"),
         Wrong::Count(count) => push_count(out, command, wanted, count),

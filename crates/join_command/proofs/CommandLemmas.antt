@@ -6,7 +6,7 @@ use Rattle.std.specs.Str.{bytes_eq}
 use Rattle.join_base.specs.declared.items.NoMemory.{NoMemory}
 use Rattle.command_words.specs.declared.command.Request.{Request}
 use Rattle.command_words.specs.declared.table.Setting.{Setting}
-use Rattle.command_words.specs.declared.table.Setting.TheVariants.{Workers, Ring, Arrivals, Partials, Pool}
+use Rattle.command_words.specs.declared.table.Setting.TheVariants.{Workers, Ring, Arrivals, Partials}
 use Rattle.command_words.specs.declared.table.Verb.{Verb}
 use Rattle.command_words.specs.declared.table.Verb.TheVariants as verb
 use Rattle.command_words.specs.Item.{Item, items_of}
@@ -21,7 +21,7 @@ abbrev verbs : List Verb
 verbs = verb.Run ∷ verb.Check ∷ verb.Replay ∷ verb.Lint ∷ verb.Ask ∷ verb.Load ∷ []
 
 abbrev settings : List Setting
-settings = Workers ∷ Ring ∷ Arrivals ∷ Partials ∷ Pool ∷ []
+settings = Workers ∷ Ring ∷ Arrivals ∷ Partials ∷ []
 
 run_built : (words : List (List ℕ)) (items : List Item) (command : Command) → command_from verb.Run words items ≡ Some command → IsBuilt command
 run_built words items command is = let m = mapped (λ (run : RunWords). Run run) (run_from words items) command is in subst IsBuilt m.result tt

@@ -30,7 +30,6 @@ pub fn command_of<'a>(alloc: Global, words: &'a WordList) -> Result<Option<Reque
         Setting::Ring,
         Setting::Arrivals,
         Setting::Partials,
-        Setting::Pool,
     ];
     command_words::command_of(alloc, &verbs, &settings, words)
 }
