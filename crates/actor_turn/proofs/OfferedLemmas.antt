@@ -7,10 +7,11 @@ use Rattle.pattern_core.specs.declared.definition.Definition.{Definition}
 use Rattle.pattern_core.specs.Matches.{partial_matches}
 use Rattle.pattern_core.specs.Suits.{DefinitionSuits}
 use Rattle.pattern_core.specs.Window.{SeesLatest, oldest_seen}
+use Rattle.value_index.specs.Index.{Index}
 use Rattle.match_tree.specs.Tree.{Tree, is_path_seen, is_path_without, empty_of}
 use Rattle.match_tree.specs.Tries.{tried, tries}
 use Rattle.tree_law.specs.Partials.{AreLive, letters_more, number_more, offer_more}
-use Rattle.tree_law.specs.Trees.{HoldAll, HasOnce, AreTreesOf, AreReservedFor, AreSettled, CanOfferTo, IsReservedAt, cleared_tree, expired_tree, path_count, settled_tree, tries_at, tries_from}
+use Rattle.tree_law.specs.Trees.{HoldAll, HasOnce, AreTreesOf, AreReservedFor, AreSettled, CanOfferTo, HasPaths, IsReservedAt, cleared_tree, expired_tree, path_count, settled_tree, tries_at, tries_from}
 use Rattle.tree_law.proofs.CountLemmas.{once_filter, once_sum}
 use Rattle.tree_law.proofs.OfferLemmas.{can_offer}
 use Rattle.tree_law.proofs.TreesLemmas.{cleared_holds}
@@ -53,6 +54,14 @@ unsettled_of rule (d ∷ definitions) (t ∷ trees) h = (h.0, h.1, unsettled_of 
 pub unsettled_hold : (letters : List Message) (live : List ℕ) (trees : List Tree) → HoldAll letters live (map settled_tree trees) → HoldAll letters live trees
 unsettled_hold letters live [] h = tt
 unsettled_hold letters live (t ∷ trees) h = (record { some = h.0.some; sees = h.0.sees; partial = h.0.partial; none = h.0.none }, unsettled_hold letters live trees h.1)
+
+pub unsettled_can : (letters : List Message) (number : ℕ) (trees : List Tree) → AllByRecursion (CanOfferTo letters number) (map settled_tree trees) → AllByRecursion (CanOfferTo letters number) trees
+unsettled_can letters number [] h = tt
+unsettled_can letters number (t ∷ trees) h = (h.0, unsettled_can letters number trees h.1)
+
+pub unsettled_paths : (index : Index) (letters : List Message) (trees : List Tree) → AllByRecursion (HasPaths index letters) (map settled_tree trees) → AllByRecursion (HasPaths index letters) trees
+unsettled_paths index letters [] h = tt
+unsettled_paths index letters (t ∷ trees) h = (h.0, unsettled_paths index letters trees h.1)
 
 pub unsettled_once : (trees : List Tree) → AllByRecursion HasOnce (map settled_tree trees) → AllByRecursion HasOnce trees
 unsettled_once [] h = tt

@@ -281,6 +281,7 @@ impl Actor {
             &self.rules,
             &mut self.mail,
             &mut self.trees,
+            &self.index,
             &mut self.ending,
             &mut self.outboxes,
             number,

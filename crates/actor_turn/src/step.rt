@@ -127,6 +127,7 @@ fn let_go(
     stops: bool,
     mail: &mut Mailbox,
     trees: &mut [MatchTree],
+    index: &ValueIndex,
     ending: &mut Ending,
     number: u32,
     taken: &Numbers,
@@ -134,6 +135,8 @@ fn let_go(
     requires few { number < 2 ^ 32 - 1 }
     requires recorded { All (IsRecorded mail.old.mail.arrivals) taken.now }
     requires reserved { AllByRecursion (HasReserve number) trees.old }
+    requires can { AllByRecursion (CanOfferTo (letters_of mail.old.mail.arrivals) number) trees.old }
+    requires indexed { AllByRecursion (HasPaths index.now (letters_of mail.old.mail.arrivals)) trees.old }
 
     ensures mail { mail.new.mail ≡ with_live mail.old.mail (if stops then [] else without mail.old.mail.live taken.now) }
     ensures trees { trees.new ≡ (if stops then map cleared_tree trees.old else map (fired_at number taken.now) trees.old) }
@@ -148,16 +151,18 @@ fn let_go(
     mail.consume(taken);
     expire_all(trees, number);
     forget_all(trees);
-    prune_all(trees, taken);
+    prune_all(trees, mail.letters(), index, number, taken);
 }
 
 /// The match that was chosen fires at the recorded message with the number: its numbers leave, the body runs, and its
-/// posts wait in the outboxes. Where there is no memory, all is as it was, but for room.
+/// posts wait in the outboxes. The index has the numbers of the trees' paths. Where there is no memory, all is as it was,
+/// but for room.
 pub fn fire(
     alloc: Global,
     rules: &Items<Rule>,
     mail: &mut Mailbox,
     trees: &mut [MatchTree],
+    index: &ValueIndex,
     ending: &mut Ending,
     outboxes: &mut [Outbox],
     number: u32,
@@ -169,6 +174,8 @@ pub fn fire(
     requires ready { BodyReady (length outboxes.old) (letters_of mail.old.mail.arrivals) chosen.taken (body_at rules.now chosen.rule) }
     requires recorded { All (IsRecorded mail.old.mail.arrivals) chosen.taken }
     requires reserved { AllByRecursion (HasReserve number) trees.old }
+    requires can { AllByRecursion (CanOfferTo (letters_of mail.old.mail.arrivals) number) trees.old }
+    requires indexed { AllByRecursion (HasPaths index.now (letters_of mail.old.mail.arrivals)) trees.old }
 
     ensures firing { IfOk result (λ f. Some f.value ≡ firing_of rules.now (letters_of mail.old.mail.arrivals) (Some chosen)) }
     ensures mail { OnOk result (mail.new.mail ≡ with_live mail.old.mail (if stops (body_at rules.now chosen.rule) then [] else without mail.old.mail.live chosen.taken)) }
@@ -202,6 +209,7 @@ pub fn fire(
         stops(&rule.body),
         mail,
         trees,
+        index,
         ending,
         number,
         &firing.taken,

@@ -1,5 +1,5 @@
 -- The numbers of a row that have not the value of its key.
-use Rattle.std.proofs.Common.{◌≡◌, ◌∙◌, inl, inr, ℕ, ◌<◌, ◌≤◌, List, map, length, false, Option, refl, sym, ap, arith}
+use Rattle.std.proofs.Common.{◌≡◌, ◌∙◌, inl, inr, ℕ, ◌≤◌, List, map, length, false, Option, refl, sym, ap, arith}
 use Rattle.std.specs.Prelude.{slice_index, IfSome}
 use Rattle.std.proofs.lemmas.Bool.{cases_lt}
 use Rattle.guard_eval.specs.Meaning.{Assignment}

@@ -20,7 +20,7 @@ below_unset (Some k ∷ slots) zero m n free h = absurd cc
 below_unset (None ∷ slots) (suc p) m n free h = below_unset slots p m n free h
 below_unset (Some k ∷ slots) (suc p) m n free h = let r = below_unset slots p m n free h.1 in ((h.0, r.0), r.1)
 
-below_start : (slots : Assignment) (route : Route) (n : ℕ) → Climbs slots route → AreBelow n (filled slots route) → AreBelow n slots
+pub below_start : (slots : Assignment) (route : Route) (n : ℕ) → Climbs slots route → AreBelow n (filled slots route) → AreBelow n slots
 below_start slots [] n climbs h = h
 below_start slots (s ∷ route) n climbs h = (below_unset slots s.pattern s.number n climbs.0 (below_start (with_number slots s.pattern s.number) route n climbs.2 h)).0
 

@@ -21,6 +21,8 @@
 -- - which conjuncts are decided is the same for all numbers of a row (`tests_alike`): ScreenLemmas
 -- - a number that an index has not under a look-up's value is not worth a visit (`key_looks`, `text_looks`), and those that
 --   are left of the index have all that are (`left_before`, `left_behind`): LookLemmas
+-- - nodes of which some are without the routes that take a number (`both_thinned`, `thinned_each`), and why the others have
+--   none (`pruned_quiet`, `pruned_barred`): ThinLemmas
 -- - a fact of each item of a list, by membership (`all_in`, `all_members`): FirstLemmas
 pub mod Examples
 pub mod SlotsLemmas
@@ -42,6 +44,7 @@ pub mod LeafLemmas
 pub mod KeyLemmas
 pub mod LookLemmas
 pub mod CountLemmas
+pub mod ThinLemmas
 pub mod OpenLemmas
 pub mod SkipLemmas
 pub mod RootLemmas

@@ -1,5 +1,5 @@
 -- Numbers of a row that are looked up in an index.
-use Rattle.std.proofs.Common.{◌≡◌, ◌⊎◌, ◌∙◌, inl, inr, ℕ, ℤ, zero, suc, ◌+◌, ◌<◌, ◌≤◌, List, [], ◌∷◌, map, length, get_or, set, Bool, true, false, cond, Option, Some, None, slice_get, refl, sym, ap, subst, arith}
+use Rattle.std.proofs.Common.{◌≡◌, ◌⊎◌, ◌∙◌, inl, inr, ℕ, ℤ, zero, suc, ◌+◌, ◌<◌, ◌≤◌, List, [], ◌∷◌, map, length, set, Bool, true, false, cond, Option, Some, None, slice_get, refl, sym, ap, subst, arith}
 use Rattle.std.specs.Prelude.{slice_index, ◌&&◌, ◌==◌, IfSome, pos}
 use Rattle.std.specs.List.{filter, list_all, AllByRecursion}
 use Rattle.std.specs.Ordering.{int_eq}
@@ -16,7 +16,7 @@ use Rattle.guard_bound.specs.Bound.{int_at, meets}
 use Rattle.guard_bound.specs.Same.{is_same, words_at}
 use Rattle.guard_bound.specs.declared.same.Same.{Same}
 use Rattle.value_index.specs.declared.field.IndexedField.{IndexedField}
-use Rattle.value_index.specs.Index.{Index, Has, entry}
+use Rattle.value_index.specs.Index.{Index, entry}
 use Rattle.value_index.specs.SameValue.{Ascend}
 use Rattle.value_index.proofs.EntryLemmas.{in_or_not}
 use Rattle.value_index.specs.Values.{text_value, value_at}
@@ -26,7 +26,7 @@ use Rattle.match_tree.specs.Offers.{Offered, is_free, may_take, takers}
 use Rattle.match_tree.specs.Offering.{AreIndexed}
 use Rattle.match_tree.specs.Order.{Rise}
 use Rattle.match_tree.specs.Screen.{AreOffered, AreTests, AreWorthless, IsOffered, IsOther, IsWorthless, Screens, passes}
-use Rattle.match_tree.specs.Look.{AreLeft, LooksUp, LooksUpAt, may_meet}
+use Rattle.match_tree.specs.Look.{AreLeft, HasLeft, LooksUp, LooksUpAt, may_meet}
 use Rattle.match_tree.specs.declared.look.Look.{Look}
 use Rattle.match_tree.specs.declared.screen.Key.{Key}
 use Rattle.match_tree.specs.declared.screen.Screen.{Screen}
@@ -134,7 +134,7 @@ rise_to numbers i j rise l m = elim (cases_lt i j) [
   | inr same ↦ let is : i ≡ j = omega arith in subst (λ (k : ℕ). slice_index numbers i ≤ slice_index numbers k) is (omega arith)
 ]
 
-node_less : (row : List Branch) (i j : ℕ) → Rise (map (λ node. node.number) row) → i < j → j < length row → (node_at row i).number < (node_at row j).number
+pub node_less : (row : List Branch) (i j : ℕ) → Rise (map (λ node. node.number) row) → i < j → j < length row → (node_at row i).number < (node_at row j).number
 node_less row i j rise l m =
     let numbers : List ℕ = map (λ (node : Branch). node.number) row in
     let count = length-map row (λ (node : Branch). node.number) in
@@ -154,9 +154,9 @@ node_up_to row i j rise l m = elim (cases_lt i j) [
 
 module _ (o : Offered) (slots : Assignment) (q : ℕ) (row : List Branch) (from : ℕ) (rise : Rise (map (λ node. node.number) row)) where
   -- at first those of the index
-  pub left_first : (look : Look) (left : List ℕ) → AreOffered o slots q row from → LooksUp o slots q look → from < length row
+  pub left_first : (look : Look) (left : List ℕ) → AreOffered o slots q row from → LooksUp o slots q look
       → ((number : ℕ) → (node_at row from).number ≤ number → IsIn (entry look.place look.value number) o.index.entries → IsIn number left) → AreLeft o slots q row from left
-  left_first look left offered looks within has i l m =
+  left_first look left offered looks has i l m =
       let number : ℕ = (node_at row i).number in
       elim (in_or_not (entry look.place look.value number) o.index.entries) [
         | inl there ↦ inr (has number (node_up_to row from i rise l m) there)
@@ -237,3 +237,17 @@ pub numbers_set : (row : List Branch) (i : ℕ) (node : Branch) → node.number 
 numbers_set [] i node e = refl
 numbers_set (n ∷ row) zero node e = λ i. e i ∷ map (λ x. x.number) row
 numbers_set (n ∷ row) (suc i) node e = λ j. n.number ∷ numbers_set row i node e j
+
+-- what is left of a look-up has the numbers of the row as it is then
+pub left_alike : (o : Offered) (slots : Assignment) (q : ℕ) (before now : List Branch) (from : ℕ) → map (λ node. node.number) now ≡ map (λ node. node.number) before → (left : Option (List ℕ)) → IfSome left (HasLeft o slots q before from)
+    → IfSome left (HasLeft o slots q now from)
+left_alike o slots q before now from same None h = tt
+left_alike o slots q before now from same (Some xs) h = record { ascend = h.ascend; has = λ i l m. subst (λ (n : ℕ). IsWorthless o slots q n ⊎ IsIn n xs) (number i) (h.has i l (omega (arith, m, long))) }
+  where
+    long : length now ≡ length before
+    long = sym (length-map now (λ (node : Branch). node.number)) ∙ ap (λ (ns : List ℕ). length ns) same ∙ length-map before (λ (node : Branch). node.number)
+
+    number : (i : ℕ) → (node_at before i).number ≡ (node_at now i).number
+    number i =
+        let numbers : List ℕ = map (λ (node : Branch). node.number) before in
+        sym (number_there before numbers i refl) ∙ number_there now numbers i (sym same)

@@ -10,6 +10,7 @@ use Rattle.pattern_core.specs.Members.{IsIn}
 use Rattle.pattern_core.specs.Window.{SeesLatest, oldest_seen}
 use Rattle.pattern_core.proofs.MembersLemmas.{IsIn-append_cases, IsIn-map_from, IsIn-filter_from, IsIn-flat_map_from}
 use Rattle.value_index.specs.Index.{no_index}
+use Rattle.join_base.proofs.EachLemmas.{each_filter}
 use Rattle.match_tree.specs.Routes.{with_number}
 use Rattle.match_tree.specs.Offers.{Offered, places, may_take, takers, leaves_one_free, growing}
 use Rattle.match_tree.specs.Below.{AreBelow}
@@ -83,6 +84,13 @@ left_can t after letters n p q within can left same = all_members (CanOffer (off
     one x m =
         let first = (IsIn-filter_from p x (filter q t.paths) (subst (λ xs. IsIn x xs) left m)).0 in
         can_next t after letters n x same within (all_in (CanOffer (offer_to t letters n)) t.paths x can (IsIn-filter_from q x t.paths first).0)
+
+-- the paths that are still seen
+pub fewer_can : (t u : Tree) (letters : List Message) (n : ℕ) (q : Assignment → Bool) → u.definition ≡ t.definition → u.rule ≡ t.rule → u.paths ≡ filter q t.paths → AllByRecursion (CanOffer (offer_to t letters n)) t.paths → AllByRecursion (CanOffer (offer_to u letters n)) u.paths
+fewer_can t u letters n q definition rule paths can =
+    let same : offer_to t letters n ≡ offer_to u letters n = λ i. record { letters = letters; index = no_index; definition = sym definition i; rule = sym rule i; number = n; oldest = oldest_seen (sym definition i).window n } in
+    let P : Offered × List Assignment → Type 0 = λ x. AllByRecursion (CanOffer x.0) x.1 in
+    subst P (λ i. (same i, sym paths i)) (each_filter (CanOffer (offer_to t letters n)) q t.paths can)
 
 pub sees_itself : (window : Option ℕ) (n : ℕ) → SeesLatest window → 1 ≤ n → oldest_seen window n ≤ n
 sees_itself None n sees some = some

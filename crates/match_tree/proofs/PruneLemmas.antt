@@ -15,9 +15,13 @@ use Rattle.std.proofs.lemmas.List.Elements.{filter-append}
 use Rattle.match_tree.specs.Routes.{Route, Step, Branch, step, node_routes, row_routes, rows_routes, lacks}
 use Rattle.join_base.specs.Taken.{contains_number}
 use Rattle.match_tree.specs.Order.{AreOrdered, Rise, IsOrderedNode}
-use Rattle.match_tree.specs.Pruned.{AreShort, pruned, without_number, without_numbers}
+use Rattle.match_tree.specs.Pruned.{AreRising, AreShort, NodesRise, RiseFrom, pruned, without_number, without_numbers}
 use Rattle.match_tree.proofs.TakeLemmas.{filter_both}
 use Rattle.guard_eval.proofs.ReadyLemmas.{all_left, all_right}
+use Rattle.guard_eval.specs.Meaning.{Assignment}
+use Rattle.match_tree.specs.Routes.{with_number}
+use Rattle.match_tree.specs.Below.{AreBelow, AreOpen, Climbs}
+use Rattle.match_tree.proofs.LeadLemmas.{below_unset}
 use Rattle.match_tree.proofs.OrderLemmas.{later_numbers}
 pub use Rattle.join_base.proofs.EachLemmas.{each_filter as all_filtered}
 
@@ -92,7 +96,7 @@ place_missing row n i rise within parted =
 eq_back : (a b : ℕ) → (a == b) ≡ (b == a)
 eq_back a b = grind (arith, nat_tests)
 
-one_of_more : (ns : List ℕ) (n m : ℕ) → contains_number (ns ++ n ∷ []) m ≡ (contains_number ns m || (m == n))
+pub one_of_more : (ns : List ℕ) (n m : ℕ) → contains_number (ns ++ n ∷ []) m ≡ (contains_number ns m || (m == n))
 one_of_more [] n m = or_false (m == n)
   where
     or_false : (b : Bool) → (b || false) ≡ b
@@ -245,3 +249,70 @@ all_drop_from P p (row ∷ rows) (suc i) h =
 
 pub all_rows_drop : (P : Route → Type 0) (rows : List (List Branch)) (i : ℕ) → AllByRecursion P (rows_routes 0 rows) → AllByRecursion P (rows_routes i (drop i rows))
 all_rows_drop P rows i h = let same : 0 + i ≡ i = omega arith in subst (λ (k : ℕ). AllByRecursion P (rows_routes k (drop i rows))) same (all_drop_from P 0 rows i h)
+
+-- ---- routes whose numbers rise
+
+pub rising_behind : (n : ℕ) (routes : List Route) → RiseFrom n routes → AreRising routes
+rising_behind n [] h = tt
+rising_behind n (r ∷ routes) h = (h.0.1, rising_behind n routes h.1)
+
+mapped_rising : (s : Step) (routes : List Route) → AreRising (map (λ r. s ∷ r) routes) → RiseFrom s.number routes
+mapped_rising s [] h = tt
+mapped_rising s (r ∷ routes) h = (h.0, mapped_rising s routes h.1)
+
+pub rising_below : (q : ℕ) (row : List Branch) → AreRising (row_routes q row) → NodesRise row
+rising_below q [] h = tt
+rising_below q (node ∷ row) h =
+    let P : Route → Type 0 = λ r. Rise (map (λ s. s.number) r) in
+    (mapped_rising (step q node.number) node.routes (all_left P (node_routes q node) (row_routes q row) h).1, rising_below q row (all_right P (node_routes q node) (row_routes q row) h))
+
+rising_step : (p q n : ℕ) (routes : List Route) → AreRising (map (λ r. step p n ∷ r) routes) → AreRising (map (λ r. step q n ∷ r) routes)
+rising_step p q n [] h = tt
+rising_step p q n (r ∷ routes) h = (h.0, rising_step p q n routes h.1)
+
+-- whatever the pattern of the row
+pub rising_row : (p q : ℕ) (row : List Branch) → AreRising (row_routes p row) → AreRising (row_routes q row)
+rising_row p q [] h = tt
+rising_row p q (node ∷ row) h =
+    let P : Route → Type 0 = λ r. Rise (map (λ s. s.number) r) in
+    all_both P (node_routes q node) (row_routes q row) (rising_step p q node.number ([] ∷ node.routes) (all_left P (node_routes p node) (row_routes p row) h))
+    (rising_row p q row (all_right P (node_routes p node) (row_routes p row) h))
+
+-- a route that climbs rises, also from a number that all above its path are greater than
+climbs_from : (slots : Assignment) (n : ℕ) (route : Route) → ((m : ℕ) → AreBelow m slots → n < m) → Climbs slots route → Rise (n ∷ map (λ s. s.number) route)
+climbs_from slots n [] above climbs = (tt, tt)
+climbs_from slots n (s ∷ route) above climbs =
+    let first = above s.number climbs.1 in
+    let behind = climbs_from (with_number slots s.pattern s.number) s.number route (λ m b. (below_unset slots s.pattern s.number m climbs.0 b).1) climbs.2 in
+    ((first, later s.number (map (λ x. x.number) route) first behind.0), behind)
+  where
+    later : (k : ℕ) (ks : List ℕ) → n < k → AllByRecursion (λ m. k < m) ks → AllByRecursion (λ m. n < m) ks
+    later k [] l h = tt
+    later k (x ∷ ks) l h = (let more = h.0 in omega arith, later k ks l h.1)
+
+pub climbs_rise : (slots : Assignment) (route : Route) → Climbs slots route → Rise (map (λ s. s.number) route)
+climbs_rise slots [] climbs = tt
+climbs_rise slots (s ∷ route) climbs = climbs_from (with_number slots s.pattern s.number) s.number route (λ m b. (below_unset slots s.pattern s.number m climbs.0 b).1) climbs.2
+
+pub rising_open : (slots : Assignment) (routes : List Route) → AreOpen slots routes → AreRising routes
+rising_open slots [] h = tt
+rising_open slots (r ∷ routes) h = (climbs_rise slots r h.0.climbs, rising_open slots routes h.1)
+
+-- numbers that are not greater than a node's are not behind it
+contains_none : (ns : List ℕ) (m s : ℕ) → AllByRecursion (λ n. n ≤ m) ns → m < s → contains_number ns s ≡ false
+contains_none [] m s h l = refl
+contains_none (n ∷ ns) m s h l =
+    let less = h.0 in
+    let e : (s == n) ≡ false = grind (arith, nat_tests) in
+    λ i. e i || contains_none ns m s h.1 l i
+
+lacks_up_to : (ns : List ℕ) (m : ℕ) (route : Route) → AllByRecursion (λ n. n ≤ m) ns → AllByRecursion (λ k. m < k) (map (λ s. s.number) route) → lacks ns route ≡ true
+lacks_up_to ns m [] h l = refl
+lacks_up_to ns m (s ∷ route) h l = (λ i. not (contains_none ns m s.number h l.0 i) && lacks ns route) ∙ lacks_up_to ns m route h l.1
+
+pub pruned_up_to : (ns : List ℕ) (node : Branch) → AllByRecursion (λ n. n ≤ node.number) ns → RiseFrom node.number node.routes → node ≡ pruned ns node
+pruned_up_to ns node h rising = λ i. record { number = node.number; routes = sym (kept node.routes rising) i }
+  where
+    kept : (routes : List Route) → RiseFrom node.number routes → filter (lacks ns) routes ≡ routes
+    kept [] r = refl
+    kept (x ∷ routes) r = λ i. cond (lacks_up_to ns node.number x h r.0.0 i) (x ∷ kept routes r.1 i) (kept routes r.1 i)

@@ -18,3 +18,4 @@ pub mod Pruned
 pub mod Kept
 pub mod Screen
 pub mod Look
+pub mod Thinned

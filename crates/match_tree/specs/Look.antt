@@ -6,6 +6,7 @@ use Rattle.pattern_core.specs.Members.{IsIn}
 use Rattle.guard_bound.specs.Bound.{meets}
 use Rattle.guard_bound.specs.Same.{is_same}
 use Rattle.value_index.specs.Index.{Index, entry}
+use Rattle.value_index.specs.SameValue.{Ascend}
 use Rattle.match_tree.specs.declared.look.Look.{Look}
 use Rattle.match_tree.specs.declared.screen.Screen.{Screen}
 use Rattle.match_tree.specs.Routes.{Branch, with_number}
@@ -33,3 +34,8 @@ may_meet o (Some screen) number = list_all (λ bound. meets o.letters bound numb
 -- from the place on, a number that is worth a visit is among those that are left
 abbrev pub AreLeft : Offered → Assignment → ℕ → List Branch → ℕ → List ℕ → Type 0
 AreLeft o slots pattern row from left = (i : ℕ) → from ≤ i → i < length row → IsWorthless o slots pattern (node_at row i).number ⊎ IsIn (node_at row i).number left
+
+-- the numbers that are left rise, and have each from the place on that is worth a visit
+pub record HasLeft (o : Offered) (slots : Assignment) (pattern : ℕ) (row : List Branch) (from : ℕ) (left : List ℕ) : Type 0 where
+  pub ascend : Ascend left
+  pub has : AreLeft o slots pattern row from left

@@ -1,12 +1,24 @@
 -- What is left of nodes where some numbers are taken out.
-use Rattle.std.specs.Prelude.{ℕ, ◌≤◌, List, length, not, ◌==◌, nat_le}
+use Rattle.std.specs.Prelude.{ℕ, ◌≤◌, List, ◌∷◌, length, map, not, ◌==◌, nat_le}
 use Rattle.std.specs.List.{filter, AllByRecursion}
 use Rattle.match_tree.specs.Routes.{Route, Branch, lacks}
+use Rattle.match_tree.specs.Order.{Rise}
 use Rattle.join_base.specs.Taken.{contains_number}
 
 -- no route has more steps
 abbrev pub AreShort : ℕ → List Route → Type 0
 AreShort most routes = AllByRecursion (λ route. length route ≤ most) routes
+
+-- each number of a route is greater than those before it
+abbrev pub AreRising : List Route → Type 0
+AreRising routes = AllByRecursion (λ route. Rise (map (λ s. s.number) route)) routes
+
+-- and greater than this one
+abbrev pub RiseFrom : ℕ → List Route → Type 0
+RiseFrom number routes = AllByRecursion (λ route. Rise (number ∷ map (λ s. s.number) route)) routes
+
+abbrev pub NodesRise : List Branch → Type 0
+NodesRise row = AllByRecursion (λ node. RiseFrom node.number node.routes) row
 
 -- the node without the routes that take one of the numbers
 abbrev pub pruned : List ℕ → Branch → Branch

@@ -17,10 +17,13 @@
 //! `reserve_for` gets an index of the messages' values, which has the numbers of the paths. Where it knows the field of
 //! an equality, a row of at least 8 numbers is looked up there (`look`): the numbers of the value, each then found in the
 //! row. Each of them that is gone through counts, unless it ends the search, and there are never more than places passed.
+//! `prune` looks a number up in the same way (`by_value`): it stands behind a node of a first row only where it could be
+//! taken there, so that other nodes need no walk.
 //!
 //! Tests show the calls of one arrival one behind the other: rows, and small scripts against a plain listing.
 #![tactic(auto)]
 
+mod by_value;
 mod expire;
 mod look;
 mod node;

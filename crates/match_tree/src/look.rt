@@ -2,12 +2,15 @@
 ghost use Rattle.std.specs.Prelude.{◌≡◌, ◌+◌, ◌≤◌, ◌<◌, ◌&&◌, ℕ, length, map, slice_get, slice_index, Some, None, true, false, nat_le, not, ◌==◌, IfSome};
 ghost use Rattle.std.specs.List.{filter};
 ghost use Rattle.std.specs.Ordering.{int_eq};
+ghost use Rattle.pattern_core.specs.Members.{IsIn};
+ghost use Rattle.value_index.specs.Index.{entry};
+ghost use Rattle.value_index.specs.SameValue.{Ascend};
 ghost use Rattle.match_tree.specs.Offers.{takers};
 ghost use Rattle.match_tree.specs.Offering.{CanOffer, offered};
 ghost use Rattle.match_tree.specs.Order.{Rise};
 ghost use Rattle.match_tree.specs.RowNumbers.{numbers_in};
 ghost use Rattle.match_tree.specs.Rows.{node_at};
-ghost use Rattle.match_tree.specs.Look.{LooksUp, LooksUpAt, may_meet};
+ghost use Rattle.match_tree.specs.Look.{HasLeft, LooksUp, LooksUpAt, may_meet};
 ghost use Rattle.match_tree.specs.Routes.{with_number};
 ghost use Rattle.match_tree.specs.Screen.{AreOffered, AreTests, AreWorthless, IsWorthless, Screens};
 
@@ -18,7 +21,7 @@ use crate::screen::{Screen, passes_screen, screen_of};
 use guard_bound::{is_same, meets_all};
 use join_base::{Numbers, Slots, Steps};
 use std::sync::ledger::Ledger;
-use value_index::{IndexedField, value_at};
+use value_index::{IndexedField, SameValue, ValueIndex, value_at};
 
 /// The place of a field in the index, and the value that a number of the row has to have there.
 #[derive(Clone, Copy, PartialEq, Eq, Debug)]
@@ -27,8 +30,8 @@ pub struct Look {
     pub value: i64,
 }
 
-// A row of fewer numbers is gone through.
-const FEWEST: usize = 8;
+/// A row of fewer numbers is gone through.
+pub const FEWEST: usize = 8;
 
 // The look-up by the screen's key.
 fn by_key(
@@ -99,8 +102,8 @@ fn look_by(offer: &Offer<'_>, slots: &Slots, pattern: u32, screen: &Screen) -> O
     by_text(offer, slots, pattern, kind, screen)
 }
 
-// The look-up for one of several wanted patterns of a row with so many numbers.
-fn look_at(
+/// The look-up for one of several wanted patterns of a row with so many numbers.
+pub fn look_at(
     offer: &Offer<'_>,
     slots: &Slots,
     pattern: u32,
@@ -178,9 +181,9 @@ fn common_look(
     Some(look)
 }
 
-/// How the numbers of a row with so many are looked up: by the key of its screen, or by its text, where the index knows
-/// that field. Where several patterns are wanted, each of them has to ask for the same value.
-pub fn look_of(
+// How the numbers of a row with so many are looked up: by the key of its screen, or by its text, where the index knows
+// that field. Where several patterns are wanted, each of them has to ask for the same value.
+fn look_of(
     offer: &Offer<'_>,
     slots: &Slots,
     pattern: u32,
@@ -193,13 +196,45 @@ pub fn look_of(
     requires screen { IfSome screen.now (Screens (offered offer.now) slots.now pattern (filter (λ p. not (p == pattern)) (takers (offered offer.now) slots.now))) }
     ensures { IfSome result (LooksUp (offered offer.now) slots.now pattern) }
 {
-    if numbers < FEWEST {
-        return None;
-    }
     match screen {
         None => common_look(offer, slots, pattern, wanted, numbers),
         Some(screen) => look_by(offer, slots, pattern, screen),
     }
+}
+
+/// The numbers of the index from this one on that have the value.
+pub fn numbers_at<'a>(index: &'a ValueIndex, look: Look, from: u32) -> SameValue<'a>
+    ensures ascend { Ascend result }
+    ensures has { (number : ℕ) → from ≤ number → IsIn (entry look.place look.value number) index.now.entries → IsIn number result }
+{
+    index.numbers_from(look.place, look.value, from)
+}
+
+/// The numbers of the index by which a row is looked up, if it is: those of the value that the key of its screen asks
+/// for, or its text, where the index knows that field. Where several patterns are wanted, each of them has to ask for the
+/// same value. A row of fewer than 8 numbers is gone through.
+pub fn looked_up<'a>(
+    offer: &Offer<'a>,
+    slots: &Slots,
+    pattern: u32,
+    wanted: &Numbers,
+    screen: &Option<Screen>,
+    row: &Row,
+) -> Option<SameValue<'a>>
+    requires can { CanOffer (offered offer.now) slots.now }
+    requires wanted { wanted.now ≡ filter (λ p. not (p == pattern)) (takers (offered offer.now) slots.now) }
+    requires screen { IfSome screen.now (Screens (offered offer.now) slots.now pattern (filter (λ p. not (p == pattern)) (takers (offered offer.now) slots.now))) }
+    requires rise { Rise (map (λ node. node.number) row.now) }
+    requires offered { AreOffered (offered offer.now) slots.now pattern row.now 0 }
+    ensures { IfSome result (HasLeft (offered offer.now) slots.now pattern row.now 0) }
+{
+    let numbers = row.len();
+    if numbers < FEWEST {
+        return None;
+    }
+    let look = look_of(offer, slots, pattern, wanted, screen, numbers)?;
+    let first = row.number_at(0);
+    Some(numbers_at(offer.index, look, first))
 }
 
 // The first place from this one on whose number is at least so great.
@@ -305,36 +340,35 @@ fn looks_worth<L: Ledger>(
     false
 }
 
-/// The first place from this one on whose number is worth a visit, or the row's end, where the numbers are looked up. Each
-/// number that is looked at and passed over counts a step. There are at most as many as places before the answer, also
-/// where the index has numbers that do not stand in the row.
+/// The first place from this one on whose number is worth a visit, or the row's end, by the numbers that are left of the
+/// index. Each number that is looked at and passed over counts a step. There are at most as many as places before the
+/// answer, also where the index has numbers that do not stand in the row.
 pub fn next_looked<L: Ledger>(
     offer: &Offer<'_>,
     slots: &Slots,
     pattern: u32,
     screen: &Option<Screen>,
-    look: Look,
+    left: &mut SameValue<'_>,
     row: &Row,
     from: usize,
     steps: &mut Steps<L>,
 ) -> usize
     requires rise { Rise (map (λ node. node.number) row.now) }
     requires offered { AreOffered (offered offer.now) slots.now pattern row.now from }
-    requires looks { LooksUp (offered offer.now) slots.now pattern look }
+    requires left { HasLeft (offered offer.now) slots.now pattern row.now from left.old }
     requires screen { IfSome screen.now (Screens (offered offer.now) slots.now pattern (filter (λ p. not (p == pattern)) (takers (offered offer.now) slots.now))) }
     requires within { from ≤ length row.now }
     ensures from { from ≤ result }
     ensures within { result ≤ length row.now }
     ensures seen { result < length row.now → nat_le offer.now.oldest (node_at row.now result).number ≡ true }
     ensures skipped { AreWorthless (offered offer.now) slots.now pattern row.now from result }
+    ensures left { result < length row.now → HasLeft (offered offer.now) slots.now pattern row.now (result + 1) left.new }
     ensures counted { steps.new + from ≤ steps.old + result }
 {
     let end = row.len();
     if from >= end {
         return end;
     }
-    let first = row.number_at(from);
-    let mut left = offer.index.numbers_from(look.place, look.value, first);
     let mut place = from;
     let mut looked = from;
     while let Some(number) = left.next() {

@@ -1,9 +1,9 @@
 //! Leaving nodes out, and counting them.
-ghost use Rattle.std.specs.Prelude.{◌≡◌, ◌+◌, ◌^◌, ◌<◌, ◌≤◌, ℕ, length, map};
+ghost use Rattle.std.specs.Prelude.{◌≡◌, ◌+◌, ◌^◌, ◌<◌, ◌≤◌, ℕ, length, map, true};
 ghost use Rattle.std.specs.List.{filter, remove, AllByRecursion};
 ghost use Rattle.match_tree.specs.Routes.{rows_routes, row_routes, lacks};
 ghost use Rattle.match_tree.specs.Order.{IsOrderedNode, IsSoundRow, AreSound};
-ghost use Rattle.match_tree.specs.Pruned.{AreShort, pruned, without_number, without_numbers};
+ghost use Rattle.match_tree.specs.Pruned.{AreRising, AreShort, NodesRise, RiseFrom, pruned, without_number, without_numbers};
 
 use crate::node::{Node, Shape};
 use crate::row::{Nodes, Row};
@@ -125,8 +125,8 @@ fn remove_number(row: &mut Row, number: u32, levels: usize) -> u64
     }
 }
 
-// Takes the nodes with the numbers out of a row. The answer is how many routes went with them.
-fn remove_numbers(row: &mut Row, numbers: &Numbers, levels: usize) -> u64
+/// Takes the nodes with the numbers out of a row. The answer is how many routes went with them.
+pub fn remove_numbers(row: &mut Row, numbers: &Numbers, levels: usize) -> u64
     requires sound { IsSoundRow row.old }
     requires few { length (row_routes 0 row.old) < 2 ^ 64 }
     requires short { AreShort levels (row_routes 0 row.old) }
@@ -147,6 +147,7 @@ pub fn prune_rows(rows: &mut [Row], numbers: &Numbers, levels: usize) -> u64
     requires few { length (rows_routes 0 rows.old) < 2 ^ 64 }
     requires sound { AreSound rows.old }
     requires short { AreShort levels (rows_routes 0 rows.old) }
+    requires rising { AreRising (rows_routes 0 rows.old) }
     ensures left { rows_routes 0 rows.new ≡ filter (lacks numbers.now) (rows_routes 0 rows.old) }
     ensures gone { result + length (rows_routes 0 rows.new) ≡ length (rows_routes 0 rows.old) }
 {
@@ -162,6 +163,7 @@ fn prune_row(row: &mut Row, numbers: &Numbers, levels: usize) -> u64
     requires few { length (row_routes 0 row.old) < 2 ^ 64 }
     requires sound { IsSoundRow row.old }
     requires short { AreShort levels (row_routes 0 row.old) }
+    requires rising { AreRising (row_routes 0 row.old) }
     ensures left { (pattern : ℕ) → row_routes pattern row.new ≡ filter (lacks numbers.now) (row_routes pattern row.old) }
     ensures gone { result + length (row_routes 0 row.new) ≡ length (row_routes 0 row.old) }
 {
@@ -181,6 +183,7 @@ fn prune_behind(row: &mut Row, numbers: &Numbers, levels: usize) -> u64
     requires few { length (row_routes 0 row.old) < 2 ^ 64 }
     requires ordered { AllByRecursion IsOrderedNode row.old }
     requires short { AllByRecursion (λ node. AreShort levels node.routes) row.old }
+    requires rising { NodesRise row.old }
     ensures left { row.new ≡ map (pruned numbers.now) row.old }
     ensures gone { result + length (row_routes 0 row.new) ≡ length (row_routes 0 row.old) }
 {
@@ -192,11 +195,13 @@ fn prune_behind(row: &mut Row, numbers: &Numbers, levels: usize) -> u64
     }
 }
 
+/// Leaves out the routes that take one of the numbers behind nodes. The answer is how many they were.
 #[cycle(prune)]
-fn prune_nodes(nodes: &mut VecDeque<Node>, numbers: &Numbers, levels: usize) -> u64
+pub fn prune_nodes(nodes: &mut VecDeque<Node>, numbers: &Numbers, levels: usize) -> u64
     requires few { length (row_routes 0 nodes.old.items) < 2 ^ 64 }
     requires ordered { AllByRecursion IsOrderedNode nodes.old.items }
     requires short { AllByRecursion (λ node. AreShort levels node.routes) nodes.old.items }
+    requires rising { NodesRise nodes.old.items }
     ensures left { nodes.new.items ≡ map (pruned numbers.now) nodes.old.items }
     ensures gone { result + length (row_routes 0 nodes.new.items) ≡ length (row_routes 0 nodes.old.items) }
 {
@@ -207,14 +212,31 @@ fn prune_nodes(nodes: &mut VecDeque<Node>, numbers: &Numbers, levels: usize) -> 
     gone
 }
 
+// Whether no number is greater than the limit.
+fn are_up_to(numbers: &Numbers, limit: u32) -> bool
+    ensures { result ≡ true → AllByRecursion (λ n. n ≤ limit) numbers.now }
+{
+    for number in numbers.as_slice() {
+        if *number > limit {
+            return false;
+        }
+    }
+    true
+}
+
+/// The same behind one node. Behind it are greater numbers alone.
 #[cycle(prune)]
-fn prune_node(node: &mut Node, numbers: &Numbers, levels: usize) -> u64
+pub fn prune_node(node: &mut Node, numbers: &Numbers, levels: usize) -> u64
     requires few { length node.old.routes < 2 ^ 64 }
     requires ordered { IsOrderedNode node.old }
     requires short { AreShort levels node.old.routes }
+    requires rising { RiseFrom node.old.number node.old.routes }
     ensures left { node.new ≡ pruned numbers.now node.old }
     ensures gone { result + length node.new.routes ≡ length node.old.routes }
 {
+    if are_up_to(numbers, node.number()) {
+        return 0;
+    }
     match &mut node.shape {
         Shape::Leaf(_) => 0,
         Shape::Inner(_, rows) => prune_rows(rows, numbers, levels),

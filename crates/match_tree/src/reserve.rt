@@ -11,7 +11,7 @@ ghost use Rattle.match_tree.specs.Below.{AreOpen};
 ghost use Rattle.match_tree.specs.Offering.{offered, CanOffer, MayTry, LeadOn};
 ghost use Rattle.match_tree.specs.Order.{AreSound};
 ghost use Rattle.match_tree.specs.Growth.{Lasts, Grows};
-ghost use Rattle.match_tree.specs.Pruned.{AreShort};
+ghost use Rattle.match_tree.specs.Pruned.{AreRising, AreShort};
 ghost use Rattle.match_tree.specs.Tries.{tried, tries_behind};
 
 use crate::offer::{Offer, best_match, takers};
@@ -54,6 +54,7 @@ fn remove_new(rows: &mut Vec<Row>, number: u32, levels: usize, added: u64)
     requires counted { length (rows_routes 0 rows.old.items) < 2 ^ 64 }
     requires added { added ≡ length (filter (λ route. not (lacks (number ∷ []) route)) (rows_routes 0 rows.old.items)) }
     requires short { AreShort levels (rows_routes 0 rows.old.items) }
+    requires rising { AreRising (rows_routes 0 rows.old.items) }
     ensures few { length rows.new.items ≤ 8 }
     ensures sound { AreSound rows.new.items }
     ensures left { rows_routes 0 rows.new.items ≡ filter (lacks (number ∷ [])) (rows_routes 0 rows.old.items) }

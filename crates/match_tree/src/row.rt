@@ -178,8 +178,8 @@ fn place_of_leaf(leaves: &VecDeque<u32>, number: u32) -> Option<usize>
     }
 }
 
-// The place of the node with the number among nodes whose numbers rise.
-fn place_of_node(nodes: &VecDeque<Node>, number: u32) -> Option<usize>
+/// The place of the node with the number among nodes whose numbers rise.
+pub fn place_of_node(nodes: &VecDeque<Node>, number: u32) -> Option<usize>
     requires { Rise (map (λ node. node.number) nodes.now.items) }
     ensures { MatchOption result (AllByRecursion (λ node. node.number ≢ number) nodes.now.items) (λ i. (i < length nodes.now.items) × ((d : _) → (slice_index_or nodes.now.items i d).number ≡ number)) }
 {

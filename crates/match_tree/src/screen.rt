@@ -11,10 +11,10 @@ ghost use Rattle.match_tree.specs.Offering.{offered, CanOffer};
 ghost use Rattle.match_tree.specs.RowNumbers.{numbers_in};
 ghost use Rattle.match_tree.specs.Rows.{node_at};
 ghost use Rattle.match_tree.specs.Order.{Rise};
-ghost use Rattle.match_tree.specs.Look.{LooksUp};
+ghost use Rattle.match_tree.specs.Look.{HasLeft};
 ghost use Rattle.match_tree.specs.Screen.{AreLacking, AreOffered, AreTests, AreWorthless, IsDecidedAt, IsWith, Screens, as_bound, key_of, passes};
 
-use crate::look::{Look, next_looked};
+use crate::look::next_looked;
 use crate::node::Node;
 use crate::offer::Offer;
 use crate::row::Row;
@@ -25,6 +25,7 @@ use guard_eval::{decided, holds};
 use join_base::{Message, Numbers, Relation, Slots, Steps};
 use std::collections::VecDeque;
 use std::sync::ledger::Ledger;
+use value_index::SameValue;
 
 /// The value that a number of the row has to have at a field.
 #[derive(Clone, Copy, PartialEq, Eq, Debug)]
@@ -461,31 +462,33 @@ fn next_scanned<L: Ledger>(
     end
 }
 
-/// The first place from this one on whose number is worth a visit, or the row's end. Each number that is looked at and
-/// passed over counts a step, so that there are at most as many steps as places before it.
+/// The first place from this one on whose number is worth a visit, or the row's end: by the numbers that are left, where
+/// the row is looked up. Each number that is looked at and passed over counts a step, so that there are at most as many
+/// steps as places before it.
 pub fn next_place<L: Ledger>(
     offer: &Offer<'_>,
     slots: &Slots,
     pattern: u32,
     screen: &Option<Screen>,
-    look: Option<Look>,
+    left: &mut Option<SameValue<'_>>,
     row: &Row,
     from: usize,
     steps: &mut Steps<L>,
 ) -> usize
     requires rise { Rise (map (λ node. node.number) row.now) }
     requires offered { AreOffered (offered offer.now) slots.now pattern row.now from }
-    requires looks { IfSome look (LooksUp (offered offer.now) slots.now pattern) }
+    requires left { IfSome left.old (HasLeft (offered offer.now) slots.now pattern row.now from) }
     requires screen { IfSome screen.now (Screens (offered offer.now) slots.now pattern (filter (λ p. not (p == pattern)) (takers (offered offer.now) slots.now))) }
     requires within { from ≤ length row.now }
     ensures from { from ≤ result }
     ensures within { result ≤ length row.now }
     ensures seen { result < length row.now → nat_le offer.now.oldest (node_at row.now result).number ≡ true }
     ensures skipped { AreWorthless (offered offer.now) slots.now pattern row.now from result }
+    ensures left { result < length row.now → IfSome left.new (HasLeft (offered offer.now) slots.now pattern row.now (result + 1)) }
     ensures counted { steps.new + from ≤ steps.old + result }
 {
-    match look {
+    match left {
         None => next_scanned(offer, slots, pattern, screen, row, from, steps),
-        Some(look) => next_looked(offer, slots, pattern, screen, look, row, from, steps),
+        Some(left) => next_looked(offer, slots, pattern, screen, left, row, from, steps),
     }
 }

@@ -6,6 +6,7 @@ ghost use Rattle.pattern_core.specs.Window.{oldest_seen};
 ghost use Rattle.match_tree.specs.Offering.{AreIndexed, CanOffer};
 ghost use Rattle.match_tree.specs.Tries.{tries};
 
+use crate::by_value::prune_values;
 use crate::expire::drop_unseen;
 use crate::offer::Offer;
 use crate::pending::Pending;
@@ -192,13 +193,25 @@ impl MatchTree {
         }
     }
 
-    /// The paths that take none of the numbers stay, and the others go. Nothing may be set aside.
-    pub fn prune(&mut self, numbers: &Numbers)
+    /// The paths that take none of these numbers stay, and the others go. Each number of a path is before this one, and
+    /// the index has it. Nothing may be set aside.
+    pub fn prune(&mut self, letters: &[Message], index: &ValueIndex, number: u32, numbers: &Numbers)
+        requires few { number < 2 ^ 32 - 1 }
         requires settled { self.old.reserve ≡ None }
+        requires can { AllByRecursion (CanOffer (offer_to self.old letters.now number)) self.old.paths }
+        requires indexed { AllByRecursion (AreIndexed index.now letters.now) self.old.paths }
         ensures { self.new ≡ with_paths self.old (filter (is_path_without numbers.now) self.old.paths) None }
     {
         let levels = self.definition.patterns.len() - 1;
-        let gone = prune_rows(&mut self.rows, numbers, levels);
+        let offer = Offer {
+            letters,
+            index,
+            definition: &self.definition,
+            rule: self.rule,
+            number,
+            oldest: oldest_seen(&self.definition, number),
+        };
+        let gone = prune_values(&offer, &mut self.rows, numbers, levels);
         self.count -= gone;
     }
 

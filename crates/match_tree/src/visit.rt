@@ -14,7 +14,7 @@ ghost use Rattle.match_tree.specs.Growth.{Lasts, Grows};
 ghost use Rattle.match_tree.specs.Begins.{AreLess, Begins, IsLess};
 ghost use Rattle.match_tree.specs.Tries.{tries_behind};
 
-use crate::look::look_of;
+use crate::look::looked_up;
 use crate::node::{Node, Shape};
 use crate::offer::{Offer, best_match, contains, growing, takers, without};
 use crate::row::{Nodes, Row};
@@ -374,15 +374,24 @@ fn visit_row<L: Ledger>(
     }
     let end = row.len();
     let screen = screen_of(offer, slots, pattern, wanted, end);
-    let look = look_of(offer, slots, pattern, wanted, &screen, end);
-    let mut place = next_place(offer, slots, pattern, &screen, look, row, 0, steps);
+    let mut left = looked_up(offer, slots, pattern, wanted, &screen, row);
+    let mut place = next_place(offer, slots, pattern, &screen, &mut left, row, 0, steps);
     while place < end {
         let longer = slots.with(pattern, row.number_at(place));
         let found = visit_at(alloc, offer, &longer, wanted, row, place, count, steps)?;
         if found.is_some() {
             return Ok(found);
         }
-        place = next_place(offer, slots, pattern, &screen, look, row, place + 1, steps);
+        place = next_place(
+            offer,
+            slots,
+            pattern,
+            &screen,
+            &mut left,
+            row,
+            place + 1,
+            steps,
+        );
     }
     Ok(None)
 }

@@ -145,7 +145,7 @@ pub fn arrive<L: Ledger>(
         None => tree.extend(number),
         Some(best) => {
             tree.forget();
-            tree.prune(&best.taken);
+            tree.prune(letters, index, number, &best.taken);
         }
     }
     Ok(found)

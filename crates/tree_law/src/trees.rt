@@ -84,13 +84,24 @@ pub fn forget_all(trees: &mut [MatchTree])
     }
 }
 
-/// The paths that take none of the numbers stay, and the others go. Nothing may be set aside.
-pub fn prune_all(trees: &mut [MatchTree], numbers: &Numbers)
+/// The paths that take none of these numbers stay, and the others go. Each number of a path is before this one, and the
+/// index has it. Nothing may be set aside.
+pub fn prune_all(
+    trees: &mut [MatchTree],
+    letters: &[Message],
+    index: &ValueIndex,
+    number: u32,
+    numbers: &Numbers,
+)
+    requires few { number < 2 ^ 32 - 1 }
     requires settled { AreSettled trees.old }
+    requires can { AllByRecursion (CanOfferTo letters.now number) trees.old }
+    requires indexed { AllByRecursion (HasPaths index.now letters.now) trees.old }
+
     ensures { trees.new ≡ map (pruned_tree numbers.now) trees.old }
 {
     for tree in trees.iter_mut() {
-        tree.prune(numbers);
+        tree.prune(letters, index, number, numbers);
     }
 }
 

@@ -1,4 +1,4 @@
-use Rattle.std.proofs.Common.{◌≡◌, ◌∙◌, ◌++◌, ◌∷◌, [], ℕ, List, ap, sym, subst}
+use Rattle.std.proofs.Common.{◌≡◌, ◌∙◌, ◌++◌, ◌∷◌, [], ℕ, List, ap, subst}
 use Rattle.std.specs.Prelude.{IfSome}
 use Rattle.match_tree.specs.Offering.{offered}
 use Rattle.match_tree.specs.Look.{LooksUpAt}

@@ -1,34 +1,24 @@
-use Rattle.std.proofs.Common.{◌≡◌, ◌∙◌, ◌+◌, ◌<◌, ◌≤◌, inr, ℕ, ℤ, true, nat_le, rules, w64, to_z, of_z, length, sym, subst, arith}
-use Rattle.std.proofs.lemmas.Int.{to_z-of_z}
-use Rattle.pattern_core.specs.Members.{IsIn}
-use Rattle.value_index.specs.Index.{entry}
+use Rattle.std.proofs.Common.{◌≡◌, ◌<◌, ◌≤◌, inr, ℕ, true, nat_le, length, sym, subst, arith}
 use Rattle.value_index.specs.SameValue.{Ascend}
 use Rattle.match_tree.specs.Rows.{node_at}
 use Rattle.match_tree.specs.Offering.{offered}
 use Rattle.match_tree.specs.Screen.{AreWorthless, IsOffered, IsWorthless}
 use Rattle.match_tree.proofs.SlotsLemmas.{free_is_none}
 use Rattle.match_tree.proofs.ScreenLemmas.{worthless_on}
-use Rattle.match_tree.proofs.LookLemmas.{fails_meet, left_before, left_behind, left_first, left_more, left_none, worthless_both}
+use Rattle.match_tree.proofs.LookLemmas.{fails_meet, left_before, left_behind, left_more, left_none, worthless_both}
 use Rattle.match_tree.proofs.look.next_looked.Goals as goal
 use Rattle.match_tree.proofs.look.next_looked.Goals.{After-place_in-place, After-number_at-there}
 
 pub loop-number-init : goal.loop-number-init
-loop-number-init g c =
-    let a = c.args in
-    let o = offered a.offer.now in
-    let e = c.numbers_from-left.ensures in
-    let fits : to_z w64 (of_z w64 a.look.value) ≡ a.look.value = search (rules, to_z-of_z) in
-    let has = λ (number : ℕ) (l : (node_at a.row.now a.from).number ≤ number) (m : IsIn (entry a.look.place a.look.value number) o.index.entries).
-    e.has number (subst (λ (n : ℕ). n ≤ number) (sym c.number_at-first.ensures) l) (subst (λ (v : ℤ). IsIn (entry a.look.place v number) o.index.entries) (sym fits) m) in
-    record {
-      from = omega arith;
-      order = omega arith;
-      within = c.requires.within;
-      ascend = e.ascend;
-      worthless = λ i l m. absurd (omega (arith, l, m));
-      left = left_first o a.slots.now a.pattern a.row.now a.from c.requires.rise a.look c.numbers_from-left.result c.requires.offered c.requires.looks (omega (arith, c.if-from-end.false, c.len-end.ensures)) has;
-      counted = omega arith;
-    }
+loop-number-init g c = record {
+  from = omega arith;
+  order = omega arith;
+  within = c.requires.within;
+  ascend = c.requires.left.ascend;
+  worthless = λ i l m. absurd (omega (arith, l, m));
+  left = c.requires.left.has;
+  counted = omega arith;
+}
 
 -- ---- a number that fails the bounds or the text
 
@@ -114,6 +104,7 @@ returns-then-place-end g c =
       within = omega (arith, c.len-end.ensures);
       seen = λ l. absurd (omega (arith, l, c.len-end.ensures));
       skipped = λ i l m. all i l (omega (arith, m, c.if-place-end.true));
+      left = λ l. absurd (omega (arith, l, c.len-end.ensures));
       counted = omega (arith, before.counted, before.order, before.within, c.fails_early.ensures.uncounted c.if-fails_early.false, c.len-end.ensures);
     }
 
@@ -127,6 +118,10 @@ returns-then-looks_worth g c =
       within = e.within;
       seen = λ l. subst (λ (n : ℕ). nat_le a.offer.now.oldest n ≡ true) c.number_at-there.ensures (c.looks_worth.ensures.seen c.if-looks_worth.true);
       skipped = passed g (goal.at.returns-then-looks_worth g c).After-place_in-place;
+      left = λ l. record {
+        ascend = (subst Ascend c.in-Some.ensures before.ascend).1;
+        has = left_behind (offered a.offer.now) a.slots.now a.pattern a.row.now c.loop-number.place c.requires.rise c.in-Some.number c.place_in-place.result c.loop-number.left c.next.new.self c.in-Some.ensures e.from (e.reached l) before.left;
+      };
       counted = omega (arith, before.counted, before.order, e.from, c.fails_early.ensures.uncounted c.if-fails_early.false, c.looks_worth.ensures.uncounted c.if-looks_worth.true);
     }
 
@@ -142,5 +137,6 @@ returns g c =
       within = omega (arith, c.len-end.ensures);
       seen = λ l. absurd (omega (arith, l, c.len-end.ensures));
       skipped = λ i l m. all i l (omega (arith, m, c.len-end.ensures));
+      left = λ l. absurd (omega (arith, l, c.len-end.ensures));
       counted = omega (arith, before.counted, before.order, before.within, c.len-end.ensures);
     }

@@ -1,4 +1,4 @@
-use Rattle.std.proofs.Common.{ℕ, ◌≤◌, ◌+◌, ◌-◌, ◌/◌, arith}
+use Rattle.std.proofs.Common.{ℕ, ◌+◌, ◌-◌, ◌/◌, arith}
 use Rattle.match_tree.specs.RowNumbers.{numbers_in}
 use Rattle.match_tree.proofs.LookLemmas.{rise_to}
 use Rattle.match_tree.proofs.look.place_from.Goals as goal

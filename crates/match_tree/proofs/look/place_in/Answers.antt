@@ -1,4 +1,4 @@
-use Rattle.std.proofs.Common.{◌≡◌, ◌∙◌, ◌<◌, ◌≤◌, ℕ, List, length, map, ap, sym, subst, arith}
+use Rattle.std.proofs.Common.{◌≡◌, ◌∙◌, ◌<◌, ◌≤◌, ℕ, List, length, ap, sym, subst, arith}
 use Rattle.std.proofs.lemmas.List.{length-map}
 use Rattle.match_tree.specs.Routes.{Branch}
 use Rattle.match_tree.specs.RowNumbers.{numbers_in}

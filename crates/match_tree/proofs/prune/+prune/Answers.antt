@@ -14,11 +14,12 @@ use Rattle.match_tree.proofs.LeafLemmas.{leaves_kept}
 use Rattle.match_tree.proofs.FallLemmas.{node_weighs, row_weighs, nodes_fall, rows_fall}
 use Rattle.match_tree.specs.Routes.{Route, Branch, row_routes, rows_routes, lacks}
 use Rattle.match_tree.specs.Order.{AreOrdered, IsOrderedNode, IsSoundRow, AreSound}
-use Rattle.match_tree.specs.Pruned.{AreShort, pruned, without_numbers}
+use Rattle.match_tree.specs.Pruned.{AreRising, AreShort, NodesRise, RiseFrom, pruned, without_numbers}
 use Rattle.match_tree.proofs.OrderLemmas.{rows_sound}
 use Rattle.match_tree.proofs.WalkLemmas.{all_at, left_item, left_more}
 use Rattle.match_tree.proofs.RowsLemmas.{before_routes, now_routes, counts_rows_on}
-use Rattle.match_tree.proofs.PruneLemmas.{row_count, short_below, pruned_row, pruned_leaves, all_filtered, all_rows, short_row}
+use Rattle.match_tree.specs.Order.{Rise}
+use Rattle.match_tree.proofs.PruneLemmas.{row_count, short_below, pruned_row, pruned_leaves, pruned_up_to, all_filtered, all_rows, rising_behind, rising_below, rising_row, short_row}
 use Rattle.match_tree.proofs.CountLemmas.{counts_parts, counts_steps, counts_row}
 use Rattle.match_tree.proofs.prune.+prune.Goals as goal
 use Rattle.match_tree.proofs.prune.+prune.Goals.{prune_behind-in-Empty, prune_behind-in-One, prune_behind-in-Leaves, prune_behind-in-Mixed}
@@ -39,7 +40,10 @@ prune_node-prune_rows-requires t c =
         at (λ xs. length (rows_routes 0 xs) < 2 ^ 64) (omega (arith, c.requires.few)),
         (
           at (λ xs. AreSound xs) (rows_sound 0 rows (subst AreOrdered (sym routes_are) c.requires.ordered.1)),
-          at (λ xs. AreShort a.levels (rows_routes 0 xs)) (subst (AreShort a.levels) (sym routes_are) c.requires.short),
+          (
+            at (λ xs. AreShort a.levels (rows_routes 0 xs)) (subst (AreShort a.levels) (sym routes_are) c.requires.short),
+            at (λ xs. AreRising (rows_routes 0 xs)) (subst AreRising (sym routes_are) (rising_behind a.node.now.number a.node.now.routes c.requires.rising)),
+          ),
         ),
       ),
     )
@@ -63,7 +67,13 @@ prune_nodes-prune_node-gone-requires t c =
       omega (arith, c.decreases, at_most size-Node first i d within, ap size-Node is),
       (
         omega (arith, c.requires.few),
-        (subst IsOrderedNode (sym is) (all_at IsOrderedNode first i d within c.requires.ordered), subst (λ (x : Branch). AreShort a.levels x.routes) (sym is) (all_at (λ (x : Branch). AreShort a.levels x.routes) first i d within c.requires.short)),
+        (
+          subst IsOrderedNode (sym is) (all_at IsOrderedNode first i d within c.requires.ordered),
+          (
+            subst (λ (x : Branch). AreShort a.levels x.routes) (sym is) (all_at (λ (x : Branch). AreShort a.levels x.routes) first i d within c.requires.short),
+            subst (λ (x : Branch). RiseFrom x.number x.routes) (sym is) (all_at (λ (x : Branch). RiseFrom x.number x.routes) first i d within c.requires.rising),
+          ),
+        ),
       ),
     )
 
@@ -113,7 +123,7 @@ prune_behind-prune_nodes-requires t c =
         at (λ xs. length (row_routes 0 xs) < 2 ^ 64) c.requires.few,
         (
           at (λ xs. AllByRecursion IsOrderedNode xs) c.requires.ordered,
-          at (λ xs. AllByRecursion (λ node. AreShort a.levels node.routes) xs) c.requires.short,
+          (at (λ xs. AllByRecursion (λ node. AreShort a.levels node.routes) xs) c.requires.short, at (λ xs. NodesRise xs) c.requires.rising),
         ),
       ),
     )
@@ -139,10 +149,11 @@ prune_row-prune_behind-requires t c =
     let is = c.remove_numbers-gone.ensures.left in
     let keep = all_filtered IsOrderedNode _ row c.requires.sound.ordered in
     let short = all_filtered (λ (x : Branch). AreShort (a.levels - 1) x.routes) _ row (short_below a.levels 0 row c.requires.short) in
+    let rising = all_filtered (λ (x : Branch). RiseFrom x.number x.routes) _ row (rising_below 0 row c.requires.rising) in
     let before = row_weighs row in
     let after = row_weighs c.remove_numbers-gone.new.row in (
       omega (arith, c.decreases, c.remove_numbers-gone.ensures.gone),
-      (omega (arith, c.requires.few, c.remove_numbers-gone.ensures.gone), (subst (λ (xs : List Branch). AllByRecursion IsOrderedNode xs) (sym is) keep, subst (λ (xs : List Branch). AllByRecursion (λ node. AreShort (a.levels - 1) node.routes) xs) (sym is) short)),
+      (omega (arith, c.requires.few, c.remove_numbers-gone.ensures.gone), (subst (λ (xs : List Branch). AllByRecursion IsOrderedNode xs) (sym is) keep, (subst (λ (xs : List Branch). AllByRecursion (λ node. AreShort (a.levels - 1) node.routes) xs) (sym is) short, subst (λ (xs : List Branch). NodesRise xs) (sym is) rising))),
     )
 
 pub prune_row-returns-then-len-eq0 : goal.prune_row-returns-then-len-eq0
@@ -190,12 +201,13 @@ prune_rows-prune_row-gone-requires t c =
     let here = at_most size-Row first i d in_rows in
     let weight = ap size-Row is in
     let short = all_rows (λ (r : Route). length r ≤ a.levels) 0 first i d in_rows c.requires.short in
+    let rising = all_rows (λ (r : Route). Rise (map (λ s. s.number) r)) 0 first i d in_rows c.requires.rising in
     let count = counts_row first i (get_or first i d) in_rows (get_or_default first i d (get_or first i d) in_rows) in
     let length_is = ap (λ (xs : List Branch). length (row_routes 0 xs)) is in (
       omega (arith, c.decreases),
       (
         omega (arith, c.requires.few),
-        (subst (λ (xs : List Branch). IsSoundRow xs) (sym is) (all_at IsSoundRow first i d in_rows c.requires.sound), subst (λ (xs : List Branch). AreShort a.levels (row_routes 0 xs)) (sym is) (short_row a.levels (0 + i) 0 (get_or first i d) short)),
+        (subst (λ (xs : List Branch). IsSoundRow xs) (sym is) (all_at IsSoundRow first i d in_rows c.requires.sound), (subst (λ (xs : List Branch). AreShort a.levels (row_routes 0 xs)) (sym is) (short_row a.levels (0 + i) 0 (get_or first i d) short), subst (λ (xs : List Branch). AreRising (row_routes 0 xs)) (sym is) (rising_row (0 + i) 0 (get_or first i d) rising))),
       ),
     )
 
@@ -241,3 +253,8 @@ prune_rows-loop-row-preserved t c =
       left = drop-set-lt (i + 1) items i now (omega arith) ∙ left_more items first i c.loop-row.invariant.left;
       counted = omega (arith, c.loop-row.invariant.counted, c.prune_row-gone.ensures.gone);
     }
+
+pub prune_node-returns-then-are_up_to-clause-left : goal.prune_node-returns-then-are_up_to-clause-left
+prune_node-returns-then-are_up_to-clause-left t c =
+    let node = c.args.node.now in
+    pruned_up_to c.args.numbers.now node (subst (λ (m : ℕ). AllByRecursion (λ n. n ≤ m) c.args.numbers.now) c.number.ensures (c.are_up_to.ensures c.if-are_up_to.true)) c.requires.rising

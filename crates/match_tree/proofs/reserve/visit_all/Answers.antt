@@ -12,6 +12,7 @@ use Rattle.match_tree.specs.Tries.{tried, tries_behind}
 use Rattle.match_tree.proofs.GrowLemmas.{grows_none}
 use Rattle.match_tree.proofs.LeadLemmas.{lead_lasts}
 use Rattle.match_tree.proofs.RootLemmas.{alone_grows, open_short, root_free, root_takers, tried_empty}
+use Rattle.match_tree.proofs.PruneLemmas.{rising_open}
 use Rattle.match_tree.proofs.ReserveLemmas.{reserve_counts}
 use Rattle.match_tree.proofs.reserve.visit_all.Goals.{After-visit_rows}
 use Rattle.match_tree.proofs.reserve.visit_all.Goals as goal
@@ -103,3 +104,6 @@ remove_new-requires-clause-added g c =
     let e = c.visit_rows.ensures in
     let more = reserve_counts c.args.offer.now.number (rows_routes 0 c.args.rows.now.items) (rows_routes 0 c.visit_rows.new.rows.items) e.lasting in
     omega (arith, e.counted, c.more_than-added.ensures.more)
+
+pub remove_new-requires-clause-rising : goal.remove_new-requires-clause-rising
+remove_new-requires-clause-rising g c = rising_open c.new-slots.result (rows_routes 0 c.visit_rows.new.rows.items) c.visit_rows.ensures.free_left

@@ -1,11 +1,10 @@
-use Rattle.std.proofs.Common.{◌≡◌, ◌∙◌, ◌+◌, ◌≤◌, ◌<◌, ℕ, List, Option, length, map, sym, ap, subst, arith}
-use Rattle.std.specs.Prelude.{slice_index}
+use Rattle.std.proofs.Common.{◌≡◌, ◌∙◌, ◌+◌, ◌≤◌, ◌<◌, ℕ, List, Option, length, sym, ap, subst, arith}
 use Rattle.std.proofs.lemmas.List.{length-map}
 use Rattle.match_tree.specs.Routes.{Branch}
 use Rattle.match_tree.specs.RowNumbers.{numbers_in}
 use Rattle.match_tree.specs.Rows.{node_at}
 use Rattle.match_tree.specs.Offering.{offered}
-use Rattle.match_tree.specs.Screen.{AreLacking, IsOffered, IsWorthless, key_of}
+use Rattle.match_tree.specs.Screen.{AreLacking, IsOffered, IsWorthless}
 use Rattle.match_tree.specs.declared.screen.Key.{Key}
 use Rattle.match_tree.proofs.SlotsLemmas.{free_is_none}
 use Rattle.match_tree.proofs.ScreenLemmas.{worthless_on}

@@ -24,7 +24,7 @@ use Rattle.match_tree.proofs.LeadLemmas.{lead_lasts, lead_row}
 use Rattle.match_tree.proofs.VisitLemmas.{passed_seen, stays_node, matches_node, quiet_row, quiet_least, quiet_grows, tries_further, all_take, nothing_here, nothing_grows}
 use Rattle.match_tree.proofs.WalkLemmas.{some_of, none_of, steps_behind, all_at, left_item, left_more, found_first}
 use Rattle.match_tree.specs.Screen.{Screens}
-use Rattle.match_tree.proofs.LookLemmas.{numbers_set}
+use Rattle.match_tree.proofs.LookLemmas.{left_alike, numbers_set}
 use Rattle.match_tree.proofs.SkipLemmas.{Stopped, Walked, go_on, reach, stop_at, walk_first, walk_to, walked_offers}
 use Rattle.match_tree.proofs.OrderLemmas.{rows_ordered_behind, rows_sound}
 use Rattle.match_tree.proofs.SlotsLemmas.{free_is_none}
@@ -64,17 +64,26 @@ visit_row-next_place-place-requires-clause-rise g t c = c.requires.sound.rise
 pub visit_row-next_place-place-requires-clause-offered : goal.visit_row-next_place-place-requires-clause-offered
 visit_row-next_place-place-requires-clause-offered g t c = walked_offers c.args.row.now c.args.row.now 0 c.requires.lead refl refl
 
+pub visit_row-next_place-place-requires-clause-left : goal.visit_row-next_place-place-requires-clause-left
+visit_row-next_place-place-requires-clause-left g t c = c.looked_up-left.ensures
+
 pub visit_row-next_place-place-requires-clause-screen : goal.visit_row-next_place-place-requires-clause-screen
 visit_row-next_place-place-requires-clause-screen g t c =
     let a = c.args in
     let Is : List ℕ → Type 0 = λ ps. IfSome c.screen_of-screen.result (Screens (offered a.offer.now) a.slots.now a.pattern ps) in
     subst Is c.requires.wanted c.screen_of-screen.ensures
 
-pub visit_row-look_of-look-requires : goal.visit_row-look_of-look-requires
-visit_row-look_of-look-requires g t c =
+pub visit_row-looked_up-left-requires : goal.visit_row-looked_up-left-requires
+visit_row-looked_up-left-requires g t c =
     let a = c.args in
     let Is : List ℕ → Type 0 = λ ps. IfSome c.screen_of-screen.result (Screens (offered a.offer.now) a.slots.now a.pattern ps) in
-    record { can = c.requires.can; wanted = c.requires.wanted; screen = subst Is c.requires.wanted c.screen_of-screen.ensures }
+    record {
+      can = c.requires.can;
+      wanted = c.requires.wanted;
+      screen = subst Is c.requires.wanted c.screen_of-screen.ensures;
+      rise = c.requires.sound.rise;
+      offered = walked_offers a.row.now a.row.now 0 c.requires.lead refl refl;
+    }
 
 pub visit_row-loop-place-init : goal.visit_row-loop-place-init
 visit_row-loop-place-init g t c =
@@ -88,6 +97,7 @@ visit_row-loop-place-init g t c =
       walked = walk_to o a.slots.now a.pattern row row a.count.now a.count.now a.steps.now c.requires.sound c.requires.lead c.requires.free_left wanted a.steps.now steps 0 c.next_place-place.result e.from e.within e.counted e.skipped (walk_first o a.slots.now a.pattern row a.count.now a.steps.now);
       seen = e.seen;
       numbers = refl;
+      left = e.left;
     }
 
 pub visit_row-with-longer-requires : goal.visit_row-with-longer-requires
@@ -307,6 +317,16 @@ visit_row-next_place-place-requires-in-loop-place-clause-rise g t c =
     let at = (goal.at.visit_row-next_place-place-requires-in-loop-place-clause-rise g t c).After-visit_at in
     subst Rise (sym (numbers_now g t at)) c.requires.sound.rise
 
+pub visit_row-next_place-place-requires-in-loop-place-clause-left : goal.visit_row-next_place-place-requires-in-loop-place-clause-left
+visit_row-next_place-place-requires-in-loop-place-clause-left g t c =
+    let a = c.args in
+    let i : ℕ = c.loop-place.place in
+    let before = c.loop-place.invariant in
+    let within : i < length c.loop-place.row = omega (arith, c.loop-place-test.true, c.len-end.ensures, before.walked.long) in
+    let e = c.visit_at.ensures in
+    let same = ap (λ (xs : List Branch). map (λ (node : Branch). node.number) xs) e.placed ∙ numbers_set c.loop-place.row i (node_at c.visit_at.new.row i) e.number in
+    left_alike (offered a.offer.now) a.slots.now a.pattern c.loop-place.row c.visit_at.new.row (i + 1) same c.loop-place.left (before.left within)
+
 pub visit_row-loop-place-preserved : goal.visit_row-loop-place-preserved
 visit_row-loop-place-preserved g t c =
     let a = c.args in
@@ -335,6 +355,7 @@ visit_row-loop-place-preserved g t c =
       walked = walk_to o a.slots.now a.pattern a.row.now c.visit_at.new.row a.count.now c.visit_at.new.count a.steps.now c.requires.sound c.requires.lead c.requires.free_left wanted c.visit_at.new.steps steps (i + 1) c.next_place-place-in-loop-place.result p.from (omega (arith, p.within, on.long)) p.counted p.skipped on;
       seen = p.seen;
       numbers = numbers_now g t (goal.at.visit_row-loop-place-preserved g t c).After-visit_at;
+      left = p.left;
     }
 
 pub visit_each-best_match-best-requires-clause-may : goal.visit_each-best_match-best-requires-clause-may

@@ -5,6 +5,8 @@ use Rattle.match_tree.specs.Routes.{rows_routes}
 use Rattle.match_tree.specs.Rows.{node_at}
 use Rattle.match_tree.specs.Offers.{seen, new_matches}
 use Rattle.match_tree.specs.Below.{AreOpen}
+use Rattle.std.specs.Prelude.{IfSome}
+use Rattle.match_tree.specs.Look.{HasLeft}
 use Rattle.match_tree.specs.Offering.{offered}
 use Rattle.match_tree.specs.Order.{AreSound}
 use Rattle.match_tree.specs.Growth.{Lasts, Grows}
@@ -30,12 +32,14 @@ decreases-visit_at g l = 4 * size-Node (node_at l.row.now l.place) + 1
 abbrev pub decreases-visit_node : goal.decreases-visit_node
 decreases-visit_node g l = 4 * goal.size-visit_node g l
 
--- the nodes so far were passed without a match, the others are as they were, and the definition sees the next
+-- the nodes so far were passed without a match, the others are as they were, and the definition sees the next; what is left of a
+-- look-up has the numbers behind that
 abbrev pub invariant-visit_row-loop-place : goal.invariant-visit_row-loop-place
 invariant-visit_row-loop-place g l = record {
   walked : Walked (offered l.offer) l.slots l.pattern l.initial.row l.row l.initial.count l.count l.fn.steps l.steps l.place;
   seen : l.place < length l.row → nat_le l.offer.oldest (node_at l.row l.place).number ≡ true;
   numbers : map (λ node. node.number) l.row ≡ map (λ node. node.number) l.initial.row;
+  left : l.place < length l.row → IfSome l.left (HasLeft (offered l.offer) l.slots l.pattern l.row (l.place + 1));
 }
 
 -- the rows so far were visited, and the others are as they were

@@ -4,12 +4,12 @@ use Rattle.guard_eval.specs.Meaning.{Assignment}
 use Rattle.match_tree.specs.Offering.{CanOffer}
 use Rattle.match_tree.specs.Tree.{Tree, Reserve, offer_to, is_path_seen, is_path_without, IsReserved}
 use Rattle.pattern_core.specs.Window.{oldest_seen}
-use Rattle.match_tree.proofs.NextLemmas.{kept_can, left_can, both_gains}
+use Rattle.match_tree.proofs.NextLemmas.{both_gains, fewer_can, kept_can, left_can}
 use Rattle.matching_tests.specs.Tried.{GrowsBy}
 use Rattle.matching_tests.proofs.IndexLemmas.{all_indexed}
 use Rattle.matching_tests.proofs.TriedLemmas.{kept_grows, left_grows}
 use Rattle.matching_tests.proofs.trees.arrive.Goals as goal
-use Rattle.matching_tests.proofs.trees.arrive.Goals.{in-None, in-Some}
+use Rattle.matching_tests.proofs.trees.arrive.Goals.{After-forget, in-None, in-Some}
 
 pub returns-clause-can : goal.returns-clause-can
 returns-clause-can g c =
@@ -64,3 +64,21 @@ returns-clause-grows g c =
 
 pub reserve_for-requires-clause-indexed : goal.reserve_for-requires-clause-indexed
 reserve_for-requires-clause-indexed g c = all_indexed c.args.index.now c.args.letters.now c.args.tree.now c.args.number c.requires.indexed c.requires.can
+
+-- the paths that are left may be offered the number as well
+left_offered : (g : _) (c : After-forget g) → AllByRecursion (CanOffer (offer_to c.forget.new.self c.args.letters.now c.args.number)) c.forget.new.self.paths
+left_offered g c =
+    let t : Tree = c.args.tree.now in
+    let n : ℕ = c.args.number in
+    let q : Assignment → Bool = is_path_seen (oldest_seen c.reserve_for.new.self.definition.window n) in
+    let paths = ap (λ (u : Tree). u.paths) c.forget.ensures ∙ ap (λ (u : Tree). u.paths) c.expire.ensures ∙ ap (filter q) c.in_ok-reserve_for.ensures.paths in
+    let definition = ap (λ (u : Tree). u.definition) c.forget.ensures ∙ ap (λ (u : Tree). u.definition) c.expire.ensures ∙ c.in_ok-reserve_for.ensures.definition in
+    let rule = ap (λ (u : Tree). u.rule) c.forget.ensures ∙ ap (λ (u : Tree). u.rule) c.expire.ensures ∙ c.in_ok-reserve_for.ensures.rule in
+    fewer_can t c.forget.new.self c.args.letters.now n q definition rule paths c.requires.can
+
+pub prune-requires-clause-can : goal.prune-requires-clause-can
+prune-requires-clause-can g c = left_offered g (goal.at.prune-requires-clause-can g c).After-forget
+
+pub prune-requires-clause-indexed : goal.prune-requires-clause-indexed
+prune-requires-clause-indexed g c =
+    all_indexed c.args.index.now c.args.letters.now c.forget.new.self c.args.number c.requires.indexed (left_offered g (goal.at.prune-requires-clause-indexed g c).After-forget)

@@ -1,13 +1,13 @@
 use Rattle.std.proofs.Common.{true, false, ◌≡◌, ◌∙◌, ◌+◌, ◌<◌, ◌≤◌, ◌++◌, ◌∷◌, [], ℕ, List, Option, Some, None, map, drop, length, length-append, vec_capacity, refl, ap, sym, subst, arith}
 use Rattle.std.specs.List.{AllByRecursion}
 use Rattle.std.specs.List.Sorted.{IsStrictlyIncreasing}
-use Rattle.std.proofs.lemmas.List.{length-map, take_at}
+use Rattle.std.proofs.lemmas.List.{length-map, map-append, take_at}
 use Rattle.std.specs.Prelude.{All, if◌then◌else◌}
 use Rattle.std.specs.Vec.{with_items}
 use Rattle.join_base.specs.declared.message.Message.{Message}
 use Rattle.join_base.specs.declared.message.Source.{Source}
 use Rattle.join_base.specs.declared.message.Stamped.{Stamped}
-use Rattle.mailbox_core.specs.Mail.{IsRecorded, Mail, Received, latest, letters_of, with_arrival, without_last}
+use Rattle.mailbox_core.specs.Mail.{IsRecorded, Mail, Received, latest, letters_of, next_arrival, with_arrival, without_last}
 use Rattle.fair_semantics.specs.declared.run.Entry.{Entry}
 use Rattle.match_tree.specs.Tree.{Tree}
 use Rattle.pattern_core.specs.Suits as recorded_in
@@ -32,6 +32,7 @@ use Rattle.actor_turn.proofs.ToldLemmas.{MayFire}
 use Rattle.actor_turn.specs.Parts.{Keeps, fired_at, history_in, state_of}
 use Rattle.actor_turn.proofs.ArriveLemmas.{IsDone, can_record, fires_done, have, keeps_done, may_fire, recorded_all, rest_is, stamp_same, steps_few, taken_in, takes_newest}
 use Rattle.actor_turn.proofs.HeldLemmas.{none_waits, partial_held}
+use Rattle.actor_turn.proofs.OfferedLemmas.{unsettled_can, unsettled_paths}
 use Rattle.actor_turn.proofs.HistoryLemmas.{history_more, same_arrivals}
 use Rattle.actor_turn.proofs.IndexLemmas.{each_recorded, fired_index, kept_index, paths_indexed, tried}
 use Rattle.actor_turn.proofs.PostsLemmas.{fired_posts, unfired_posts}
@@ -349,6 +350,46 @@ fire-requires-clause-reserved g c =
     let long : length offered ≡ a.trees.len = omega (arith, c.record.auto.trees, c.deref_mut.ensures.len) in
     let again = take_at offered (drop (length offered) a.trees.items) a.trees.len long in
     subst (λ (ts : List Tree). AllByRecursion (HasReserve c.in_ok-number.number) ts) (sym (c.deref_mut-2.ensures.value ∙ again)) (reserved g (goal.at.fire-requires-clause-reserved g c).In_ok-number)
+
+-- the messages as they are recorded
+letters_now : (g : _) (c : In_ok-number g) → letters_of c.self.inside.mail.mail.arrivals ++ c.args.message ∷ [] ≡ letters_of c.record.new.mail.mail.arrivals
+letters_now g c =
+    let arrivals = c.self.inside.mail.mail.arrivals in
+    sym (map-append (λ (r : Received). r.message) arrivals (next_arrival arrivals c.args.source c.args.message c.args.stamp ∷ [])) ∙ ap (λ (m : Mail). letters_of m.arrivals) (sym c.in_ok-number.ensures.recorded)
+
+pub fire-requires-clause-can : goal.fire-requires-clause-can
+fire-requires-clause-can g c =
+    let a = c.self.inside in
+    let i = c.self.invariant in
+    let takes = not_refused a _ c.args.message c.args.stamp c.self.view_is c.requires.taken in
+    let e = c.in_ok-number.ensures in
+    let offered : List Tree = c.record.new.trees in
+    let long : length offered ≡ a.trees.len = omega (arith, c.record.auto.trees, c.deref_mut.ensures.len) in
+    let again = take_at offered (drop (length offered) a.trees.items) a.trees.len long in
+    let before : List Message = letters_of a.mail.mail.arrivals ++ c.args.message ∷ [] in
+    let number : ℕ = length a.mail.mail.arrivals + 1 in
+    let can = can_record (length a.outboxes.items) (setting_in a) a.mail.mail a.firings.items a.ending a.trees.items i.told i.rest c.args.source c.args.message c.args.stamp takes in
+    let there = unsettled_can before number offered (subst (λ (ts : List Tree). AllByRecursion (CanOfferTo before number) ts) (sym (e.same ∙ c.deref_mut.ensures.value)) can) in
+    let letters = letters_now g (goal.at.fire-requires-clause-can g c).In_ok-number in
+    let trees : offered ≡ c.deref_mut-2.result.now = sym (c.deref_mut-2.ensures.value ∙ again) in
+    let P : List Message × ℕ × List Tree → Type 0 = λ x. AllByRecursion (CanOfferTo x.0 x.1) x.2 in
+    subst P (λ j. (letters j, sym e.number j, trees j)) there
+
+pub fire-requires-clause-indexed : goal.fire-requires-clause-indexed
+fire-requires-clause-indexed g c =
+    let a = c.self.inside in
+    let i = c.self.invariant in
+    let e = c.in_ok-number.ensures in
+    let offered : List Tree = c.record.new.trees in
+    let long : length offered ≡ a.trees.len = omega (arith, c.record.auto.trees, c.deref_mut.ensures.len) in
+    let again = take_at offered (drop (length offered) a.trees.items) a.trees.len long in
+    let before : List Message = letters_of a.mail.mail.arrivals ++ c.args.message ∷ [] in
+    let indexed = paths_indexed (setting_in a) a.mail.mail a.firings.items a.ending a.trees.items i.rest a.index i.indexed c.args.source c.args.message c.args.stamp in
+    let there = unsettled_paths a.index before offered (subst (λ (ts : List Tree). AllByRecursion (HasPaths a.index before) ts) (sym (e.same ∙ c.deref_mut.ensures.value)) indexed) in
+    let letters = letters_now g (goal.at.fire-requires-clause-indexed g c).In_ok-number in
+    let trees : offered ≡ c.deref_mut-2.result.now = sym (c.deref_mut-2.ensures.value ∙ again) in
+    let P : List Message × List Tree → Type 0 = λ x. AllByRecursion (HasPaths a.index x.0) x.1 in
+    subst P (λ j. (letters j, trees j)) there
 
 -- the firing took the numbers of the match, and they leave the index
 pub remove_taken-requires : goal.remove_taken-requires

@@ -6,6 +6,9 @@ use Rattle.match_tree.specs.declared.pending.Pending.{Pending}
 use Rattle.match_tree.specs.Routes.{Route, Branch, rows_routes, lacks}
 use Rattle.match_tree.specs.Kept.{IsKept, tree_of}
 use Rattle.match_tree.proofs.KeptLemmas.{kept_short, kept_aside, kept_fewer, forgotten, none_added}
+use Rattle.match_tree.specs.Pruned.{AreRising}
+use Rattle.match_tree.specs.Tree.{empty_of}
+use Rattle.match_tree.proofs.PruneLemmas.{rising_open}
 use Rattle.match_tree.proofs.tree.MatchTree.forget.Goals as goal
 
 pub prune_rows-requires-clause-few : goal.prune_rows-requires-clause-few
@@ -62,3 +65,8 @@ returns-else-pending-gt0 c =
     let routes = rows_routes 0 s.rows.items in
     let left = none_added s.definition s.rows.items s.count s.pending x c.self.invariant taken (omega (arith, c.if-pending-gt0.false)) in
     ap (λ (q : Option Pending). tree_of s.definition s.rule q routes) c.take.ensures.after ∙ forgotten s.definition s.rule s.pending x routes routes c.args.self.now c.self.view_is taken left
+
+pub prune_rows-requires-clause-rising : goal.prune_rows-requires-clause-rising
+prune_rows-requires-clause-rising c =
+    let s = c.self.inside in
+    subst (λ (xs : List (List Branch)). AreRising (rows_routes 0 xs)) (sym c.deref_mut.ensures.value) (rising_open (empty_of s.definition) (rows_routes 0 s.rows.items) c.self.invariant.free_left)

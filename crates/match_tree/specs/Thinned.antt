@@ -1,0 +1,42 @@
+-- Nodes of a row of which some are without the routes that take a number.
+use Rattle.std.specs.Prelude.{◌≡◌, ◌⊎◌, ℕ, ◌<◌, List, length, true, false}
+use Rattle.std.specs.List.{AllByRecursion}
+use Rattle.join_base.specs.declared.message.Message.{Message}
+use Rattle.guard_eval.specs.Meaning.{Assignment}
+use Rattle.pattern_core.specs.declared.definition.Definition.{Definition}
+use Rattle.pattern_core.specs.Matches.{is_agreeable}
+use Rattle.pattern_core.specs.Suits.{SlotsSuit}
+use Rattle.value_index.specs.Index.{Index}
+use Rattle.match_tree.specs.Routes.{Route, Branch, filled, node_routes, with_number}
+use Rattle.match_tree.specs.Rows.{node_at}
+use Rattle.match_tree.specs.Below.{Climbs}
+use Rattle.match_tree.specs.Offers.{Offered, may_take}
+use Rattle.match_tree.specs.Offering.{AreIndexed}
+use Rattle.match_tree.specs.Pruned.{pruned}
+
+-- the route climbs from the path, suits the messages, is agreeable, and the index has its numbers
+pub record GoesOn (letters : List Message) (index : Index) (definition : Definition) (slots : Assignment) (route : Route) : Type 0 where
+  pub climbs : Climbs slots route
+  pub suits : SlotsSuit letters definition.patterns (filled slots route)
+  pub agreeable : is_agreeable letters definition.conjuncts (filled slots route) ≡ true
+  pub indexed : AreIndexed index letters (filled slots route)
+
+abbrev pub GoOn : Offered → Assignment → List Route → Type 0
+GoOn o slots routes = AllByRecursion (GoesOn o.letters o.index o.definition slots) routes
+
+-- the routes by each node of a pattern's row do
+abbrev pub NodesGoOn : Offered → Assignment → ℕ → List Branch → Type 0
+NodesGoOn o slots pattern row = AllByRecursion (λ node. GoOn o slots (node_routes pattern node)) row
+
+-- each node is without the routes that take one of the numbers, or it is as it was, and then the rest is true of its number
+pub record IsThinned (numbers : List ℕ) (Rest : ℕ → Type 0) (before now : List Branch) : Type 0 where
+  pub long : length now ≡ length before
+  pub each : (i : ℕ) → i < length before → (node_at now i ≡ pruned numbers (node_at before i)) ⊎ ((node_at now i ≡ node_at before i) × Rest (node_at before i).number)
+
+-- behind a lesser number of the pattern the other one may not take the offered number
+abbrev pub IsBarred : Offered → Assignment → ℕ → ℕ → ℕ → Type 0
+IsBarred o slots pattern other number = number < o.number → may_take o (with_number slots pattern number) other ≡ false
+
+-- no pattern may take the offered number beside the others
+abbrev pub IsQuiet : Offered → Assignment → Type 0
+IsQuiet o slots = (pattern : ℕ) → may_take o slots pattern ≡ false
