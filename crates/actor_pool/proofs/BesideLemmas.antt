@@ -1,13 +1,20 @@
 -- What is kept of actors fits what was seen of them, later too.
-use Rattle.std.proofs.Common.{◌≡◌, ◌≢◌, ℕ, zero, suc, List, [], ◌∷◌, refl, sym, ap, ◌∙◌, subst, inl, inr}
+use Rattle.std.proofs.Common.{◌≡◌, ◌≢◌, ℕ, zero, suc, ◌+◌, List, [], ◌∷◌, ◌++◌, length, length-append, refl, sym, ap, ◌∙◌, subst, inl, inr, arith}
 use Rattle.std.specs.Prelude.{◌⊎◌, Some, slice_get}
 use mathlib.Core.List.{IsPrefix}
 use mathlib.Core.Logic.{dite}
 use mathlib.Core.Option.{some, some-injective, some-ne-none}
 use native.Mathlib.Decide.{ℕ_discrete}
 use lib.ListN.{get_elem?}
-use Rattle.fair_semantics.specs.Linked.{given_by}
-use Rattle.fair_semantics.specs.Step.{Setting}
+use Rattle.std.proofs.lemmas.List.{append-nil, nil_from_length}
+use Rattle.fair_semantics.specs.declared.run.Entry.{Entry}
+use Rattle.fair_semantics.specs.Fair.{Sent, after_all}
+use Rattle.fair_semantics.specs.Linked.{arrived, given_by, rests_by}
+use Rattle.fair_semantics.proofs.ChainLemmas.{adds}
+use Rattle.fair_semantics.proofs.FairLemmas.{after_all-append}
+use Rattle.fair_semantics.proofs.TakenLemmas.{ended, taken_count, taken_or_fewer}
+use Rattle.run_order.proofs.ArrivalLemmas.{length-arrived}
+use Rattle.fair_semantics.specs.Step.{Setting, State, opening}
 use Rattle.turn_lock.specs.View.{HasSeenAll, seen_of}
 use Rattle.turn_lock.specs.Steps.{Gets, GivesBack}
 use Rattle.actor_cells.specs.declared.cell.Cell.{Cell}
@@ -21,7 +28,7 @@ use Rattle.actor_pool.specs.declared.turning.TurnFault.{TurnFault}
 use Rattle.actor_pool.specs.declared.turning.TurnFault.TheVariants.{Busy, NoMemory}
 use Rattle.actor_pool.specs.Helpers.{SeatView, GoesOn, seat_of}
 use Rattle.actor_pool.specs.Turning.{TakesTurn, Faulted, FaultedBeside}
-use Rattle.actor_pool.specs.Beside.{Fitting, FitsOpening, FitsSeen, IsReached, KeepsOthers, setting_in}
+use Rattle.actor_pool.specs.Beside.{Fitting, FitsOpening, FitsSeen, IsReached, KeepsOthers, ShowsHistory, setting_in}
 use Rattle.actor_pool.proofs.HelperLemmas.{turn-went}
 
 -- the law of what stands beside
@@ -39,6 +46,34 @@ same-tag x y e = cc
 -- what a lawful cell holds is reached by fair steps
 pub lawful-reached : (c : Cell) → IsLawful c → IsReached (rules_in c) (state_in c)
 lawful-reached c lawful = (feeds_in c, actors_in c, given_by (rules_in c).sorts (all_sources c) (came c) (entries_in c), lawful.fair)
+
+-- where as many were recorded as the first messages are, these are they
+rest-alone : (setting : Setting) (state : State) (front rest : List Sent) → length (after_all setting state (front ++ rest)).entries ≡ length state.entries + length front → (after_all setting state (front ++ rest)).entries ≡ (after_all setting state front).entries
+rest-alone setting state front rest count =
+    elim (taken_or_fewer setting front state) [
+      | inl taken ↦
+          let a = adds setting rest (after_all setting state front) in
+          let whole : (after_all setting state (front ++ rest)).entries ≡ (after_all setting state front).entries ++ a.new = ap (λ (x : State). x.entries) (after_all-append setting state front rest) ∙ a.entries_are in
+          let own = taken_count setting front state taken in
+          let sum : length ((after_all setting state front).entries ++ a.new) ≡ length (after_all setting state front).entries + length a.new = length-append (after_all setting state front).entries a.new in
+          let size : length (after_all setting state (front ++ rest)).entries ≡ length ((after_all setting state front).entries ++ a.new) = ap length whole in
+          let none : a.new ≡ [] = nil_from_length a.new (omega arith) in
+          whole ∙ ap (λ (es : List Entry). (after_all setting state front).entries ++ es) none ∙ append-nil (after_all setting state front).entries
+      | inr fewer ↦
+          ap (λ (x : State). x.entries) (after_all-append setting state front rest) ∙ (ended setting rest (after_all setting state front) fewer.0).entries
+    ]
+
+-- a lawful cell has the entries that its history makes
+pub lawful-shows : (c : Cell) → IsLawful c → ShowsHistory (rules_in c) (state_in c) (history_of c)
+lawful-shows c lawful =
+    let start : State = opening (feeds_in c) (actors_in c) in
+    let front : List Sent = arrived (came c) (entries_in c) in
+    let rest : List Sent = rests_by (rules_in c).sorts (all_sources c) (came c) (entries_in c) in
+    let whole : state_in c ≡ after_all (rules_in c) start (front ++ rest) = lawful.fair in
+    let size : length (entries_in c) ≡ length (after_all (rules_in c) start (front ++ rest)).entries = ap (λ (s : State). length s.entries) whole in
+    let all : length front ≡ length (entries_in c) = length-arrived (came c) [] (entries_in c) in
+    let count : length (after_all (rules_in c) start (front ++ rest)).entries ≡ 0 + length front = omega arith in
+    (feeds_in c, actors_in c, ap (λ (s : State). s.entries) whole ∙ rest-alone (rules_in c) start front rest count ∙ ap (λ (h : List Sent). (after_all (rules_in c) start h).entries) (sym lawful.history))
 
 -- a turn that was given back without memory: for a message, or for what stands beside
 pub turn-faulted : (W : Type 0) (i : ℕ) (v w : SeatView) (c d : Cell) → TakesTurn i c d v w → IsRefusing d ⊎ W → FaultedBeside W i NoMemory v w

@@ -20,6 +20,10 @@ setting_in tag = record { sorts = tag.sorts; rules = tag.rules; limits = tag.lim
 abbrev pub IsReached : Setting → State → Type 0
 IsReached setting state = (feeds : ℕ) × (actors : ℕ) × (sent : List Sent) × (state ≡ after_all setting (opening feeds actors) sent)
 
+-- the state of an actor has the entries that fair steps make of its history
+abbrev pub ShowsHistory : Setting → State → History → Type 0
+ShowsHistory setting state history = (feeds : ℕ) × (actors : ℕ) × (state.entries ≡ (after_all setting (opening feeds actors) history).entries)
+
 -- when what is kept of an actor fits what arrived at it, by what it was told
 abbrev pub Fitting : Type 0 → Type 1
 Fitting B = B → ℕ → Setting → History → Type 0

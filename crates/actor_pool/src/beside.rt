@@ -4,7 +4,7 @@ ghost use mathlib.Core.List.{IsPrefix};
 ghost use Rattle.join_base.specs.Outside.{Rose};
 ghost use Rattle.fair_semantics.specs.Step.{Setting};
 ghost use Rattle.actor_cells.specs.History.{History};
-ghost use Rattle.actor_pool.specs.Beside.{IsReached, KeepsOthers};
+ghost use Rattle.actor_pool.specs.Beside.{IsReached, KeepsOthers, ShowsHistory};
 
 use actor_turn::Actor;
 use join_base::NoMemory;
@@ -24,11 +24,12 @@ pub trait Beside<R> {
     // What is so where it may want memory: nothing is, where it never does.
     ghost wants: { Type 0 };
 
-    /// Takes what it keeps from the state of an actor, which is one that fair steps reach. What it keeps of the other
-    /// actors stays.
+    /// Takes what it keeps from the state of an actor, which is one that fair steps reach. Its entries are those that its
+    /// history makes. What it keeps of the other actors stays.
     fn seen(&mut self, rt: &R, alloc: Global, actor: u32, state: &Actor) -> Result<(), NoMemory>
         requires below { actor < 32 }
         requires reached { IsReached state.now.setting state.now.state }
+        requires shows { ShowsHistory state.now.setting state.now.state state.now.history }
         requires fits { fits self.old actor state.now.setting state.now.history }
         ensures fits { fits self.new actor state.now.setting state.now.history }
         ensures others { KeepsOthers fits self.old self.new actor }

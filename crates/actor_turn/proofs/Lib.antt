@@ -7,6 +7,7 @@
 -- - the index has each number that is not consumed, from step to step (`kept_has`, `fired_has`): IndexLemmas
 -- - what a mailbox records is what the fair step records: PartsLemmas
 -- - the history has the message that was taken (`history_more`), and else stays (`history_same`): HistoryLemmas
+-- - what is told of one arrival: EntryLemmas
 -- - one fair step by the trees: SteadyLemmas
 -- - trees with a reserve by those without; steps by the partial matches (`tries_counted`): OfferedLemmas
 -- - from well typed rules to guards that may be tested and bodies that can run (`choice_may`): ToldLemmas
@@ -14,6 +15,7 @@
 -- - the posts of a body that can run: few, each for an actor that exists: BodiesLemmas
 pub mod ArriveLemmas
 pub mod BodiesLemmas
+pub mod EntryLemmas
 pub mod FitLemmas
 pub mod HeldLemmas
 pub mod HistoryLemmas

@@ -1,5 +1,5 @@
 -- What an actor holds between two arrivals.
-use Rattle.std.specs.Prelude.{ℕ, ◌+◌, List, [], ◌∷◌, ◌++◌, Bool, true, false, not, ◌&&◌, if◌then◌else◌, Option, None, Some, drop, length, replicate, slice_set, slice_index_or}
+use Rattle.std.specs.Prelude.{ℕ, ◌+◌, ◌≤◌, List, [], ◌∷◌, ◌++◌, Bool, true, false, not, ◌&&◌, if◌then◌else◌, Option, None, Some, drop, length, replicate, slice_set, slice_index_or}
 use Rattle.std.specs.List.{flat_map}
 use Rattle.join_base.specs.declared.message.Message.{Message}
 use Rattle.join_base.specs.declared.message.Source.{Source}
@@ -9,11 +9,12 @@ use Rattle.match_tree.specs.Tree.{Tree, empty_of}
 use Rattle.tree_law.specs.Trees.{tries_from}
 use Rattle.script_types.specs.declared.plan.Plan.{Plan}
 use Rattle.script_types.specs.declared.plan.Rule.{Rule}
+use Rattle.fair_semantics.specs.declared.run.Effect.{Effect}
 use Rattle.fair_semantics.specs.declared.run.Entry.{Entry}
 use Rattle.fair_semantics.specs.declared.run.Limits.{Limits}
 use Rattle.fair_semantics.specs.Fair.{Sent, setting_of}
 use Rattle.fair_semantics.specs.Fits.{IsFrom1To}
-use Rattle.fair_semantics.specs.Linked.{entry_posts}
+use Rattle.fair_semantics.specs.Linked.{entry_posts, firing_effects}
 use Rattle.fair_semantics.specs.Step.{Setting, State, letters_of, definitions_of, opening, is_running, is_refused}
 
 -- what was recorded, in order: each message with its source and the stamp that it carried
@@ -96,3 +97,16 @@ as_sent source message stamp = (source, record { message = message; stamp = stam
 -- the history with a message behind it, if the actor takes that
 abbrev pub history_with : Held → Source → Message → ℕ → History
 history_with held source message stamp = if is_taken held.setting held.state message stamp then held.history ++ as_sent source message stamp ∷ [] else held.history
+
+-- ---- arrivals
+
+-- there is an arrival of this number
+abbrev pub IsArrival : State → ℕ → Type 0
+IsArrival state number = (1 ≤ number) × (number ≤ length state.entries)
+
+abbrev pub entry_source : Entry → Source
+entry_source entry = entry.source
+
+-- what the body that fired at an arrival did
+abbrev pub entry_effects : Entry → List Effect
+entry_effects entry = firing_effects entry.firing

@@ -1,5 +1,5 @@
 //! One actor.
-ghost use Rattle.std.specs.Prelude.{◌≡◌, ◌+◌, ◌<◌, ◌≤◌, ℕ, length, map, false, true, IfErr, IfOk, IfSome, OnErr, OnOk, slice_index_or};
+ghost use Rattle.std.specs.Prelude.{◌≡◌, ◌+◌, ◌-◌, ◌<◌, ◌≤◌, ℕ, length, map, false, true, IfErr, IfOk, IfSome, OnErr, OnOk, Some, option_map, slice_get, slice_index_or};
 ghost use Rattle.std.specs.List.{AllByRecursion};
 ghost use Rattle.std.specs.List.Sorted.{IsStrictlyIncreasing};
 ghost use Rattle.join_base.specs.Late.{HasCount};
@@ -10,7 +10,7 @@ ghost use Rattle.fair_semantics.specs.Step.{fair_step, is_running};
 ghost use Rattle.fair_semantics.specs.Fair.{partials_of, run_of, setting_of};
 ghost use Rattle.fair_semantics.specs.Fits.{RuleFits};
 ghost use Rattle.actor_turn.specs.Rest.{HoldsPartialMatches, NoMatchWaits};
-ghost use Rattle.actor_turn.specs.Held.{AreLimits, first_of, history_with, is_taken, new_actor, new_entries, posts_behind, posts_for, tries_for, with_first, without_first};
+ghost use Rattle.actor_turn.specs.Held.{AreLimits, IsArrival, entry_effects, entry_source, first_of, history_with, is_taken, new_actor, new_entries, posts_behind, posts_for, tries_for, with_first, without_first};
 
 use crate::fit::fits;
 use crate::indexed::{empty_ended, index_of, remove_taken};
@@ -20,7 +20,7 @@ use crate::refused::Refused;
 use crate::run::{into_entries, reserve_entry};
 use crate::step::{fire, give_up, keep, record, spend};
 use crate::texts::rule_texts;
-use fair_semantics::{ActorRun, Ending, Entry, Fired, Limits, Outcome};
+use fair_semantics::{ActorRun, Effect, Ending, Entry, Fired, Limits, Outcome};
 use join_base::{Items, Message, NoMemory, Sort, Source, Stamped, Steps};
 use mailbox_core::Mailbox;
 use match_tree::MatchTree;
@@ -335,6 +335,25 @@ impl Actor {
         ensures fired { result.now ≡ map (λ entry. entry.firing) self.now.state.entries }
     {
         self.firings.as_slice()
+    }
+
+    /// The source of an arrival.
+    pub fn source_of(&self, number: u32) -> Source
+        requires recorded { IsArrival self.now.state number }
+        ensures source { option_map entry_source (slice_get self.now.state.entries (number - 1)) ≡ Some result }
+    {
+        self.mail.source_of(number)
+    }
+
+    /// What the body that fired at an arrival did, in order. It is empty where the arrival fired nothing.
+    pub fn effects_of(&self, number: u32) -> &[Effect]
+        requires recorded { IsArrival self.now.state number }
+        ensures effects { option_map entry_effects (slice_get self.now.state.entries (number - 1)) ≡ Some result.now }
+    {
+        match self.firings()[(number - 1) as usize].get() {
+            None => &[],
+            Some(firing) => firing.effects.as_slice(),
+        }
     }
 
     /// Takes the first of the posts that wait for an actor of the plan, which may be brought back. `None` exactly where

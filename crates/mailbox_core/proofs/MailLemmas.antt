@@ -1,8 +1,9 @@
 -- Letters with their marks, as arrivals.
-use Rattle.std.proofs.Common.{◌≡◌, ◌∙◌, ℕ, zero, suc, ◌+◌, ◌-◌, ◌≤◌, List, [], ◌∷◌, ◌++◌, length, Option, None, Some, slice_get, max, take, length-append, refl, ap, sym, arith}
+use Rattle.std.proofs.Common.{◌≡◌, ◌∙◌, ℕ, zero, suc, ◌+◌, ◌-◌, ◌≤◌, ◌<◌, get_or, List, [], ◌∷◌, ◌++◌, length, Option, None, Some, slice_get, max, take, length-append, refl, ap, sym, arith}
 use Rattle.std.proofs.Math.Seq.{take-append_seam}
 use Rattle.std.proofs.lemmas.List.{length-take}
 use Rattle.std.specs.Prelude.{All}
+use Rattle.std.specs.Option.{option_map}
 use Rattle.std.specs.List.{AllByRecursion}
 use Rattle.std.specs.List.Sorted.{IsStrictlyIncreasing}
 use Rattle.join_base.specs.Stamps.{greatest_stamp}
@@ -11,7 +12,7 @@ use Rattle.join_base.specs.declared.message.Source.{Source}
 use Rattle.mailbox_core.specs.declared.mailbox.Mark.{Mark}
 use Rattle.mailbox_core.specs.Inside.{last_stamp}
 use Rattle.join_base.specs.Late.{Late}
-use Rattle.mailbox_core.specs.Mail.{IsSound, Mail, Received, latest, latest_from, letters_of, marks_of, next_arrival, received_of, with_arrival, without_last}
+use Rattle.mailbox_core.specs.Mail.{IsSound, Mail, Received, latest, latest_from, letters_of, marks_of, next_arrival, received_of, source_in, with_arrival, without_last}
 
 abbrev pub arrival_of : Message → Mark → Received
 arrival_of message mark = record { source = mark.source; message = message; stamp = mark.stamp; came = mark.came }
@@ -125,3 +126,10 @@ is_sound letters marks live count late marked numbered few small recorded ascend
       ascending = ascending;
       small = small_received letters marks small;
     }
+
+-- the source of an arrival is that of its mark
+pub source_there : (letters : List Message) (marks : List Mark) (place : ℕ) (mark : Mark) → length marks ≡ length letters → place < length marks → mark ≡ get_or marks place mark → option_map source_in (slice_get (received_of letters marks) place) ≡ Some mark.source
+source_there [] marks place mark e l at = absurd (omega arith)
+source_there (x ∷ letters) [] place mark e l at = absurd (omega arith)
+source_there (x ∷ letters) (m ∷ marks) zero mark e l at = ap (λ (k : Mark). Some k.source) (sym at)
+source_there (x ∷ letters) (m ∷ marks) (suc place) mark e l at = source_there letters marks place mark (omega arith) (omega arith) at

@@ -30,6 +30,9 @@ pub record Held : Type 0 where
 abbrev pub no_mail : ℕ → ℕ → Mail
 no_mail feeds actors = record { arrivals = []; live = []; late = record { feeds = replicate feeds 0; actors = replicate actors 0 } }
 
+abbrev pub source_in : Received → Source
+source_in arrival = arrival.source
+
 abbrev pub letters_of : List Received → List Message
 letters_of arrivals = map (λ arrival. arrival.message) arrivals
 

@@ -1,10 +1,10 @@
 //! A mailbox: the recorded arrivals, the unconsumed numbers and the late counts.
-ghost use Rattle.std.specs.Prelude.{◌≡◌, ◌+◌, ◌<◌, ◌≤◌, ◌∷◌, [], ◌++◌, true, All, IfOk, OnOk, length};
+ghost use Rattle.std.specs.Prelude.{◌≡◌, ◌+◌, ◌<◌, ◌≤◌, ◌∷◌, [], ◌++◌, ◌-◌, true, All, IfOk, OnOk, Some, length, option_map, slice_get};
 ghost use Rattle.join_base.specs.Stamps.{greatest_stamp};
 ghost use Rattle.join_base.specs.Late.{HasCount, late_count, late_counts, late_more};
 ghost use Rattle.join_base.specs.Taken.{contains_number, without};
 ghost use Rattle.mailbox_core.specs.Inside.{last_stamp};
-ghost use Rattle.mailbox_core.specs.Mail.{IsRecorded, IsSound, latest, letters_of, marks_of, no_mail, with_arrival, with_late, with_live, without_last};
+ghost use Rattle.mailbox_core.specs.Mail.{IsRecorded, IsSound, latest, letters_of, marks_of, no_mail, source_in, with_arrival, with_late, with_live, without_last};
 
 use crate::late::LateCounts;
 use crate::live::LiveNumbers;
@@ -152,6 +152,14 @@ impl Mailbox {
     {
         self.live.law();
         self.letters.as_slice()
+    }
+
+    /// The source of an arrival.
+    pub fn source_of(&self, number: u32) -> Source
+        requires recorded { IsRecorded self.now.mail.arrivals number }
+        ensures source { option_map source_in (slice_get self.now.mail.arrivals (number - 1)) ≡ Some result }
+    {
+        self.marks[(number - 1) as usize].source
     }
 
     /// Whether there is an arrival of this number and it is unconsumed.
