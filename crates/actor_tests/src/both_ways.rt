@@ -5,13 +5,14 @@ ghost use Rattle.fair_semantics.specs.Fits.{IsFrom1To};
 ghost use Rattle.actor_turn.specs.Held.{AreLimits};
 
 use crate::cases::{Case, ten_cases, thousand, thousand_texts};
-use crate::fed::{limits_of, plan_of};
+use crate::fed::limits_of;
 use crate::one_thread::{feed_of, run_on_one_thread};
 use crate::whole_runs::same_run;
 use actor_pool::FreeGate;
 use fair_semantics::{Limits, Run};
 use log_reader::read_log;
 use pool_run::run_pool;
+use script_check::read_plan;
 use script_types::Plan;
 use std::alloc::Global;
 use std::sync::Wait;
@@ -79,7 +80,7 @@ fn is_right<R: Threads + Wait + Sync>(
     requires ring { IsFrom1To 4096 ring }
     requires workers { workers ≤ 64 }
 {
-    let plan = plan_of(alloc, case.script)?;
+    let plan = read_plan(alloc, case.script)?;
     let expected = read_log(alloc, &plan, case.log)?;
     let limits = limits_of(case.most.0, case.most.1);
     come_to(

@@ -11,7 +11,7 @@ ghost use Rattle.actor_cells.specs.Prepared.{AreWired, cells_of};
 ghost use Rattle.actor_cells.specs.Tags.{AreTagsOf};
 
 use crate::cases::{Case, older_first, ping_pong, stopped, thousand, thousand_texts};
-use crate::fed::{limits_of, plan_of};
+use crate::fed::limits_of;
 use crate::one_thread::feed_of;
 use crate::whole_runs::same_run;
 use actor_cells::{Cells, prepare};
@@ -20,6 +20,7 @@ use fair_semantics::{Limits, Run};
 use join_base::{FeedList, Message, Posts, Steps};
 use log_reader::read_log;
 use pool_settling::settle_with;
+use script_check::read_plan;
 use script_types::Plan;
 use sensor_feed::read_feed;
 use std::alloc::Global;
@@ -207,7 +208,7 @@ fn come_to_the_log(
 fn is_right(alloc: Global, case: Case<'_>, place: usize, ring: u32) -> Result<bool, Fail>
     requires ring { IsFrom1To 4096 ring }
 {
-    let plan = plan_of(alloc, case.script)?;
+    let plan = read_plan(alloc, case.script)?;
     let limits = limits_of(case.most.0, case.most.1);
     come_to_the_log(alloc, &plan, limits, case, place, ring)
 }

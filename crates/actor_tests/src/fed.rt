@@ -10,8 +10,6 @@ ghost use Rattle.actor_tests.specs.Feeding.{from_feed};
 use actor_turn::Actor;
 use fair_semantics::{Limits, Outcome};
 use join_base::{Posts, Source, Steps};
-use script_check::check_script;
-use script_reader::read_script;
 use script_types::Plan;
 use std::alloc::Global;
 use std::sync::ledger::Ledger;
@@ -25,14 +23,6 @@ pub fn limits_of(arrivals: u32, partials: u64) -> Limits
         arrivals: arrivals.max(1).min(1_000_000),
         partials: partials.max(1).min(1_000_000),
     }
-}
-
-pub fn plan_of(alloc: Global, script: &[u8]) -> Result<Plan, Fail>
-    ensures { IfOk result IsTyped }
-{
-    let tree = read_script(alloc, script)?;
-    let plan = check_script(alloc, &tree)?;
-    Ok(plan)
 }
 
 // The first actor of the plan, which has one feed.

@@ -6,13 +6,14 @@ ghost use Rattle.actor_pool.specs.Helpers.{IsHelperOf, actor_count, seat_of};
 ghost use Rattle.actor_pool.specs.Posters.{IsPosterOf, feed_tag};
 
 use crate::cases::{Case, ping_pong};
-use crate::fed::{limits_of, plan_of};
+use crate::fed::limits_of;
 use crate::whole_runs::same_run;
 use actor_pool::{Helper, Pool, Poster, turn};
 use fair_semantics::{Limits, Run};
 use join_base::{Message, NoMemory, Steps};
 use log_reader::read_log;
 use pool_run::finish;
+use script_check::read_plan;
 use script_types::Plan;
 use sensor_feed::read_feed;
 use std::alloc::Global;
@@ -123,7 +124,7 @@ fn message_of(alloc: Global, plan: &Plan, row: &[u8]) -> Result<Option<Message>,
 }
 
 fn comes_to_the_log(alloc: Global, case: Case<'_>) -> Result<bool, Fail> {
-    let plan = plan_of(alloc, case.script)?;
+    let plan = read_plan(alloc, case.script)?;
     let limits = limits_of(case.most.0, case.most.1);
     match message_of(alloc, &plan, case.rows)? {
         Some(message) => is_finished(alloc, &plan, limits, message, case.log),

@@ -4,10 +4,11 @@ ghost use Rattle.join_base.specs.Late.{HasCount};
 ghost use Rattle.join_base.specs.declared.message.Source.TheVariants as source;
 ghost use Rattle.script_types.specs.Typed.{IsTyped};
 
-use crate::fed::{first_actor, limits_of, outcomes, plan_of};
+use crate::fed::{first_actor, limits_of, outcomes};
 use actor_turn::Actor;
 use fair_semantics::Fired;
 use join_base::{Posts, Steps};
+use script_check::read_plan;
 use script_types::Plan;
 use sensor_feed::read_feed;
 use std::alloc::Global;
@@ -271,7 +272,8 @@ fn plan_by(alloc: Global, rules: &[Rule; 2]) -> Result<Plan, Fail>
     ensures { IfOk result IsTyped }
 {
     let script = script_of(alloc, rules)?;
-    plan_of(alloc, script.as_bytes())
+    let plan = read_plan(alloc, script.as_bytes())?;
+    Ok(plan)
 }
 
 fn posts_by(alloc: Global, plan: &Plan, letters: &[Letter]) -> Result<Posts, Fail>

@@ -8,13 +8,14 @@ ghost use Rattle.actor_pool.specs.Helpers.{IsHelperOf, actor_count, seat_of};
 ghost use Rattle.actor_pool.specs.Posters.{IsPosterOf, feed_tag};
 
 use crate::cases::{Case, thousand, thousand_texts};
-use crate::fed::{limits_of, plan_of};
+use crate::fed::limits_of;
 use crate::whole_runs::same_run;
 use actor_pool::{Helper, Pool, Poster, feed};
 use fair_semantics::{Limits, Run};
 use join_base::{NoMemory, Posts};
 use log_reader::read_log;
 use pool_run::finish;
+use script_check::read_plan;
 use script_types::Plan;
 use sensor_feed::read_feed;
 use std::alloc::Global;
@@ -64,7 +65,7 @@ fn fed_run<R: Wait>(
 
 // Whether the feed comes to the run of the log.
 fn comes_to_the_log<R: Wait>(rt: &R, alloc: Global, case: Case<'_>) -> Result<bool, Fail> {
-    let plan = plan_of(alloc, case.script)?;
+    let plan = read_plan(alloc, case.script)?;
     let posts = read_feed(alloc, &plan, case.rows)?;
     let expected = read_log(alloc, &plan, case.log)?;
     let limits = limits_of(case.most.0, case.most.1);

@@ -3,10 +3,11 @@ ghost use Rattle.join_base.specs.Late.{HasCount};
 ghost use Rattle.join_base.specs.declared.message.Source.TheVariants as source;
 
 use crate::cases::STOPS;
-use crate::fed::{first_actor, limits_of, outcomes, plan_of};
+use crate::fed::{first_actor, limits_of, outcomes};
 use actor_turn::{Actor, give_room_back};
 use fair_semantics::{Ending, Outcome};
 use join_base::{Fields, Message, Posts, Source, Steps};
+use script_check::read_plan;
 use sensor_feed::read_feed;
 use std::alloc::Global;
 use std::marker::Brand;
@@ -102,7 +103,7 @@ fn plays_with<L: Ledger>(alloc: Global, case: Case<'_>, blank: Blank) -> Result<
     requires some { 0 < L.parts }
 {
     let mut steps = Steps::<L>::new(blank);
-    let plan = plan_of(alloc, case.script)?;
+    let plan = read_plan(alloc, case.script)?;
     let posts = read_feed(alloc, &plan, case.feed)?;
     let mut actor = first_actor(alloc, &plan, limits_of(case.most.0, case.most.1))?;
     comes_to(alloc, &mut actor, &posts, case, &mut steps)
@@ -171,7 +172,7 @@ fn are_spent<L: Ledger>(alloc: Global, blank: Blank) -> Result<bool, Fail>
     requires some { 0 < L.parts }
 {
     let mut steps = Steps::<L>::new(blank);
-    let plan = plan_of(alloc, THREE)?;
+    let plan = read_plan(alloc, THREE)?;
     let mut actor = first_actor(alloc, &plan, limits_of(9, 9))?;
     Ok(is_spent(alloc, &mut actor, &mut steps))
 }

@@ -4,9 +4,8 @@ ghost use Rattle.script_types.specs.Typed.{IsTyped};
 
 use join_base::{NoMemory, Steps};
 use log_replay::{LogRefusal, check_log};
-use script_check::check_script;
+use script_check::read_plan;
 use script_grammar::ScriptFault;
-use script_reader::read_script;
 use script_types::Plan;
 use std::alloc::Global;
 use std::marker::Brand;
@@ -27,12 +26,7 @@ pub enum Answer {
 pub fn plan_of(alloc: Global, script: &[u8]) -> Result<Option<Plan>, NoMemory>
     ensures typed { IfOk result (λ plan. IfSome plan IsTyped) }
 {
-    let tree = match read_script(alloc, script) {
-        Ok(tree) => tree,
-        Err(ScriptFault::Bad { .. }) => return Ok(None),
-        Err(ScriptFault::NoMemory) => return Err(NoMemory),
-    };
-    match check_script(alloc, &tree) {
+    match read_plan(alloc, script) {
         Ok(plan) => Ok(Some(plan)),
         Err(ScriptFault::Bad { .. }) => Ok(None),
         Err(ScriptFault::NoMemory) => Err(NoMemory),

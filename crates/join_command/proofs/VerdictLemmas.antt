@@ -12,25 +12,17 @@ use Rattle.log_replay.specs.Fault.{IsFirstInFault, IsRight}
 use Rattle.log_replay.specs.declared.refusal.LogRefusal.{LogRefusal}
 use Rattle.log_replay.specs.declared.refusal.LogRefusal.TheVariants as refusal
 use Rattle.join_command.specs.declared.stop.LogCause.TheVariants as log_cause
-use Rattle.script_grammar.specs.declared.tree.Tree.{Tree}
-use Rattle.script_grammar.specs.declared.fault.ScriptCause.{ScriptCause}
-use Rattle.script_reader.specs.Spells as reader
-use Rattle.script_plan.specs.PlanOf.{plan_of}
-use Rattle.script_check.specs.Types.{IsFaultOf, NoBoth, OneFault, OnePlan, Types}
+use Rattle.script_check.specs.Script.{NoPlanAndFault, OneScriptFault, OneScriptPlan}
 use Rattle.command_words.specs.Command.{Command, RunWords, Run, Check, Replay, Load, Watch, Lint, Ask}
 use Rattle.join_command.specs.Command.{command_of}
 use Rattle.join_command.specs.Files.{File, Absent, Long, Holds, file_of, log_of}
-use Rattle.join_command.specs.Verdict.{Verdict, Accepts, Checks, Lints, LogRefused, OfLog, checked_as, ScriptRefused, GivesPlan, IsScriptFault, OfCommand, OfRun, Outcome, Runs, Asks, OfScript, OfWords, OneVerdict, ScriptGives, ScriptStops, feeds_answer, limits_of, run_of}
+use Rattle.join_command.specs.Verdict.{Verdict, Accepts, Checks, Lints, LogRefused, OfLog, checked_as, ScriptRefused, OfCommand, OfRun, Outcome, Runs, Asks, OfScript, OfWords, OneVerdict, ScriptGives, ScriptStops, feeds_answer, limits_of, run_of}
 
--- a script spells one tree or has one fault, the tree has one plan or one fault, and a log is that of one run or has
--- one line at fault
+-- a script has one plan or one fault, and a log is that of one run or has one line at fault
 pub record HaveOneAnswer : Type 0 where
-  pub tree : reader.OneTree
-  pub unread : reader.NoBoth
-  pub read_fault : reader.OneFault
-  pub plan : OnePlan
-  pub unchecked : NoBoth
-  pub check_fault : OneFault
+  pub plan : OneScriptPlan
+  pub no_plan : NoPlanAndFault
+  pub fault : OneScriptFault
   pub log_run : LogsAreOneRun
   pub log_fault : FaultsAreOneLine
 
@@ -44,41 +36,22 @@ first_once plan run m n a b = by_places (nat_lt a.place b.place) refl (nat_lt b.
     by_places false less false more = let same : a.place ≡ b.place = grind (arith, nat_tests) in a.counted ∙ ap (λ (p : ℕ). p + 1) same ∙ sym b.counted
 
 module _ (one : HaveOneAnswer) where
-  same_plan : (bytes : List ℕ) (plan other : Plan) → GivesPlan bytes plan → GivesPlan bytes other → plan ≡ other
-  same_plan bytes plan other a b =
-      let P : Tree → Type 0 = λ (tree : Tree). Types tree other in
-      one.plan a.0 plan other a.2 (subst P (one.tree bytes b.0 a.0 b.1 a.1) b.2)
-
-  no_fault : (bytes : List ℕ) (plan : Plan) (place : ℕ) (cause : ScriptCause) → GivesPlan bytes plan → IsScriptFault bytes place cause → ⊥
-  no_fault bytes plan place cause gives (inl fault) = one.unread bytes gives.0 place cause gives.1 fault
-  no_fault bytes plan place cause gives (inr fault) =
-      let P : Tree → Type 0 = λ (tree : Tree). IsFaultOf tree place cause in
-      one.unchecked gives.0 plan place cause gives.2 (subst P (one.tree bytes fault.0 gives.0 fault.1 gives.1) fault.2)
-
-  same_fault : (bytes : List ℕ) (place place' : ℕ) (cause cause' : ScriptCause) → IsScriptFault bytes place cause → IsScriptFault bytes place' cause' → (place ≡ place') × (cause ≡ cause')
-  same_fault bytes place place' cause cause' (inl a) (inl b) = one.read_fault bytes place place' cause cause' a b
-  same_fault bytes place place' cause cause' (inl a) (inr b) = absurd (one.unread bytes b.0 place cause b.1 a)
-  same_fault bytes place place' cause cause' (inr a) (inl b) = absurd (one.unread bytes a.0 place' cause' a.1 b)
-  same_fault bytes place place' cause cause' (inr a) (inr b) =
-      let P : Tree → Type 0 = λ (tree : Tree). IsFaultOf tree place' cause' in
-      one.check_fault a.0 place place' cause cause' a.2 (subst P (one.tree bytes b.0 a.0 b.1 a.1) b.2)
-
   same_stop : (script : File) (v w : Verdict) → ScriptStops script v → ScriptStops script w → v ≡ w
   same_stop Absent v w a b = absurd a
   same_stop Long v w a b = a ∙ sym b
   same_stop (Holds bytes) v w (place, cause, fault, is) (place', cause', fault', is') =
-      let same = same_fault bytes place place' cause cause' fault fault' in
+      let same = one.fault bytes place place' cause cause' fault fault' in
       is ∙ (λ i. ScriptRefused (same.0 i) (same.1 i)) ∙ sym is'
 
   no_plan : (script : File) (plan : Plan) (v : Verdict) → ScriptGives script plan → ScriptStops script v → ⊥
   no_plan Absent plan v gives stops = absurd gives
   no_plan Long plan v gives stops = absurd gives
-  no_plan (Holds bytes) plan v gives (place, cause, fault, is) = no_fault bytes plan place cause gives fault
+  no_plan (Holds bytes) plan v gives (place, cause, fault, is) = one.no_plan bytes plan place cause gives fault
 
   plan_again : (script : File) (plan other : Plan) → ScriptGives script plan → ScriptGives script other → plan ≡ other
   plan_again Absent plan other a b = absurd a
   plan_again Long plan other a b = absurd a
-  plan_again (Holds bytes) plan other a b = same_plan bytes plan other a b
+  plan_again (Holds bytes) plan other a b = one.plan bytes plan other a b
 
   script_once : (script : File) (of_plan : Plan → Verdict → Type 0) → ((plan : Plan) (v w : Verdict) → of_plan plan v → of_plan plan w → v ≡ w)
       → (v w : Verdict) → OfScript script of_plan v → OfScript script of_plan w → v ≡ w

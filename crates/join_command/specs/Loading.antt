@@ -9,12 +9,13 @@ use Rattle.script_grammar.specs.declared.fault.ScriptFault.TheVariants as script
 use Rattle.script_types.specs.declared.plan.Plan.{Plan}
 use Rattle.sensor_feed.specs.declared.fault.FeedFault.{FeedFault}
 use Rattle.sensor_feed.specs.declared.fault.FeedFault.TheVariants as feed
+use Rattle.script_check.specs.Script.{GivesPlan, IsScriptFault}
 use Rattle.join_command.specs.declared.stop.Refusal.{Refusal}
 use Rattle.join_command.specs.declared.stop.Refusal.TheVariants as refusal
 use Rattle.join_command.specs.declared.stop.Stop.{Stop}
 use Rattle.join_command.specs.declared.stop.Stop.TheVariants as stop
 use Rattle.join_command.specs.Files.{File, file_of, log_of}
-use Rattle.join_command.specs.Verdict.{Verdict, Accepts, LogRefused, OfLog, OfLogBytes, TooLong, ScriptRefused, FeedRefused, Feeds, FeedsAnswer, Given, Refused, GivesPlan, IsBeginning, IsScriptFault, ScriptGives, ScriptStops, feed_answer, feeds_answer, fetched}
+use Rattle.join_command.specs.Verdict.{Verdict, Accepts, LogRefused, OfLog, OfLogBytes, TooLong, ScriptRefused, FeedRefused, Feeds, FeedsAnswer, Given, Refused, IsBeginning, ScriptGives, ScriptStops, feed_answer, feeds_answer, fetched}
 
 -- inputs that tell go on to tell
 abbrev pub Tells : Option Told → Option Told → (Told → Told → Type 0) → Type 0

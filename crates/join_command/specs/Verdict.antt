@@ -3,15 +3,13 @@
 use Rattle.std.specs.Prelude.{◌≡◌, ◌⊎◌, ℕ, ◌+◌, List, [], ◌∷◌, ◌++◌, Option, None, Some, Result, Ok, Err}
 use Rattle.join_base.specs.declared.message.Message.{Message}
 use Rattle.join_base.specs.Outside.{Files}
-use Rattle.script_grammar.specs.declared.tree.Tree.{Tree}
-use Rattle.script_reader.specs.Spells.{IsFault, Spells}
 use Rattle.script_grammar.specs.declared.fault.ScriptCause.{ScriptCause}
 use Rattle.script_types.specs.declared.plan.Plan.{Plan}
 use Rattle.script_types.specs.Typed.{IsTyped}
 use Rattle.log_replay.specs.Check as replaying
 use Rattle.log_replay.specs.declared.refusal.LogRefusal.{LogRefusal}
 use Rattle.log_replay.specs.declared.refusal.LogRefusal.TheVariants as refusal
-use Rattle.script_check.specs.Types.{IsFaultOf, Types}
+use Rattle.script_check.specs.Script.{GivesPlan, IsScriptFault}
 use Rattle.sensor_feed.specs.Feed.{feed_of}
 use Rattle.sensor_feed.specs.declared.fault.FeedCause.{FeedCause}
 use Rattle.sensor_feed.specs.declared.fault.FeedFault.{FeedFault}
@@ -47,14 +45,6 @@ pub data Verdict : Type 0 where
   LogRefused : (line : ℕ) (cause : LogCause) → Verdict
 
 -- ---- the script
-
--- the bytes spell a tree without a fault, which has this plan
-abbrev pub GivesPlan : List ℕ → Plan → Type 0
-GivesPlan bytes plan = (tree : Tree) × Spells bytes tree × Types tree plan
-
--- the fault of bytes that spell no tree, or of the tree that they spell
-abbrev pub IsScriptFault : List ℕ → ℕ → ScriptCause → Type 0
-IsScriptFault bytes place cause = IsFault bytes place cause ⊎ ((tree : Tree) × Spells bytes tree × IsFaultOf tree place cause)
 
 abbrev pub ScriptGives : File → Plan → Type 0
 ScriptGives Absent plan = ⊥

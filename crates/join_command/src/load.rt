@@ -10,8 +10,6 @@ ghost use Rattle.join_command.specs.Verdict.{posts_or};
 
 use crate::stop::{Refusal, Stop};
 use join_base::{FeedList, FetchFault, Inputs, Posts, Word};
-use script_check::check_script;
-use script_reader::read_script;
 use script_types::Plan;
 use sensor_feed::{FeedFault, read_feed};
 use std::alloc::Global;
@@ -35,8 +33,7 @@ fn read_plan(alloc: Global, bytes: &[u8]) -> Result<Plan, Stop>
     ensures plan { ReadsPlan bytes.now result }
     ensures typed { IfOk result IsTyped }
 {
-    let tree = read_script(alloc, bytes)?;
-    Ok(check_script(alloc, &tree)?)
+    Ok(script_check::read_plan(alloc, bytes)?)
 }
 
 /// Fetches a script and reads its plan, which is well typed.

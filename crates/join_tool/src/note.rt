@@ -1,5 +1,4 @@
 //! What a person is told on standard error. Nothing rests on it: the output and the status stand before.
-use crate::again::read_again;
 use crate::remark::{feeds_remark, script_remark, script_to_remark};
 use crate::wanted::wanted_line;
 use crate::watched::WatchedSink;
@@ -12,7 +11,7 @@ use join_base::{Bytes, NoMemory, Word, WordList};
 use join_command::{Counted, MAX_FILE, MAX_LOG, Status, command_of, write_all};
 use std::alloc::Global;
 use std::io::{self, Write};
-use system_files::{FileInputs, OutSink};
+use system_files::{FileInputs, OutSink, read_again};
 
 // The file of a command that is fetched with this number, counted from 1.
 fn file_of<'a>(command: &Request<'a>, number: u64) -> Option<&'a Word> {
@@ -58,7 +57,7 @@ fn run_note(
     text: &[u8],
     line: &[u8],
 ) -> Result<Bytes, NoMemory> {
-    match read_again(rt, script.as_str()) {
+    match read_again(rt, script.as_str(), MAX_LOG) {
         Some(script) => refusal_note_by(rt.alloc(), name, text, script.bytes(), line),
         None => refusal_note(rt.alloc(), name, text, line),
     }
@@ -85,7 +84,7 @@ fn refused_note(
     name: &str,
     line: &[u8],
 ) -> Result<Bytes, NoMemory> {
-    let Some(text) = read_again(rt, name) else {
+    let Some(text) = read_again(rt, name, MAX_LOG) else {
         return unseen_note(rt.alloc(), name, line);
     };
     match command {

@@ -1,12 +1,13 @@
 //! What is remarked besides a good answer: definitions that keep too much, and quotes that are never closed.
-use crate::again::read_again;
-use crate::plan::plan_of;
 use command_words::Request;
 use fault_places::{Tie, feed_remark, push_tie};
 use join_base::{Bytes, NoMemory, Word};
+use join_command::MAX_LOG;
+use script_check::read_plan;
 use script_hints::{Script, script_of};
 use script_types::{Plan, Rule};
 use std::alloc::Global;
+use system_files::read_again;
 use tied_patterns::{Tied, tied_pairs};
 
 fn kind_name<'a>(plan: &'a Plan, rule: &Rule, pattern: u32) -> &'a [u8] {
@@ -72,18 +73,18 @@ fn plan_remark(alloc: Global, name: &str, text: &[u8], plan: &Plan) -> Result<By
 /// What is remarked of the definitions of a script that can be read again.
 pub fn script_remark(rt: &HostRuntime, name: &Word) -> Result<Bytes, NoMemory> {
     let alloc = rt.alloc();
-    let Some(text) = read_again(rt, name.as_str()) else {
+    let Some(text) = read_again(rt, name.as_str(), MAX_LOG) else {
         return Ok(Bytes::new(alloc));
     };
-    match plan_of(alloc, text.bytes()) {
-        Some(plan) => plan_remark(alloc, name.as_str(), text.bytes(), &plan),
-        None => Ok(Bytes::new(alloc)),
+    match read_plan(alloc, text.bytes()) {
+        Ok(plan) => plan_remark(alloc, name.as_str(), text.bytes(), &plan),
+        Err(_) => Ok(Bytes::new(alloc)),
     }
 }
 
 // What is remarked of a feed that can be read again.
 fn remark_on(rt: &HostRuntime, name: &Word) -> Result<Bytes, NoMemory> {
-    match read_again(rt, name.as_str()) {
+    match read_again(rt, name.as_str(), MAX_LOG) {
         Some(text) => feed_remark(rt.alloc(), name.as_str(), text.bytes()),
         None => Ok(Bytes::new(rt.alloc())),
     }

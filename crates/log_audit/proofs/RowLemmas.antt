@@ -2,7 +2,6 @@
 use Rattle.std.proofs.Common.{◌≡◌, ◌∙◌, ℕ, zero, suc, ◌+◌, ◌-◌, ◌^◌, ◌<◌, List, [], ◌∷◌, ◌++◌, length, length-append, map, drop, Bool, true, false, Option, None, Some, slice_get, refl, ap, sym, arith}
 use Rattle.std.specs.Prelude.{if◌then◌else◌, ◌==◌}
 use Rattle.std.specs.List.{cons_option, filter_map}
-use Rattle.std.specs.Cmp.Lexicographic.{pointwise, unequal}
 use Rattle.std.proofs.lemmas.List.{length-map, length-drop}
 use Rattle.join_base.specs.declared.message.Message.{Message}
 use Rattle.join_base.specs.declared.message.Stamped.{Stamped}
@@ -13,11 +12,6 @@ use Rattle.fair_semantics.specs.Linked.{feed_posts, message_from, messages_of, p
 use Rattle.log_replay.proofs.AcceptedLemmas.{taken_with}
 use Rattle.log_audit.specs.Search.{left_behind}
 use Rattle.log_audit.specs.Wrong.{Row, row_for, rows_for, rows_left}
-
--- ---- messages of another length
-
-pub lengths_apart : {A : Type 0} (same : A → A → Bool) (own other : List A) → (length own ≡ length other → ⊥) → pointwise same own other ≡ false
-lengths_apart = unequal
 
 -- ---- one row more
 

@@ -13,7 +13,6 @@
 mod answer;
 mod refusal;
 mod rows;
-mod same;
 mod wrong;
 
 pub use answer::audit;

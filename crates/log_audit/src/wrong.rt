@@ -8,7 +8,6 @@ ghost use Rattle.log_audit.specs.Search.{earlier, left_behind, link_wrong, run_w
 
 use crate::refusal::Difference;
 use crate::rows::{Rows, SeenRow, number_of, row_count};
-use crate::same::same_message;
 use fair_semantics::{ActorRun, Entry, Run};
 use join_base::{Message, Posts, Source};
 

@@ -63,7 +63,8 @@ fn same_fields(own: &Fields, other: &Fields) -> bool
     true
 }
 
-pub(crate) fn same_message(own: &Message, other: &Message) -> bool
+/// Whether the messages have one kind, and the same values.
+pub fn same_message(own: &Message, other: &Message) -> bool
     ensures { result ≡ same_message own.now other.now }
 {
     own.kind == other.kind && same_fields(&own.fields, &other.fields)

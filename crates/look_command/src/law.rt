@@ -6,8 +6,7 @@ ghost use Rattle.look_command.specs.Verdict.{OneVerdict};
 pub fn one_verdict()
     ensures { OneVerdict }
 {
-    script_reader::one_answer();
-    script_check::one_answer();
+    script_check::one_script();
     log_reader::one_run();
     log_reader::one_fault();
 }

@@ -1,14 +1,13 @@
 //! What a person is told on standard error. Nothing rests on it: the output and the status stand before.
 ghost use Rattle.std.specs.Prelude.{◌<◌, IfSome, length};
 
-use crate::again::read_again;
 use fault_places::{NO_MEMORY, long_note, read_note, refusal_note, unseen_note, write_note};
 use join_base::{Bytes, NoMemory, Word, WordList};
 use join_command::{Counted, MAX_FILE, MAX_LOG, Status, write_all};
 use look_command::{Request, request_of};
 use std::alloc::Global;
 use std::io::{self, Write};
-use system_files::{FileInputs, OutSink};
+use system_files::{FileInputs, OutSink, read_again};
 
 const USAGE: &[u8] = b"joinactors: these words are no request; ./look takes
   audit SCRIPT LOG FEED..        1 to 16 feeds
@@ -114,7 +113,7 @@ fn others_note(alloc: Global, sentence: &[u8]) -> Result<Bytes, NoMemory> {
 
 // What is told of the file whose refusal was written.
 fn refused_note(rt: &HostRuntime, name: &str, line: &[u8]) -> Result<Bytes, NoMemory> {
-    match read_again(rt, name) {
+    match read_again(rt, name, MAX_LOG) {
         Some(text) => refusal_note(rt.alloc(), name, text.bytes(), line),
         None => unseen_note(rt.alloc(), name, line),
     }

@@ -2,11 +2,11 @@
 ghost use Rattle.std.specs.Prelude.{◌≡◌, ◌<◌};
 ghost use Rattle.script_types.specs.Typed.{IsTyped};
 
-use crate::given::plan_of;
 use expected_line::expected_line;
 use fault_places::{differing_line, differing_note};
 use join_base::{Bytes, NoMemory, Steps, write_number};
 use log_replay::{LogRefusal, check_log};
+use script_check::read_plan;
 use script_types::Plan;
 use std::alloc::Global;
 use std::marker::Brand;
@@ -151,7 +151,7 @@ fn is_told_by(alloc: Global, plan: &Plan, log: &[u8], want: &[u8]) -> Result<boo
 
 fn is_told(alloc: Global, case: &Differing) -> Result<bool, NoMemory> {
     let (script, log, want) = case;
-    match plan_of(alloc, script) {
+    match read_plan(alloc, script) {
         Ok(plan) => is_told_by(alloc, &plan, log, want),
         Err(_) => Ok(false),
     }

@@ -1,8 +1,8 @@
 //! Feeds, their posts and their faults.
 ghost use Rattle.script_types.specs.Typed.{IsTyped};
 
-use crate::given::plan_of;
 use join_base::{Message, ValueRef};
+use script_check::read_plan;
 use script_types::Plan;
 use sensor_feed::{FeedCause, FeedFault, feed_law, read_feed};
 use std::alloc::Global;
@@ -108,7 +108,7 @@ fn are_read(alloc: Global, plan: &Plan) -> bool
 }
 
 fn is_read(alloc: Global) -> bool {
-    match plan_of(alloc, SCRIPT) {
+    match read_plan(alloc, SCRIPT) {
         Ok(plan) => are_read(alloc, &plan),
         Err(_) => false,
     }

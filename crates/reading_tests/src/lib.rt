@@ -11,7 +11,6 @@ mod differing;
 #[cfg(test)]
 mod feeds;
 #[cfg(test)]
-mod given;
 #[cfg(test)]
 mod lines;
 #[cfg(test)]

@@ -1,10 +1,10 @@
 //! The reactions of runs, with the rows of feeds that led to them.
 ghost use Rattle.script_types.specs.Typed.{IsTyped};
 
-use crate::given::plan_of;
 use join_base::{Bytes, NoMemory};
 use log_reader::read_log;
 use reaction_text::print_reactions;
+use script_check::read_plan;
 use script_types::Plan;
 use std::alloc::Global;
 use std::test::Fail;
@@ -165,7 +165,7 @@ fn ends_by(
 
 fn is_shown(alloc: Global, case: &Shown) -> Result<bool, NoMemory> {
     let (script, log, only, end) = case;
-    match plan_of(alloc, script) {
+    match read_plan(alloc, script) {
         Ok(plan) => ends_by(alloc, &plan, log, *only, end),
         Err(_) => Ok(false),
     }

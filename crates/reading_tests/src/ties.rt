@@ -1,7 +1,6 @@
 //! Which patterns are tied only through another one.
 use join_base::{Bytes, NoMemory, write_number};
-use script_check::check_script;
-use script_reader::read_script;
+use script_check::read_plan;
 use script_types::{Plan, Rule};
 use std::alloc::Global;
 use tied_patterns::{Tied, tied_pairs};
@@ -72,13 +71,6 @@ fn ties_of(alloc: Global, plan: &Plan) -> Result<Bytes, NoMemory> {
     Ok(out)
 }
 
-fn plan_of(alloc: Global, text: &[u8]) -> Option<Plan> {
-    match read_script(alloc, text) {
-        Ok(tree) => check_script(alloc, &tree).ok(),
-        Err(_) => None,
-    }
-}
-
 // A script with an actor of this definition.
 fn push_script(text: &mut Bytes, definition: &[u8]) -> Result<(), NoMemory> {
     text.push_all(
@@ -91,9 +83,9 @@ fn push_script(text: &mut Bytes, definition: &[u8]) -> Result<(), NoMemory> {
 fn is_found(alloc: Global, definition: &[u8], wanted: &[u8]) -> Result<bool, NoMemory> {
     let mut text = Bytes::new(alloc);
     push_script(&mut text, definition)?;
-    match plan_of(alloc, text.bytes()) {
-        Some(plan) => Ok(ties_of(alloc, &plan)?.bytes() == wanted),
-        None => Ok(false),
+    match read_plan(alloc, text.bytes()) {
+        Ok(plan) => Ok(ties_of(alloc, &plan)?.bytes() == wanted),
+        Err(_) => Ok(false),
     }
 }
 

@@ -1,9 +1,9 @@
 //! Why messages wait, as it is told.
 ghost use Rattle.script_types.specs.Typed.{IsTyped};
 
-use crate::given::plan_of;
 use join_base::{Bytes, NoMemory};
 use log_reader::read_log;
+use script_check::read_plan;
 use script_types::Plan;
 use std::alloc::Global;
 use std::test::Fail;
@@ -137,7 +137,7 @@ fn text_of(alloc: Global, plan: &Plan, log: &[u8], wanted: Option<u32>) -> Resul
 
 fn is_told(alloc: Global, case: &Told) -> Result<bool, NoMemory> {
     let (script, log, wanted, told) = case;
-    match plan_of(alloc, script) {
+    match read_plan(alloc, script) {
         Ok(plan) => Ok(text_of(alloc, &plan, log, *wanted)?.bytes() == *told),
         Err(_) => Ok(false),
     }

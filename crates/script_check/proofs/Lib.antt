@@ -6,6 +6,7 @@
 -- - from no fault to the sizes of a tree: SmallLemmas
 -- - from no fault to a well typed plan: what a variable stands for, operands and guards, the rest: VariableLemmas,
 --   TypedLemmas, PlanLemmas
+-- - from trees to the bytes that spell them: ScriptLemmas
 pub mod LeastLemmas
 pub mod NumberLemmas
 pub mod SmallLemmas
@@ -15,3 +16,4 @@ pub mod CheckLemmas
 pub mod VariableLemmas
 pub mod TypedLemmas
 pub mod PlanLemmas
+pub mod ScriptLemmas

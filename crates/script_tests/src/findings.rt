@@ -1,8 +1,8 @@
 //! What lint finds.
 ghost use Rattle.script_types.specs.Typed.{IsTyped};
 
-use crate::given::plan_of;
 use join_base::NoMemory;
+use script_check::read_plan;
 use script_lint::{Finding, lint};
 use script_types::Plan;
 use std::alloc::Global;
@@ -15,7 +15,7 @@ fn are_found(alloc: Global, plan: &Plan, wanted: &[Finding]) -> Result<bool, NoM
 
 /// Whether a script has these findings.
 pub fn has_findings(alloc: Global, script: &[u8], wanted: &[Finding]) -> Result<bool, NoMemory> {
-    match plan_of(alloc, script) {
+    match read_plan(alloc, script) {
         Ok(plan) => are_found(alloc, &plan, wanted),
         Err(_) => Ok(false),
     }

@@ -1,26 +1,11 @@
 //! Scripts, and what reading and checking them comes to.
-ghost use Rattle.std.specs.Prelude.{IfOk};
-ghost use Rattle.script_types.specs.Typed.{IsTyped};
-
 use join_base::{Bytes, NoMemory};
-use script_check::check_script;
+use script_check::read_plan;
 use script_grammar::{ScriptCause, ScriptFault};
-use script_reader::read_script;
-use script_types::Plan;
 use std::alloc::Global;
 
 /// The front of most scripts, 28 bytes.
 pub const INT: &[u8] = b"message a(x: int) actor m { ";
-
-/// The plan of a script, or its fault.
-pub fn plan_of(alloc: Global, script: &[u8]) -> Result<Plan, ScriptFault>
-    ensures typed { IfOk result IsTyped }
-{
-    match read_script(alloc, script) {
-        Ok(tree) => check_script(alloc, &tree),
-        Err(fault) => Err(fault),
-    }
-}
 
 /// The bytes of the front, then `piece` so many times, then the rest.
 pub fn joined(
@@ -41,11 +26,11 @@ pub fn joined(
 
 /// Whether a script is refused at this place for this cause.
 pub fn is_refused(alloc: Global, script: &[u8], place: u64, cause: ScriptCause) -> bool {
-    plan_of(alloc, script).err() == Some(ScriptFault::Bad { place, cause })
+    read_plan(alloc, script).err() == Some(ScriptFault::Bad { place, cause })
 }
 
 pub fn has_plan(alloc: Global, script: &[u8]) -> bool {
-    plan_of(alloc, script).is_ok()
+    read_plan(alloc, script).is_ok()
 }
 
 /// Whether each rest behind the front has a plan.

@@ -1,10 +1,10 @@
 //! Plans of scripts, and their texts.
 
-use crate::given::plan_of;
 use guard_eval::{ConjunctList, Leaf, Place, Signed};
 use join_base::{Bytes, Items, Name, NoMemory};
 use pattern_core::Definition;
 use plan_text::print_plan;
+use script_check::read_plan;
 use script_types::{ActorPlan, Item, Plan, Rule, Statement};
 use std::alloc::Global;
 
@@ -114,7 +114,7 @@ fn is_text(alloc: Global, plan: &Plan, text: &[u8]) -> Result<bool, NoMemory> {
 }
 
 fn is_printed(alloc: Global, script: &[u8], text: &[u8]) -> Result<bool, NoMemory> {
-    match plan_of(alloc, script) {
+    match read_plan(alloc, script) {
         Ok(plan) => is_text(alloc, &plan, text),
         Err(_) => Ok(false),
     }
@@ -223,7 +223,7 @@ fn has_numbers(plan: &Plan) -> bool {
 }
 
 fn is_planned(alloc: Global) -> bool {
-    match plan_of(alloc, HALL) {
+    match read_plan(alloc, HALL) {
         Ok(plan) => has_numbers(&plan),
         Err(_) => false,
     }

@@ -6,7 +6,7 @@ use Rattle.script_grammar.specs.declared.fault.ScriptFault.TheVariants as fault
 use Rattle.script_types.specs.declared.plan.Plan.{Plan}
 use Rattle.fault_places.specs.declared.place.Place.{Place}
 use Rattle.fault_places.specs.Places.{column_number, line_number}
-use Rattle.join_command.specs.Verdict.{GivesPlan, IsScriptFault}
+use Rattle.script_check.specs.Script.{GivesPlan, IsScriptFault}
 use Rattle.uses.specs.declared.script.NoPlan.{NoPlan}
 use Rattle.uses.specs.declared.script.NoPlan.TheVariants as answer
 

@@ -1,14 +1,14 @@
 //! A script: its plan, or where its fault stands, with a message for people.
 ghost use Rattle.std.specs.Prelude.{IfErr, IfOk};
 ghost use Rattle.script_types.specs.Typed.{IsTyped};
-ghost use Rattle.join_command.specs.Verdict.{GivesPlan};
+ghost use Rattle.script_check.specs.Script.{GivesPlan};
 ghost use Rattle.uses.specs.Script.{IsFaultOf, TellsFault};
 
 use fault_places::{Place, place_of, refusal_note};
 use join_base::{Bytes, NoMemory};
 use join_command::{Refusal, refused_output};
-use script_check::check_script;
-use script_reader::{ScriptCause, ScriptFault, read_script};
+use script_check::read_plan;
+use script_reader::{ScriptCause, ScriptFault};
 use script_types::Plan;
 use std::alloc::Global;
 
@@ -38,8 +38,7 @@ fn no_plan(alloc: Global, name: &str, script: &[u8], fault: ScriptFault) -> NoPl
     ensures { TellsFault script.now result }
 {
     // A script with a fault has no plan.
-    script_reader::one_answer();
-    script_check::one_answer();
+    script_check::one_script();
     match fault {
         ScriptFault::Bad { place, cause } => match note_of(alloc, name, script, place, cause) {
             Ok(note) => NoPlan::Fault {
@@ -59,11 +58,7 @@ pub fn plan_of(alloc: Global, name: &str, script: &[u8]) -> Result<Plan, NoPlan>
     ensures typed { IfOk result IsTyped }
     ensures fault { IfErr result (TellsFault script.now) }
 {
-    let tree = match read_script(alloc, script) {
-        Ok(tree) => tree,
-        Err(fault) => return Err(no_plan(alloc, name, script, fault)),
-    };
-    match check_script(alloc, &tree) {
+    match read_plan(alloc, script) {
         Ok(plan) => Ok(plan),
         Err(fault) => Err(no_plan(alloc, name, script, fault)),
     }

@@ -3,6 +3,5 @@ use Rattle.join_command.proofs.law.one_verdict.Goals as goal
 
 pub returns : goal.returns
 returns c =
-    let read = c.one_answer.ensures in
-    let check = c.one_answer-2.ensures in
-    one_verdict (record { tree = read.tree; unread = read.both; read_fault = read.fault; plan = check.plan; unchecked = check.both; check_fault = check.fault; log_run = c.one_run.ensures; log_fault = c.one_fault.ensures })
+    let script = c.one_script.ensures in
+    one_verdict (record { plan = script.plan; no_plan = script.both; fault = script.fault; log_run = c.one_run.ensures; log_fault = c.one_fault.ensures })

@@ -6,4 +6,4 @@ use Rattle.uses.proofs.script.no_plan.Goals as goal
 pub returns-in-Ok : goal.returns-in-Ok
 returns-in-Ok c =
     let is = subst (IsFaultOf c.args.script.now) c.in-Bad.is c.requires in
-    is_told c.args.script.now c.in-Bad.place c.in-Bad.cause c.place_of.result c.one_answer.ensures.tree c.one_answer.ensures.both c.one_answer-2.ensures.both is c.place_of.ensures.line c.place_of.ensures.column
+    is_told c.args.script.now c.in-Bad.place c.in-Bad.cause c.place_of.result c.one_script.ensures.both is c.place_of.ensures.line c.place_of.ensures.column
