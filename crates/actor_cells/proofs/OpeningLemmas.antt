@@ -16,14 +16,15 @@ use Rattle.fair_semantics.proofs.ListLemmas.{each_from_All}
 use Rattle.run_order.proofs.EventLemmas.{same_source_is}
 use Rattle.actor_turn.specs.Held.{Held, posts_for}
 use Rattle.actor_turn.specs.Rest.{HoldsPartialMatches}
-use Rattle.post_ring.specs.Links.{received, sent}
+use Rattle.post_ring.specs.Links.{received}
 use Rattle.post_ring.specs.declared.identity.LinkIdentity.{LinkIdentity}
 use Rattle.cell_links.specs.declared.ends.Inward.{Inward}
 use Rattle.cell_links.specs.declared.ends.Outward.{Outward}
 use Rattle.cell_links.specs.declared.ends.LinkTags.{LinkTags}
 use Rattle.cell_links.specs.Ends.{PosterTag, outward_tag, sent_to}
-use Rattle.cell_links.specs.Making.{IsNewIn, IsNewOut}
+use Rattle.cell_links.specs.Making.{IsNewIn}
 use Rattle.cell_links.specs.Wiring.{AreApart, IsWired, Joins, Key, feed_keys, inward_key, inward_keys, outward_key, outward_keys, sending_keys}
+use Rattle.cell_links.proofs.PosterLemmas.{none-sent}
 use Rattle.cell_links.proofs.TagLemmas.{All-former, apart-back, apart-front}
 use Rattle.actor_cells.specs.declared.cell.Cell.{Cell}
 use Rattle.actor_cells.specs.Lawful.{AreDifferent, AreDistinct, IsAmong, IsLawful, IsTag, actors_in, cell_tag, feeds_in, held_in, links_in, names_target, received_from, sources_in, state_in}
@@ -42,17 +43,6 @@ none-came (w ∷ ws) new source = by (same_source w.source source) (none-came ws
     here = All-head IsNewIn w ws new
 
     by : (b : Bool) → received_from ws source ≡ [] → (if b then received w.link else received_from ws source) ≡ []
-    by true later = here
-    by false later = later
-
-none-went : (ring : ℕ) (ws : List Outward) → All (IsNewOut ring) ws → (target : ℕ) → sent_to ws target ≡ []
-none-went ring [] new target = refl
-none-went ring (w ∷ ws) new target = by (w.target == target) (none-went ring ws (All-tail (IsNewOut ring) w ws new) target)
-  where
-    here : sent w.link ≡ []
-    here = (All-head (IsNewOut ring) w ws new).0
-
-    by : (b : Bool) → sent_to ws target ≡ [] → (if b then sent w.link else sent_to ws target) ≡ []
     by true later = here
     by false later = later
 
@@ -79,7 +69,7 @@ opening-lawful plan limits feeds ring index c o tag partial =
       fair = stands.fair;
       partial = partial;
       posted = λ target within.
-          (λ i. none-went ring c.outward.items o.outward target i ++ (ap (λ (h : Held). posts_for h.outbox target) o.actor ∙ none-waits n target) i) ∙ ap (λ (s : State). flat_map (entry_posts target) s.entries) (sym state);
+          (λ i. none-sent ring c.outward.items target o.outward i ++ (ap (λ (h : Held). posts_for h.outbox target) o.actor ∙ none-waits n target) i) ∙ ap (λ (s : State). flat_map (entry_posts target) s.entries) (sym state);
     }
 
 -- ---- tags of links that are wired

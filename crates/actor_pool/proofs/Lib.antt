@@ -6,8 +6,8 @@
 -- - what a source found and what a worker did: WorkLemmas
 -- - what a closed lock gives back: EndLemmas
 pub mod BesideLemmas
-mod HelperLemmas
-mod PosterLemmas
+pub mod HelperLemmas
+pub mod PosterLemmas
 pub mod WorkLemmas
 mod MakeLemmas
 mod EndLemmas

@@ -1,13 +1,15 @@
--- One message more over the link to a target.
-use Rattle.std.proofs.Common.{◌≡◌, ◌⊎◌, inl, inr, ℕ, zero, suc, ◌+◌, ◌<◌, List, [], ◌∷◌, ◌++◌, length, get_or, set, Bool, true, false, refl, sym, ap, ◌∙◌, subst, arith}
+-- What goes over the link to a target: nothing over new links, and one message more.
+use Rattle.std.proofs.Common.{◌≡◌, ◌⊎◌, inl, inr, ℕ, zero, suc, ◌+◌, ◌<◌, List, [], ◌∷◌, ◌++◌, length, get_or, set, Bool, true, false, All, refl, sym, ap, ◌∙◌, subst, arith}
 use Rattle.std.specs.Prelude.{◌==◌, if◌then◌else◌, Result, Ok, Err, OnOk, IfErr}
 use Rattle.std.proofs.lemmas.Bool.Decides.{nat_tests}
+use Rattle.std.proofs.lemmas.List.Elements.{All-head, All-tail}
 use Rattle.join_base.specs.declared.message.Stamped.{Stamped}
 use Rattle.join_base.specs.declared.message.Message.{Message}
 use Rattle.post_ring.specs.declared.link_in.Full.{Full}
 use Rattle.post_ring.specs.Links.{room, sent}
 use Rattle.post_ring.specs.declared.link_in.LinkIn.{LinkIn}
 use Rattle.cell_links.specs.declared.ends.Outward.{Outward}
+use Rattle.cell_links.specs.Making.{IsNewOut}
 use Rattle.cell_links.specs.Ends.{SendsMore, SendsSame, room_to, sent_to}
 use Rattle.cell_links.specs.InOrder.{AreInOrder}
 
@@ -16,6 +18,15 @@ is-itself k = grind (arith, nat_tests)
 
 pub not-equal : (j k : ℕ) → ¬ (j ≡ k) → (j == k) ≡ false
 not-equal j k other = grind (arith, nat_tests)
+
+-- over new links nothing was sent
+pub none-sent : (ring : ℕ) (outward : List Outward) (target : ℕ) → All (IsNewOut ring) outward → sent_to outward target ≡ []
+none-sent ring [] target new = refl
+none-sent ring (w ∷ outward) target new = by_test (w.target == target) (All-head (IsNewOut ring) w outward new).0 (none-sent ring outward target (All-tail (IsNewOut ring) w outward new))
+  where
+    by_test : (t : Bool) {l m : List Stamped} → l ≡ [] → m ≡ [] → (if t then l else m) ≡ []
+    by_test true none rest = none
+    by_test false none rest = rest
 
 -- the links from a number on
 abbrev InOrderFrom : ℕ → List Outward → Type 0

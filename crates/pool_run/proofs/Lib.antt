@@ -7,4 +7,4 @@ mod BackLemmas
 mod CrossLemmas
 mod FinishLemmas
 mod HandLemmas
-mod RunLemmas
+pub mod RunLemmas

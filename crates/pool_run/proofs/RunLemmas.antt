@@ -13,7 +13,7 @@ use Rattle.fair_semantics.specs.Linked.{feed_posts, post_for}
 use Rattle.schedule_law.specs.Reached.{FeedsFit, ValuesFit}
 use Rattle.cell_links.specs.declared.ends.Outward.{Outward}
 use Rattle.cell_links.specs.Ends.{PosterTag, sent_to}
-use Rattle.cell_links.specs.Making.{IsNewOut}
+use Rattle.cell_links.proofs.PosterLemmas.{none-sent}
 use Rattle.actor_cells.specs.declared.cell.CellTag.{CellTag}
 use Rattle.actor_cells.specs.Prepared.{AreWired, IsNewPoster}
 use Rattle.actor_pool.specs.declared.helper.Helper.{Helper}
@@ -89,15 +89,6 @@ module _ {B : Type 0} (p : Pool) where
   fed-at (a ∷ parts) (b ∷ posters) zero now all at = (a, refl, refl, (let e : b ≡ now = cc in subst (IsFed p a) e all.0))
   fed-at (a ∷ parts) (b ∷ posters) (suc k) now all at = fed-at parts posters k now all.1 at
 
--- a new poster has sent nothing
-new-sent : (ring : ℕ) (outward : List Outward) (actor : ℕ) → All (IsNewOut ring) outward → sent_to outward actor ≡ []
-new-sent ring [] actor new = refl
-new-sent ring (w ∷ outward) actor new = by_test (w.target == actor) (All-head (IsNewOut ring) w outward new).0 (new-sent ring outward actor (All-tail (IsNewOut ring) w outward new))
-  where
-    by_test : (t : Bool) {l m : List Stamped} → l ≡ [] → m ≡ [] → (if t then l else m) ≡ []
-    by_test true none rest = none
-    by_test false none rest = rest
-
 All-at : {X : Type 0} (P : X → Type 0) (xs : List X) (k : ℕ) (x : X) → All P xs → slice_get xs k ≡ Some x → P x
 All-at P [] k x all at = absurd (let e : ⊥ = cc in e)
 All-at P (y ∷ xs) zero x all at = (let e : y ≡ x = cc in subst P e (All-head P y xs all))
@@ -112,7 +103,7 @@ sent-now plan p actors ring posters feeds parts now same posts new fed fits = re
   each = λ k actor poster lt at.
       let found = fed-at p parts now k poster fed at in
       let begins = All-at (λ (x : Poster). IsNewPoster actors ring (feed_ends x)) posters k found.0.poster new (ap (λ (l : List Poster). slice_get l k) (sym same) ∙ found.1) in
-      let none = new-sent ring (feed_links found.0.poster) actor begins.links in
+      let none = none-sent ring (feed_links found.0.poster) actor begins.links in
       ap (λ (l : List (List (ℕ × Message))). feed_posts actor (slice_get l k)) (sym posts) ∙ ap (feed_posts actor) found.2
       ∙ sym (found.3.sent actor ∙ ap (λ (l : List Stamped). l ++ filter_map (post_for actor) found.0.posts) none);
 }

@@ -1,37 +1,30 @@
 -- What the one poster of a pool sent.
-use Rattle.std.proofs.Common.{◌≡◌, ◌∙◌, ℕ, zero, suc, ◌+◌, ◌<◌, List, [], ◌∷◌, ◌++◌, Bool, true, false, All, length, take, set, get_or, refl, sym, ap, subst, arith, append_assoc}
-use Rattle.std.specs.Prelude.{◌==◌, if◌then◌else◌, None, Some, slice_get}
+use Rattle.std.proofs.Common.{◌≡◌, ◌∙◌, ℕ, zero, suc, ◌+◌, ◌<◌, List, [], ◌∷◌, ◌++◌, All, length, take, set, get_or, refl, sym, ap, subst, arith}
+use Rattle.std.specs.Prelude.{◌==◌, if◌then◌else◌, Some, slice_get}
 use Rattle.std.specs.List.{AllByRecursion, filter_map}
-use Rattle.std.proofs.lemmas.List.{append-nil, take_more}
-use Rattle.std.proofs.lemmas.List.Elements.{All-from_recursion, All-head, All-tail, filter_map-append}
+use Rattle.std.proofs.lemmas.List.{take_more}
+use Rattle.std.proofs.lemmas.List.Elements.{All-head}
 use Rattle.join_base.specs.declared.message.Message.{Message}
 use Rattle.join_base.specs.declared.message.Stamped.{Stamped}
 use Rattle.script_types.specs.declared.plan.Plan.{Plan}
 use Rattle.fair_semantics.specs.Fits.{PostFits}
 use Rattle.fair_semantics.specs.Linked.{feed_posts, post_for}
-use Rattle.schedule_law.specs.Reached.{ValuesFit}
 use Rattle.post_ring.specs.Links.{stamped}
 use Rattle.cell_links.specs.declared.ends.Outward.{Outward}
 use Rattle.cell_links.specs.Ends.{SendsMore, SendsSame, sent_to}
-use Rattle.cell_links.specs.Making.{IsNewOut}
+use Rattle.cell_links.proofs.PosterLemmas.{none-sent}
 use Rattle.actor_cells.specs.Prepared.{IsNewPoster}
 use Rattle.actor_pool.specs.declared.poster.Poster.{Poster}
 use Rattle.actor_pool.specs.Posters.{SendsAll, feed_ends, feed_links}
+use Rattle.actor_pool.proofs.PosterLemmas.{all-more}
 use Rattle.pool_run.specs.Finishing.{AreSent}
+use Rattle.pool_run.proofs.RunLemmas.{feeds-exist, feeds-fit}
 
 -- ---- the posts
 
-posts_each : (plan : Plan) (n : ℕ) (posts : List (ℕ × Message)) → n ≡ length plan.actors → AllByRecursion (PostFits plan) posts → AllByRecursion (λ (post : ℕ × Message). post.0 < n) posts
-posts_each plan n [] same fits = tt
-posts_each plan n (post ∷ posts) same fits = (subst (λ (m : ℕ). post.0 < m) (sym same) fits.0.actor, posts_each plan n posts same fits.1)
-
 -- each is for an actor of the pool
 pub posts_exist : (plan : Plan) (n : ℕ) (posts : List (ℕ × Message)) → n ≡ length plan.actors → AllByRecursion (PostFits plan) posts → All (λ (post : ℕ × Message). post.0 < n) posts
-posts_exist plan n posts same fits = All-from_recursion (λ (post : ℕ × Message). post.0 < n) posts (posts_each plan n posts same fits)
-
-values_fit : (plan : Plan) (posts : List (ℕ × Message)) → AllByRecursion (PostFits plan) posts → AllByRecursion (λ (post : ℕ × Message). ValuesFit post.1) posts
-values_fit plan [] fits = tt
-values_fit plan (post ∷ posts) fits = (fits.0.message.values, values_fit plan posts fits.1)
+posts_exist plan n posts same fits = All-head (All (λ (post : ℕ × Message). post.0 < n)) posts [] (feeds-exist plan n (posts ∷ []) same (fits, tt))
 
 -- ---- what was sent
 
@@ -40,22 +33,12 @@ pub sent_later : (a b c : List Outward) (target : ℕ) (message other : Message)
 sent_later a b c target message other is same more =
     subst (λ (m : Message). SendsMore a target (stamped m 0) c) is (λ actor. more actor ∙ ap (λ (l : List Stamped). if target == actor then l ++ stamped other 0 ∷ [] else l) (same actor))
 
-one_more : (a b c : List Outward) (done : List (ℕ × Message)) (post : ℕ × Message) → SendsAll a done b → SendsMore b (post.0) (stamped (post.1) 0) c → SendsAll a (done ++ post ∷ []) c
-one_more a b c done post all more actor =
-    let one = by_test (post.0 == actor) (sent_to b actor) in
-    more actor ∙ one ∙ ap (λ (l : List Stamped). l ++ filter_map (post_for actor) (post ∷ [])) (all actor)
-    ∙ append_assoc (sent_to a actor) (filter_map (post_for actor) done) (filter_map (post_for actor) (post ∷ [])) ∙ ap (λ (l : List Stamped). sent_to a actor ++ l) (sym (filter_map-append (post_for actor) done (post ∷ [])))
-  where
-    by_test : (t : Bool) (l : List Stamped) → (if t then l ++ stamped (post.1) 0 ∷ [] else l) ≡ l ++ filter_map (λ (x : ℕ × Message). if t then Some (stamped (post.1) 0) else None) (post ∷ [])
-    by_test true l = refl
-    by_test false l = sym (append-nil l)
-
 -- a copy of the next post
 pub sent_more : (posts : List (ℕ × Message)) (i : ℕ) (a b c : List Outward) (post : ℕ × Message) (own : Message) → i < length posts → post ≡ get_or posts i post → own ≡ post.1
     → SendsAll a (take i posts) b → SendsMore b (post.0) (stamped own 0) c → SendsAll a (take (i + 1) posts) c
 sent_more posts i a b c post own lt at copied all more =
     let longer = take_more posts i post lt ∙ ap (λ (p : ℕ × Message). take i posts ++ p ∷ []) (sym at) in
-    subst (λ (done : List (ℕ × Message)). SendsAll a done c) (sym longer) (one_more a b c (take i posts) post all (subst (λ (m : Message). SendsMore b (post.0) (stamped m 0) c) copied more))
+    subst (λ (done : List (ℕ × Message)). SendsAll a done c) (sym longer) (all-more a b c (take i posts) post all (subst (λ (m : Message). SendsMore b (post.0) (stamped m 0) c) copied more))
 
 -- ---- the pool
 
@@ -67,15 +50,6 @@ only_one (y ∷ z ∷ xs) x one at = absurd (omega (arith, one))
 
 pub set_one : {X : Type 0} (xs : List X) (x y : X) → xs ≡ x ∷ [] → set xs 0 y ≡ y ∷ []
 set_one xs x y is = ap (λ l. set l 0 y) is
-
--- a new poster has sent nothing
-new_sent : (ring : ℕ) (outward : List Outward) (actor : ℕ) → All (IsNewOut ring) outward → sent_to outward actor ≡ []
-new_sent ring [] actor new = refl
-new_sent ring (w ∷ outward) actor new = by_test (w.target == actor) (All-head (IsNewOut ring) w outward new).0 (new_sent ring outward actor (All-tail (IsNewOut ring) w outward new))
-  where
-    by_test : (t : Bool) {l m : List Stamped} → l ≡ [] → m ≡ [] → (if t then l else m) ≡ []
-    by_test true none rest = none
-    by_test false none rest = rest
 
 sent_at : (before after : Poster) (posts : List (ℕ × Message)) (actor k : ℕ) (poster : Poster) → sent_to (feed_links before) actor ≡ [] → SendsAll (feed_links before) posts (feed_links after)
     → slice_get (after ∷ []) k ≡ Some poster → feed_posts actor (slice_get (posts ∷ []) k) ≡ sent_to (feed_links poster) actor
@@ -91,6 +65,6 @@ are_sent plan actors ring posters now before after posts was is new fits sent =
     let begins = All-head (λ (poster : Poster). IsNewPoster actors ring (feed_ends poster)) before [] (subst (All (λ (poster : Poster). IsNewPoster actors ring (feed_ends poster))) was new) in
     record {
       count = sym (ap length is);
-      values = (values_fit plan posts fits, tt);
-      each = λ k actor poster lt at. sent_at before after posts actor k poster (new_sent ring (feed_links before) actor begins.links) sent (subst (λ (l : List Poster). slice_get l k ≡ Some poster) is at);
+      values = feeds-fit plan (posts ∷ []) (fits, tt);
+      each = λ k actor poster lt at. sent_at before after posts actor k poster (none-sent ring (feed_links before) actor begins.links) sent (subst (λ (l : List Poster). slice_get l k ≡ Some poster) is at);
     }
