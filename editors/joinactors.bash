@@ -8,19 +8,22 @@ _joinactors() {
   local word=${COMP_WORDS[COMP_CWORD]} before=${COMP_WORDS[COMP_CWORD - 1]} command=${COMP_WORDS[1]}
   COMPREPLY=()
   if ((COMP_CWORD == 1)); then
-    mapfile -t COMPREPLY < <(compgen -W "run ask check lint replay load" -- "$word")
+    mapfile -t COMPREPLY < <(compgen -W "run ask watch check lint replay load" -- "$word")
     return
   fi
   case $before in
-    --arrivals | --partials | --workers | --ring) return ;;
+    --arrivals | --partials | --workers | --ring | --monitors) return ;;
   esac
   if [[ $word == -* ]]; then
-    [[ $command == run || $command == ask ]] && mapfile -t COMPREPLY < <(compgen -W "--arrivals --partials --workers --ring" -- "$word")
+    case $command in
+      run | ask) mapfile -t COMPREPLY < <(compgen -W "--arrivals --partials --workers --ring" -- "$word") ;;
+      watch) mapfile -t COMPREPLY < <(compgen -W "--arrivals --partials --workers --ring --monitors" -- "$word") ;;
+    esac
     return
   fi
   case $command:$COMP_CWORD in
-    run:2 | ask:2 | check:2 | lint:2 | replay:2) _joinactors_scripts "$word" ;;
-    run:* | ask:*) mapfile -t COMPREPLY < <(compgen -f -- "$word") ;;
+    run:2 | ask:2 | watch:2 | check:2 | lint:2 | replay:2) _joinactors_scripts "$word" ;;
+    run:* | ask:* | watch:*) mapfile -t COMPREPLY < <(compgen -f -- "$word") ;;
     replay:3) mapfile -t COMPREPLY < <(compgen -f -- "$word") ;;
   esac
 }

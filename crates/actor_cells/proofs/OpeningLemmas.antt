@@ -19,9 +19,8 @@ use Rattle.actor_turn.specs.Rest.{HoldsPartialMatches}
 use Rattle.post_ring.specs.Links.{received}
 use Rattle.post_ring.specs.declared.identity.LinkIdentity.{LinkIdentity}
 use Rattle.cell_links.specs.declared.ends.Inward.{Inward}
-use Rattle.cell_links.specs.declared.ends.Outward.{Outward}
 use Rattle.cell_links.specs.declared.ends.LinkTags.{LinkTags}
-use Rattle.cell_links.specs.Ends.{PosterTag, outward_tag, sent_to}
+use Rattle.cell_links.specs.Ends.{PosterTag, outward_tag}
 use Rattle.cell_links.specs.Making.{IsNewIn}
 use Rattle.cell_links.specs.Wiring.{AreApart, IsWired, Joins, Key, feed_keys, inward_key, inward_keys, outward_key, outward_keys, sending_keys}
 use Rattle.cell_links.proofs.PosterLemmas.{none-sent}

@@ -8,15 +8,17 @@ pub const PROGRAM: &[u8] = b"joinactors: ";
 pub const USAGE: &[u8] = b"usage:
   run SCRIPT FEED.. [OPTION N]..    1 to 16 feeds
   ask SCRIPT FEED.. [OPTION N]..    as run, and then the answer for each row
+  watch SCRIPT FEED.. [OPTION N]..  as run, and then the totals of each actor
   check SCRIPT
   lint SCRIPT
   replay SCRIPT LOG
   load N                            N from 1 to 20000
-the options of run and ask, each at most once:
+the options of run, ask and watch, each at most once:
   --workers N     1 to 64, usually 4
   --ring N        1 to 4096, usually 64
   --arrivals N    1 to 1000000, usually 50000
   --partials N    1 to 1000000, usually 65536
+  --monitors N    1 to 8, usually 1; for watch alone
 ";
 
 pub const NO_MEMORY: &[u8] = b"joinactors: there was not enough memory\n";

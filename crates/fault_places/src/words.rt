@@ -22,6 +22,13 @@ const COMMANDS: &[Command] = &[
         b"a script and 1 to 16 feeds are wanted",
         true,
     ),
+    (
+        b"watch",
+        2,
+        17,
+        b"a script and 1 to 16 feeds are wanted",
+        true,
+    ),
     (b"check", 1, 1, b"one script is wanted", false),
     (b"lint", 1, 1, b"one script is wanted", false),
     (b"replay", 2, 2, b"a script and a log are wanted", false),
@@ -39,6 +46,9 @@ const OPTIONS: &[Choice] = &[
     (b"arrivals", 1_000_000),
     (b"partials", 1_000_000),
 ];
+
+// An option of `watch` alone.
+const MONITORS: Choice = (b"monitors", 8);
 
 /// What is wrong with the words.
 #[derive(Clone, Copy)]
@@ -64,8 +74,13 @@ fn command_named(name: &[u8]) -> Option<Command> {
     COMMANDS.iter().find(|command| command.0 == name).copied()
 }
 
-fn option_named(name: &[u8]) -> Option<Choice> {
-    OPTIONS.iter().find(|option| option.0 == name).copied()
+// The option of a command.
+fn option_named(command: Command, name: &[u8]) -> Option<Choice> {
+    match OPTIONS.iter().find(|option| option.0 == name) {
+        Some(option) => Some(*option),
+        None if command.0 == b"watch".as_slice() && name == MONITORS.0 => Some(MONITORS),
+        None => None,
+    }
 }
 
 // What stands in front of the first `=`, and behind it, where there is one.
@@ -111,7 +126,7 @@ fn wrong_option<'a>(
         return (Some(Wrong::NoOptions(word)), false);
     }
     let (name, value) = cut(text);
-    match option_named(name) {
+    match option_named(command, name) {
         None => (Some(Wrong::NoOption(word)), false),
         Some(option) => (wrong_value(option, value, behind), value.is_none()),
     }

@@ -2,7 +2,6 @@
 -- - from the files to the reply: LoadLemmas, FeedsLemmas, ReplyLemmas
 -- - from the reply to the answer: RunLemmas, TopLemmas
 -- - words and files have one verdict: VerdictLemmas
-pub mod CommandLemmas
 pub mod FeedsLemmas
 pub mod LoadLemmas
 pub mod ReplyLemmas

@@ -4,14 +4,14 @@ use Rattle.std.proofs.lemmas.List.{append-nil}
 use Rattle.std.specs.Prelude.{Result, Ok, Err}
 use Rattle.join_base.specs.Outside.{Files, Told, with_asked}
 use Rattle.script_types.specs.declared.plan.Plan.{Plan}
-use Rattle.command_words.specs.Command.{Command, RunWords, Run, Ask, Check, Replay, Load, Lint}
+use Rattle.command_words.specs.Command.{Command, RunWords, Run, Ask, Watch, Check, Replay, Load, Lint}
 use Rattle.join_command.specs.declared.reply.Reply.{Reply}
 use Rattle.join_command.specs.declared.reply.Reply.TheVariants as reply
 use Rattle.join_command.specs.declared.stop.Stop.{Stop}
 use Rattle.join_command.specs.declared.stop.Stop.TheVariants as stop
 use Rattle.script_types.specs.Typed.{IsTyped}
 use Rattle.join_command.specs.Files.{file_of, log_of}
-use Rattle.join_command.specs.Verdict.{Feeds, FeedsAnswer, Given, IsBeginning, MayAsk, MayAskRun, OfCommand, OfRun, Outcome, Asks, Runs, Refused, ScriptGives, Verdict, asks_feeds, asks_nothing, asks_script, replay_asks_nothing, replay_asks_script, replay_asks_log, fetched, feeds_answer, limits_of, run_of}
+use Rattle.join_command.specs.Verdict.{Feeds, FeedsAnswer, Given, IsBeginning, MayAsk, MayAskRun, OfCommand, OfRun, Outcome, Asks, Runs, Watches, Refused, ScriptGives, Verdict, asks_feeds, asks_nothing, asks_script, replay_asks_nothing, replay_asks_script, replay_asks_log, fetched, feeds_answer, limits_of, run_of}
 use Rattle.join_command.specs.Loading.{LoadsFeeds, LoadsLog, LoadsScript, ReadsFeeds, ReadsLog, StopsFeeds, StopsScript, Tells, stopped_by}
 use Rattle.join_command.specs.Replying.{OfStop, Replies, replied_with, verdict_of}
 
@@ -40,7 +40,7 @@ module _ (command : Command) (name : List ℕ) (none : (files : Files) → MayAs
   stopped (Some before) None why loaded = absurd loaded
   stopped (Some before) (Some now) why loaded = stops before now why loaded
 
--- ---- `run` and `ask`
+-- ---- `run`, `ask` and `watch`
 
 module _ (command : Command) (run : RunWords) (outcome : Outcome) (may : (files : Files) (names : List (List ℕ)) → MayAskRun files run names → MayAsk files command names)
     (of : (files : Files) (verdict : Verdict) → OfRun outcome files run verdict → OfCommand files command verdict) where
@@ -108,6 +108,19 @@ module _ (run : RunWords) where
     pub ask_replied : (before mid now : Option Told) (all : Feeds) → Tells before mid (λ b n. LoadsScript b n run.script (Ok plan)) → Tells mid now (λ b n. LoadsFeeds b n plan run.feeds (Ok all))
         → Tells before now (λ b n. Replies (Ask run) b n (Ok (reply.Ask plan run.options all)))
     ask_replied before mid now all = loaded_replied (Ask run) run Asks (λ files names m. m) (λ files verdict o. o) plan all (reply.Ask plan run.options all) refl before mid now
+
+module _ (run : RunWords) (monitors : ℕ) where
+  pub watch_script_stopped : (before now : Option Told) (why : Stop) → Tells before now (λ b n. LoadsScript b n run.script (Err why)) → Tells before now (λ b n. Replies (Watch run monitors) b n (Err why))
+  watch_script_stopped = loading_script_stopped (Watch run monitors) run Watches (λ files names m. m) (λ files verdict o. o)
+
+  module _ (plan : Plan) where
+    pub watch_feeds_stopped : (before mid now : Option Told) (why : Stop) → Tells before mid (λ b n. LoadsScript b n run.script (Ok plan)) → Tells mid now (λ b n. LoadsFeeds b n plan run.feeds (Err why))
+        → Tells before now (λ b n. Replies (Watch run monitors) b n (Err why))
+    watch_feeds_stopped = loading_feeds_stopped (Watch run monitors) run Watches (λ files names m. m) (λ files verdict o. o) plan
+
+    pub watch_replied : (before mid now : Option Told) (all : Feeds) → Tells before mid (λ b n. LoadsScript b n run.script (Ok plan)) → Tells mid now (λ b n. LoadsFeeds b n plan run.feeds (Ok all))
+        → Tells before now (λ b n. Replies (Watch run monitors) b n (Ok (reply.Watch plan run.options all monitors)))
+    watch_replied before mid now all = loaded_replied (Watch run monitors) run Watches (λ files names m. m) (λ files verdict o. o) plan all (reply.Watch plan run.options all monitors) refl before mid now
 
 -- ---- `check`
 

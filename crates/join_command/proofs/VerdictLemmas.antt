@@ -1,5 +1,5 @@
 -- Words and files have one verdict.
-use Rattle.std.proofs.Common.{◌≡◌, ◌⊎◌, inl, inr, ℕ, ◌+◌, Bool, true, false, List, Option, None, Some, refl, sym, ap, ◌∙◌, subst, arith}
+use Rattle.std.proofs.Common.{◌≡◌, inl, inr, ℕ, ◌+◌, Bool, true, false, List, Option, None, Some, refl, sym, ap, ◌∙◌, subst, arith}
 use Rattle.std.specs.Prelude.{Result, Ok, Err, nat_lt}
 use Rattle.std.proofs.lemmas.Bool.Decides.{nat_tests}
 use Rattle.join_base.specs.Outside.{Files}
@@ -16,7 +16,7 @@ use Rattle.script_check.specs.Script.{NoPlanAndFault, OneScriptFault, OneScriptP
 use Rattle.command_words.specs.Command.{Command, RunWords, Run, Check, Replay, Load, Watch, Lint, Ask}
 use Rattle.join_command.specs.Command.{command_of}
 use Rattle.join_command.specs.Files.{File, Absent, Long, Holds, file_of, log_of}
-use Rattle.join_command.specs.Verdict.{Verdict, Accepts, Checks, Lints, LogRefused, OfLog, checked_as, ScriptRefused, OfCommand, OfRun, Outcome, Runs, Asks, OfScript, OfWords, OneVerdict, ScriptGives, ScriptStops, feeds_answer, limits_of, run_of}
+use Rattle.join_command.specs.Verdict.{Verdict, Accepts, Checks, Lints, LogRefused, OfLog, checked_as, ScriptRefused, OfCommand, OfRun, Outcome, Runs, Asks, Watches, OfScript, OfWords, OneVerdict, ScriptGives, ScriptStops, feeds_answer, limits_of, run_of}
 
 -- a script has one plan or one fault, and a log is that of one run or has one line at fault
 pub record HaveOneAnswer : Type 0 where
@@ -105,9 +105,9 @@ module _ (one : HaveOneAnswer) where
   command_once files (Replay script log) v w a b =
       script_once (file_of files script) (λ plan verdict. IsTyped plan × OfLog plan (log_of files log) verdict) (λ plan first other x y. log_once plan x.0 (log_of files log) first other x.1 y.1) v w a b
   command_once files (Load rows) v w a b = a ∙ sym b
-  command_once files (Watch run monitors) v w a b = absurd a
   command_once files (Lint script) v w a b = script_once (file_of files script) (λ plan verdict. verdict ≡ Lints plan) (λ plan one other x y. x ∙ sym y) v w a b
   command_once files (Ask run) v w a b = run_once files Asks run v w a b
+  command_once files (Watch run monitors) v w a b = run_once files Watches run v w a b
 
   words_once : (files : Files) (command : Option Command) (v w : Verdict) → OfWords files command v → OfWords files command w → v ≡ w
   words_once files None v w a b = a ∙ sym b

@@ -3,7 +3,7 @@ use Rattle.std.specs.Prelude.{◌≡◌, ◌⊎◌, ℕ, List, ◌∷◌, [], �
 use Rattle.join_base.specs.declared.outside.FetchFault.{FetchFault}
 use Rattle.join_base.specs.declared.outside.FetchFault.TheVariants as fetch
 use Rattle.join_base.specs.declared.message.Message.{Message}
-use Rattle.join_base.specs.Outside.{Files, Told, Rises, with_asked}
+use Rattle.join_base.specs.Outside.{Told, Rises, with_asked}
 use Rattle.script_grammar.specs.declared.fault.ScriptFault.{ScriptFault}
 use Rattle.script_grammar.specs.declared.fault.ScriptFault.TheVariants as script
 use Rattle.script_types.specs.declared.plan.Plan.{Plan}

@@ -12,6 +12,7 @@ use Rattle.fair_semantics.specs.Linked.{IsLinked}
 use Rattle.run_order.specs.Order.{IsScheduled}
 use Rattle.arrival_log.specs.LogText.{log_text}
 use Rattle.feed_answers.specs.AnswersText.{answers_text}
+use Rattle.watch_run.specs.BoardText.{board_text}
 use Rattle.script_grammar.specs.declared.fault.ScriptCause.{ScriptCause}
 use Rattle.script_grammar.specs.declared.fault.ScriptCause.TheVariants as cause
 use Rattle.sensor_feed.specs.declared.fault.FeedCause.{FeedCause}
@@ -26,7 +27,7 @@ use Rattle.plan_text.specs.PlanText.{plan_text}
 use Rattle.join_command.specs.declared.status.Status.{Status}
 use Rattle.join_command.specs.declared.status.Status.TheVariants as status
 use Rattle.join_command.specs.LintText.{lint_text}
-use Rattle.join_command.specs.Verdict.{Feeds, limits_of, Verdict, Usage, TooLong, ScriptRefused, FeedRefused, Checks, Lints, Runs, Asks, Loads, Accepts, LogRefused}
+use Rattle.join_command.specs.Verdict.{Feeds, limits_of, Verdict, Usage, TooLong, ScriptRefused, FeedRefused, Checks, Lints, Runs, Asks, Watches, Loads, Accepts, LogRefused}
 
 abbrev pub line : List ℕ → List ℕ
 line text = text ++ 10 ∷ []
@@ -111,6 +112,15 @@ pub record IsLogWithAnswers (plan : Plan) (limits : Limits) (feeds : Feeds) (ans
   pub text : output ≡ log_text plan run ++ answers_text run feeds
   pub told : answer ≡ run_status run
 
+-- the output is such a log, and then a line for each actor with the totals of its run
+pub record IsLogWithTotals (plan : Plan) (limits : Limits) (feeds : Feeds) (answer : Status) (output : List ℕ) : Type 0 where
+  pub run : Run
+  pub version : run.version ≡ 2
+  pub linked : IsLinked plan limits feeds run
+  pub scheduled : IsScheduled plan limits feeds run
+  pub text : output ≡ log_text plan run ++ board_text plan run
+  pub told : answer ≡ run_status run
+
 -- the limits of `run` where it is given none
 abbrev pub load_limits : Limits
 load_limits = limits_of usual_options
@@ -142,6 +152,7 @@ IsOutput (Checks plan) answer output = (answer ≡ status.Done) × (output ≡ p
 IsOutput (Lints plan) answer output = (answer ≡ status.Done) × (output ≡ lint_text plan)
 IsOutput (Runs plan limits feeds) answer output = IsLog plan limits feeds answer output
 IsOutput (Asks plan limits feeds) answer output = IsLogWithAnswers plan limits feeds answer output
+IsOutput (Watches plan limits feeds) answer output = IsLogWithTotals plan limits feeds answer output
 IsOutput (Loads rows) answer output = IsSummary rows answer output
 IsOutput (Accepts arrivals) answer output = (answer ≡ status.Done) × (output ≡ accepted_line arrivals)
 IsOutput (LogRefused number why) answer output = (answer ≡ status.LogRefused) × (output ≡ log_line number why)

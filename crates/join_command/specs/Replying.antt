@@ -12,7 +12,7 @@ use Rattle.join_command.specs.declared.reply.Reply.{Reply}
 use Rattle.join_command.specs.declared.reply.Reply.TheVariants as reply
 use Rattle.join_command.specs.declared.stop.Stop.{Stop}
 use Rattle.join_command.specs.Loading.{stopped_by}
-use Rattle.join_command.specs.Verdict.{Feeds, Verdict, Accepts, Checks, Lints, Loads, Asks, Runs, MayAsk, OfCommand, limits_of}
+use Rattle.join_command.specs.Verdict.{Feeds, Verdict, Accepts, Checks, Lints, Loads, Asks, Runs, Watches, MayAsk, OfCommand, limits_of}
 
 -- a well typed plan, limits in their range, and 1 to 16 feeds whose posts fit the plan
 pub record AreRunParts (plan : Plan) (limits : Limits) (feeds : Feeds) : Type 0 where
@@ -27,6 +27,7 @@ verdict_of (reply.Check plan) = Checks plan
 verdict_of (reply.Lint plan) = Lints plan
 verdict_of (reply.Run plan options feeds) = Runs plan (limits_of options) feeds
 verdict_of (reply.Ask plan options feeds) = Asks plan (limits_of options) feeds
+verdict_of (reply.Watch plan options feeds monitors) = Watches plan (limits_of options) feeds
 verdict_of (reply.Load rows) = Loads rows
 verdict_of (reply.Accepted arrivals) = Accepts arrivals
 
@@ -37,6 +38,7 @@ IsRunnable (reply.Check plan) = Unit {0}
 IsRunnable (reply.Lint plan) = IsTyped plan
 IsRunnable (reply.Run plan options feeds) = AreRunParts plan (limits_of options) feeds × AreInRange options
 IsRunnable (reply.Ask plan options feeds) = AreRunParts plan (limits_of options) feeds × AreInRange options
+IsRunnable (reply.Watch plan options feeds monitors) = AreRunParts plan (limits_of options) feeds × AreInRange options × IsFrom1To 8 monitors
 IsRunnable (reply.Load rows) = (1 ≤ rows) × (rows ≤ 20000)
 IsRunnable (reply.Accepted arrivals) = Unit {0}
 

@@ -40,6 +40,7 @@ pub data Verdict : Type 0 where
   Lints : (plan : Plan) → Verdict
   Runs : (plan : Plan) (limits : Limits) (feeds : Feeds) → Verdict
   Asks : (plan : Plan) (limits : Limits) (feeds : Feeds) → Verdict
+  Watches : (plan : Plan) (limits : Limits) (feeds : Feeds) → Verdict
   Loads : (rows : ℕ) → Verdict
   Accepts : (arrivals : ℕ) → Verdict
   LogRefused : (line : ℕ) (cause : LogCause) → Verdict
@@ -130,7 +131,7 @@ OfLog plan (Holds bytes) verdict = OfLogBytes plan bytes verdict
 abbrev pub limits_of : RunOptions → Limits
 limits_of options = record { arrivals = options.arrivals; partials = options.partials }
 
--- what comes of a run: its log alone, or its log and the answers of the rows
+-- what comes of a run: its log alone, its log and the answers of the rows, or its log and its totals
 abbrev pub Outcome : Type 0
 Outcome = Plan → Limits → Feeds → Verdict
 
@@ -158,7 +159,7 @@ OfCommand files (Run run) verdict = OfRun Runs files run verdict
 OfCommand files (Check script) verdict = OfCheck files script verdict
 OfCommand files (Replay script log) verdict = OfReplay files script log verdict
 OfCommand files (Load rows) verdict = verdict ≡ Loads rows
-OfCommand files (Watch run monitors) verdict = ⊥
+OfCommand files (Watch run monitors) verdict = OfRun Watches files run verdict
 OfCommand files (Lint script) verdict = OfLint files script verdict
 OfCommand files (Ask run) verdict = OfRun Asks files run verdict
 
@@ -179,7 +180,7 @@ OneVerdict = (words : Words) (files : Files) (one other : Verdict) → IsVerdict
 abbrev pub IsBeginning : {X : Type 0} → List X → List X → Type 0
 IsBeginning {X} front all = (rest : List X) × (front ++ rest ≡ all)
 
--- `run` and `ask` ask for the script, and once the script gives a plan for the feeds in order, up to the first that gives no
+-- `run`, `ask` and `watch` ask for the script, and once the script gives a plan for the feeds in order, up to the first that gives no
 -- posts
 pub data MayAskRun (files : Files) (run : RunWords) : List (List ℕ) → Type 0 where
   asks_nothing : MayAskRun files run []
@@ -202,7 +203,7 @@ MayAsk files (Run run) names = MayAskRun files run names
 MayAsk files (Check script) names = MayAskScript script names
 MayAsk files (Replay script log) names = MayAskReplay files script log names
 MayAsk files (Load rows) names = names ≡ []
-MayAsk files (Watch run monitors) names = names ≡ []
+MayAsk files (Watch run monitors) names = MayAskRun files run names
 MayAsk files (Lint script) names = MayAskScript script names
 MayAsk files (Ask run) names = MayAskRun files run names
 

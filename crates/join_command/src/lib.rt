@@ -31,6 +31,7 @@ mod run;
 mod status;
 mod stop;
 mod top;
+mod watch;
 
 pub use actor_pool::{FreeGate, Gate};
 pub use command::command_of;

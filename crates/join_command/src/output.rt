@@ -20,6 +20,7 @@ use crate::reply::Reply;
 use crate::run::run_feeds;
 use crate::status::Status;
 use crate::stop::{LogCause, Refusal};
+use crate::watch::watch_output;
 use actor_pool::Gate;
 use arrival_log::print_log;
 use building_load::{load_feeds, load_plan, summary};
@@ -198,8 +199,8 @@ fn any_met_limit(actors: &[ActorRun]) -> bool
     actors.iter().any(actor_met_limit)
 }
 
-// `Limits` where an actor was jammed or spent, and else `Done`.
-fn run_status(run: &Run) -> Status
+/// `Limits` where an actor was jammed or spent, and else `Done`.
+pub(crate) fn run_status(run: &Run) -> Status
     ensures status { result ≡ run_status run.now }
     ensures settled { IsSettled result }
 {
@@ -326,6 +327,12 @@ pub fn output_of<R: Threads + Wait + Sync, G: Gate>(
             options,
             feeds,
         } => ask_output(rt, alloc, &plan, options, feeds, gate),
+        Reply::Watch {
+            plan,
+            options,
+            feeds,
+            monitors,
+        } => watch_output(rt, alloc, &plan, options, feeds, gate, monitors),
         Reply::Load { rows } => load_output(rt, alloc, rows, gate),
         Reply::Accepted(arrivals) => Ok((Status::Done, accepted_line(alloc, arrivals)?)),
     }

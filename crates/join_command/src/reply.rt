@@ -1,9 +1,9 @@
 //! What a command and its files come to.
 ghost use Rattle.std.specs.Prelude.{◌≡◌, IfOk};
-ghost use Rattle.command_words.specs.Command.{Ask, Check, Lint, Replay, Run};
+ghost use Rattle.fair_semantics.specs.Fits.{IsFrom1To};
+ghost use Rattle.command_words.specs.Command.{Ask, Check, Lint, Replay, Run, Watch};
 ghost use Rattle.command_words.specs.Ranges.{IsInRange, RunIsInRange};
 ghost use Rattle.command_words.specs.Views.{command_in, run_in};
-ghost use Rattle.join_command.specs.Command.{IsBuilt};
 ghost use Rattle.join_command.specs.Loading.{LoadCause, Tells};
 ghost use Rattle.join_command.specs.Replying.{IsRunnable, Replies};
 
@@ -33,6 +33,13 @@ pub enum Reply {
         plan: Plan,
         options: RunOptions,
         feeds: FeedList,
+    },
+    /// The same, where so many monitors watch, from 1 to 8, and the totals of the actors are asked.
+    Watch {
+        plan: Plan,
+        options: RunOptions,
+        feeds: FeedList,
+        monitors: u32,
     },
     /// How many rows each feed of the building has, from 1 to 20,000.
     Load {
@@ -77,6 +84,33 @@ fn ask_reply<I: Inputs>(alloc: Global, inputs: &mut I, run: &RunWords<'_>) -> Re
                 plan,
                 options: run.options,
                 feeds,
+            }),
+        },
+    }
+}
+
+// What `watch SCRIPT FEED..` comes to.
+fn watch_reply<I: Inputs>(
+    alloc: Global,
+    inputs: &mut I,
+    run: &RunWords<'_>,
+    monitors: u32,
+) -> Result<Reply, Stop>
+    requires in_range { RunIsInRange (run_in run.now) }
+    requires monitors { IsFrom1To 8 monitors }
+    ensures told { Tells (I.tells inputs.old) (I.tells inputs.new) (λ before now. Replies (Watch (run_in run.now) monitors) before now result) }
+    ensures cause { LoadCause (I.faults inputs.old) (I.faults inputs.new) result }
+    ensures runnable { IfOk result IsRunnable }
+{
+    match load_script(alloc, inputs, run.script) {
+        Err(stop) => Err(stop),
+        Ok(plan) => match load_feeds(alloc, inputs, &plan, run.feeds.as_slice()) {
+            Err(stop) => Err(stop),
+            Ok(feeds) => Ok(Reply::Watch {
+                plan,
+                options: run.options,
+                feeds,
+                monitors,
             }),
         },
     }
@@ -133,7 +167,6 @@ pub fn reply_of<I: Inputs>(
     command: &Request<'_>,
     inputs: &mut I,
 ) -> Result<Reply, Stop>
-    requires built { IsBuilt (command_in command.now) }
     requires in_range { IsInRange (command_in command.now) }
     ensures told { Tells (I.tells inputs.old) (I.tells inputs.new) (λ before now. Replies (command_in command.now) before now result) }
     ensures cause { LoadCause (I.faults inputs.old) (I.faults inputs.new) result }
@@ -146,6 +179,6 @@ pub fn reply_of<I: Inputs>(
         Request::Replay { script, log } => replay_reply(alloc, inputs, script, log),
         Request::Load { rows } => Ok(Reply::Load { rows: *rows }),
         Request::Ask(run) => ask_reply(alloc, inputs, run),
-        Request::Watch { .. } => unreachable!(),
+        Request::Watch { run, monitors } => watch_reply(alloc, inputs, run, *monitors),
     }
 }

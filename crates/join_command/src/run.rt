@@ -16,8 +16,8 @@ use std::alloc::Global;
 use std::sync::Wait;
 use std::thread::Threads;
 
-// The limits that the options give.
-fn limits_of(options: RunOptions) -> Limits
+/// The limits that the options give.
+pub(crate) fn limits_of(options: RunOptions) -> Limits
     ensures { result ≡ limits_of options }
 {
     Limits {

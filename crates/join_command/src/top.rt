@@ -2,7 +2,7 @@
 ghost use Rattle.std.specs.Prelude.{◌≡◌, ◌≢◌, ◌⊎◌, None, Err, IfOk};
 ghost use Rattle.command_words.specs.Ranges.{IsInRange};
 ghost use Rattle.command_words.specs.Views.{command_in};
-ghost use Rattle.join_command.specs.Command.{IsBuilt, command_of};
+ghost use Rattle.join_command.specs.Command.{command_of};
 ghost use Rattle.join_command.specs.Counting.{EndsAtFault, MakesFewWrites};
 ghost use Rattle.join_command.specs.Loading.{Tells};
 ghost use Rattle.join_command.specs.Output.{IsSettled};
@@ -49,7 +49,6 @@ fn prepare_command<R: Threads + Wait + Sync, I: Inputs, G: Gate>(
     inputs: &mut I,
     gate: &G,
 ) -> Result<(Status, Bytes), Unanswered>
-    requires built { IsBuilt (command_in command.now) }
     requires in_range { IsInRange (command_in command.now) }
     ensures told { Tells (I.tells inputs.old) (I.tells inputs.new) (λ before now. PreparesCommand (command_in command.now) before now result) }
     ensures cause { PrepareCause (I.faults inputs.old) (I.faults inputs.new) result }
@@ -106,6 +105,10 @@ fn prepare<R: Threads + Wait + Sync, I: Inputs, G: Gate>(
 /// `ask SCRIPT FEED..` has the words and options of `run`, and writes behind the log a line for each row of a feed that
 /// the run replied to, feed by feed and row by row.
 ///
+/// `watch SCRIPT FEED..` has the words and options of `run`, and `--monitors`, 1 to 8. It writes behind the log a line
+/// for each actor with its totals: how many messages arrived, how many of them fired, and how many posts that made.
+/// While the run goes on, so many monitors read these totals on threads of their own.
+///
 /// The first refusal ends the call: `Usage` where the words are no command, `TooLong` where a file has more than
 /// 16,777,216 bytes, or a log more than 268,435,456, `ScriptRefused` where the script has a fault, `FeedRefused` where
 /// a feed has a record in fault, and `LogRefused` where a line of the log is in fault; each writes one line. `Limits`
@@ -125,9 +128,10 @@ pub fn join_main<R: Threads + Wait + Sync, I: Inputs, S: CountingSink, G: Gate>(
 ) -> Status
     // The status and the bytes written are those of the verdict on the words and the files. For a run they are the log
     // of a run that is linked to the posts of the feeds and is that of one schedule of single steps, for `ask` such a log
-    // and the answers that its run gives to the rows of the feeds, for a check the
-    // text of the script's plan, for a lint that of its findings, for `load` the summary of such a run of the building,
-    // and for a replay the number of arrivals of the log, which is that of a run no line of which is in fault.
+    // and the answers that its run gives to the rows of the feeds, for `watch` such a log and the totals of the actors of
+    // its run, for a check the text of the script's plan, for a lint that of its findings, for `load` the summary of such
+    // a run of the building, and for a replay the number of arrivals of the log, which is that of a run no line of which
+    // is in fault.
     ensures answer { AnswersWhereTold words.now (I.tells inputs.old) (S.taken out.old) (I.tells inputs.new) (S.taken out.new) result }
 
     // Inputs that tell were asked only for names that the order fetches, whatever the sink tells.

@@ -93,7 +93,7 @@ fn remark_on(rt: &HostRuntime, name: &Word) -> Result<Bytes, NoMemory> {
 /// What is remarked of the feeds of a run.
 pub fn feeds_remark(rt: &HostRuntime, command: &Request<'_>) -> Result<Bytes, NoMemory> {
     let mut out = Bytes::new(rt.alloc());
-    if let Request::Run(run) | Request::Ask(run) = command {
+    if let Request::Run(run) | Request::Ask(run) | Request::Watch { run, .. } = command {
         for name in run.feeds.as_slice() {
             let remark = remark_on(rt, name)?;
             out.push_all(remark.bytes())?;
@@ -106,7 +106,7 @@ pub fn feeds_remark(rt: &HostRuntime, command: &Request<'_>) -> Result<Bytes, No
 pub fn script_to_remark<'a>(command: &Request<'a>, has_jammed: bool) -> Option<&'a Word> {
     match command {
         Request::Check { script } | Request::Lint { script } => Some(*script),
-        Request::Run(run) | Request::Ask(run) if has_jammed => Some(run.script),
+        Request::Run(run) | Request::Ask(run) | Request::Watch { run, .. } if has_jammed => Some(run.script),
         _ => None,
     }
 }

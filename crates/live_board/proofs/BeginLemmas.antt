@@ -35,3 +35,7 @@ prefix-whole [] (y ∷ ys) p le = absurd (omega arith)
 prefix-whole (x ∷ xs) [] p le = absurd (cc (p.1))
 prefix-whole (x ∷ xs) (y ∷ ys) p le =
     let rest = prefix-whole xs ys (p.0, cc (p.1)) (omega arith) in cc (p.1, rest)
+
+-- what begins a list begins it with one item more
+pub longer-begins : {A : Type 0} (xs ys zs : List A) (y : A) → IsPrefix xs ys → zs ≡ ys ++ y ∷ [] → IsPrefix xs zs
+longer-begins xs ys zs y p more = prefix-trans xs ys zs p (y ∷ [], sym more)

@@ -1,5 +1,6 @@
 //! What the writer of a board does.
-ghost use Rattle.std.specs.Prelude.{◌≡◌, [], ◌∷◌, ◌++◌, drop, length, slice_get, Some, IsOk, MatchResult, OnOk};
+ghost use Rattle.std.specs.Prelude.{◌≡◌, ◌≤◌, [], ◌∷◌, ◌++◌, drop, length, slice_get, Some, IsOk, MatchResult, OnOk};
+ghost use mathlib.Core.List.{IsPrefix};
 ghost use Rattle.left_right.specs.Sides.{view};
 ghost use Rattle.live_board.specs.Folding.{board_of};
 ghost use Rattle.live_board.specs.BoardRule.{Begins};
@@ -53,15 +54,16 @@ impl BoardWriter {
         Ok(())
     }
 
-    /// Publishes the totals of each actor, in order. At `Ok` the published list comes to just these. At `NoMemory`
-    /// those of some first actors may have been published.
+    /// Publishes the totals of each actor, in order, of up to 32. At `Ok` the published list comes to just these on a
+    /// board of so many actors. At `NoMemory` those of some first actors may have been published.
     pub fn publish_all<R: Wait>(&mut self, rt: &R, totals: &TotalsList) -> Result<(), NoMemory>
-        requires rows { length totals.now ≡ row_count self.old }
+        requires few { length totals.now ≤ 32 }
         ensures book { writer_book self.new ≡ writer_book self.old }
         ensures rows { row_count self.new ≡ row_count self.old }
-        ensures board { OnOk result (board_of (row_count self.new) (published self.new) ≡ totals.now) }
+        ensures kept { IsPrefix (published self.old) (published self.new) }
+        ensures board { OnOk result (board_of (length totals.now) (published self.new) ≡ totals.now) }
     {
-        let count = self.room.len() as u32;
+        let count = totals.len() as u32;
         for actor in 0..count {
             let item = Record {
                 actor,
@@ -98,5 +100,19 @@ impl BoardWriter {
         let last = writer.take(rt);
         room.copy_from(&last.totals);
         room
+    }
+
+    /// Ends the board as `close` does, and brings the totals into a board of up to 32 actors.
+    pub fn close_into<R: Wait>(self, rt: &R, into: &mut Board)
+        requires few { length into.old ≤ 32 }
+        ensures folded { into.new ≡ board_of (length into.old) (published self) }
+    {
+        let BoardWriter {
+            writer,
+            head: _,
+            room: _,
+        } = self;
+        let last = writer.take(rt);
+        into.copy_from(&last.totals);
     }
 }

@@ -1,6 +1,6 @@
 -- From what threads gave back to what finishing asks.
-use Rattle.std.proofs.Common.{◌≡◌, ℕ, zero, suc, ◌<◌, List, [], ◌∷◌, ◌++◌, Bool, true, false, All, length, map, refl, sym, ap, ◌∙◌, subst}
-use Rattle.std.specs.Prelude.{Some, slice_get, ◌==◌, if◌then◌else◌}
+use Rattle.std.proofs.Common.{◌≡◌, ℕ, zero, suc, ◌<◌, List, [], ◌∷◌, ◌++◌, All, length, map, refl, sym, ap, ◌∙◌, subst}
+use Rattle.std.specs.Prelude.{Some, slice_get}
 use Rattle.std.specs.List.{AllByRecursion, AllZip, filter_map}
 use Rattle.std.proofs.lemmas.List.{length-map}
 use Rattle.std.proofs.lemmas.List.Elements.{All-nil, All-cons, All-head, All-tail}
@@ -11,8 +11,7 @@ use Rattle.fair_semantics.specs.declared.run.Limits.{Limits}
 use Rattle.fair_semantics.specs.Fits.{PostFits}
 use Rattle.fair_semantics.specs.Linked.{feed_posts, post_for}
 use Rattle.schedule_law.specs.Reached.{FeedsFit, ValuesFit}
-use Rattle.cell_links.specs.declared.ends.Outward.{Outward}
-use Rattle.cell_links.specs.Ends.{PosterTag, sent_to}
+use Rattle.cell_links.specs.Ends.{PosterTag}
 use Rattle.cell_links.proofs.PosterLemmas.{none-sent}
 use Rattle.actor_cells.specs.declared.cell.CellTag.{CellTag}
 use Rattle.actor_cells.specs.Prepared.{AreWired, IsNewPoster}

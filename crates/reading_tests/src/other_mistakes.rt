@@ -201,6 +201,14 @@ const WORDS: &[Words] = &[
         "joinactors: --partials: a number from 1 to 1000000 is wanted, and not 0\n",
     ),
     (
+        "watch --monitors 9 s f",
+        "joinactors: --monitors: a number from 1 to 8 is wanted, and not 9\n",
+    ),
+    (
+        "run --monitors 2 s f",
+        "joinactors: --monitors is no option of run\n",
+    ),
+    (
         "run --workers s f",
         "joinactors: --workers: a number from 1 to 64 is wanted, and not s\n",
     ),

@@ -1,14 +1,13 @@
 -- From trees to the bytes that spell them.
-use Rattle.std.proofs.Common.{◌≡◌, ◌⊎◌, inl, inr, ℕ, List, subst}
+use Rattle.std.proofs.Common.{inl, inr, ℕ, List, subst}
 use Rattle.std.specs.Prelude.{Result, Ok, Err}
 use Rattle.script_grammar.specs.declared.tree.Tree.{Tree}
-use Rattle.script_grammar.specs.declared.fault.ScriptCause.{ScriptCause}
 use Rattle.script_grammar.specs.declared.fault.ScriptFault.{ScriptFault}
 use Rattle.script_grammar.specs.declared.fault.ScriptFault.TheVariants as fault
 use Rattle.script_reader.specs.Spells as reader
 use Rattle.script_types.specs.declared.plan.Plan.{Plan}
 use Rattle.script_check.specs.Types.{Checks, IsFaultOf, NoBoth, OneFault, OnePlan, Types}
-use Rattle.script_check.specs.Script.{GivesPlan, IsScriptFault, NoPlanAndFault, OneScriptFault, OneScriptPlan, ReadsPlan}
+use Rattle.script_check.specs.Script.{NoPlanAndFault, OneScriptFault, OneScriptPlan, ReadsPlan}
 
 -- ---- what is read
 

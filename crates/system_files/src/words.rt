@@ -2,10 +2,9 @@
 use crate::files::FileInputs;
 use join_base::{Bytes, Inputs, NoMemory, Word, WordList};
 use std::alloc::Global;
-use std::env;
-use std::fs;
 use std::io::ErrorKind;
 use std::rt::{Env, Files};
+use std::{env, fs};
 
 // The words after the program's name.
 fn words_of(alloc: Global, args: env::Args) -> Result<WordList, NoMemory> {

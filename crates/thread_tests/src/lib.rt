@@ -22,3 +22,5 @@ mod runs;
 mod tickets;
 #[cfg(test)]
 mod turns;
+#[cfg(test)]
+mod watching;

@@ -4,8 +4,7 @@ use Rattle.std.specs.Prelude.{Err}
 use Rattle.script_grammar.specs.declared.fault.ScriptCause.{ScriptCause}
 use Rattle.script_grammar.specs.declared.fault.ScriptFault.{ScriptFault}
 use Rattle.script_grammar.specs.declared.fault.ScriptFault.TheVariants as fault
-use Rattle.script_check.specs.Script.{GivesPlan, IsScriptFault, NoPlanAndFault, ReadsPlan}
-use Rattle.script_types.specs.declared.plan.Plan.{Plan}
+use Rattle.script_check.specs.Script.{IsScriptFault, NoPlanAndFault, ReadsPlan}
 use Rattle.fault_places.specs.declared.place.Place.{Place}
 use Rattle.fault_places.specs.Places.{column_number, line_number}
 use Rattle.uses.specs.Script.{IsFaultAt, IsFaultOf}

@@ -19,6 +19,7 @@ mod scripts;
 mod several;
 mod telling;
 mod varying;
+mod watched;
 mod words;
 
 use std::io;
@@ -31,6 +32,7 @@ fn main(rt: HostRuntime) -> io::Result<()> {
     all &= feeds::are_right(&rt, alloc);
     all &= runs::are_right(&rt, alloc);
     all &= asked::are_right(&rt, alloc);
+    all &= watched::are_right(&rt, alloc);
     all &= several::are_right(&rt, alloc);
     all &= varying::are_right(&rt, alloc);
     all &= logs::are_right(&rt, alloc);

@@ -80,7 +80,6 @@ const OTHERS: &[Refused] = &[
     ),
     ("version option", &["--version"]),
     ("watch no monitor", &["watch", "--monitors", "0", "s", "f"]),
-    ("watch is no command", &["watch", "s", "f"]),
     (
         "watch too many monitors",
         &["watch", "--monitors", "9", "s", "f"],

@@ -1,7 +1,9 @@
-use Rattle.std.proofs.Common.{◌≡◌, ◌+◌, ℕ, List, take, sym, ap, subst, ◌∙◌, arith}
+use Rattle.std.proofs.Common.{◌≡◌, ◌+◌, ◌∷◌, [], ℕ, List, length, take, refl, sym, ap, subst, ◌∙◌, arith}
+use mathlib.Core.List.{IsPrefix}
 use Rattle.live_board.specs.declared.record.Record.{Record}
 use Rattle.live_board.specs.Folding.{board_of}
-use Rattle.live_board.specs.Writers.{published, row_count}
+use Rattle.live_board.specs.Writers.{published}
+use Rattle.live_board.proofs.BeginLemmas.{longer-begins}
 use Rattle.live_board.proofs.FoldLemmas.{board-length, board-more, row-more, take-whole}
 use Rattle.live_board.proofs.writer.BoardWriter.publish_all.Goals as goal
 
@@ -9,20 +11,20 @@ pub loop-actor-preserved : goal.loop-actor-preserved
 loop-actor-preserved g c =
     let before = c.loop-actor.invariant in
     let step = c.in_ok-publish.ensures in
-    let rows = row_count c.args.self.now in
+    let rows = length c.args.totals.now in
     let old = published c.loop-actor.self in
     let item : Record = record { actor = c.loop-actor.actor; totals = c.at.result.now } in record {
       book = step.book ∙ before.book;
       rows = step.rows ∙ before.rows;
+      kept = longer-begins _ old _ item before.kept step.published;
       done = ap (λ (l : List Record). take (c.loop-actor.actor + 1) (board_of rows l)) step.published ∙ ap (take (c.loop-actor.actor + 1)) (board-more rows old item)
-          ∙ row-more (board_of rows old) c.args.totals.now c.loop-actor.actor c.at.result.now (board-length rows old ∙ sym c.requires.rows) c.at.ensures.item before.done;
+          ∙ row-more (board_of rows old) c.args.totals.now c.loop-actor.actor c.at.result.now (board-length rows old) c.at.ensures.item before.done;
     }
 
 pub returns-clause-board : goal.returns-clause-board
 returns-clause-board g c =
     let before = c.loop-actor.invariant in
-    let rows = row_count c.args.self.now in
+    let rows = length c.args.totals.now in
     let now = published c.loop-actor.self in
     let end : c.loop-actor.actor ≡ rows = omega (arith, c.loop-actor-test.false, c.loop-actor.auto.actor-end, c.len-count.ensures.same) in
-    ap (λ (r : ℕ). board_of r now) before.rows ∙ take-whole (board_of rows now) c.args.totals.now rows (board-length rows now) c.requires.rows
-    (subst (λ (n : ℕ). take n (board_of rows now) ≡ take n c.args.totals.now) end before.done)
+    take-whole (board_of rows now) c.args.totals.now rows (board-length rows now) refl (subst (λ (n : ℕ). take n (board_of rows now) ≡ take n c.args.totals.now) end before.done)

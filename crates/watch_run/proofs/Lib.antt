@@ -1,0 +1,5 @@
+-- The lemmas by topic:
+-- - how many arrivals an actor of a run has: BoundLemmas
+-- - the line of one more actor: LineLemmas
+mod BoundLemmas
+mod LineLemmas
