@@ -1,10 +1,9 @@
 -- Where no name is declared twice, no two names of the plan are one.
-use Rattle.std.proofs.Common.{◌≡◌, ◌∙◌, ℕ, ◌+◌, Bool, true, false, cond, not, ◌==◌, List, [], ◌∷◌, ◌++◌, map, Option, None, Some, Decides, refl, sym, ap, subst, arith}
+use Rattle.std.proofs.Common.{◌≡◌, ◌∙◌, ℕ, ◌+◌, Bool, true, false, cond, not, ◌==◌, List, [], ◌∷◌, map, Option, None, Some, refl, sym, ap, subst, arith}
 use Rattle.std.specs.Option.{option_map}
 use Rattle.std.specs.List.{AllByRecursion}
 use Rattle.std.specs.Str.{bytes_eq}
 use Rattle.std.proofs.lemmas.Bool.Decides.{nat_tests}
-use Rattle.std.proofs.lemmas.Slice.Eq.{bytes_eq-Decides}
 use Rattle.join_base.specs.declared.message.Sort.{Sort}
 use Rattle.script_grammar.specs.declared.tree.FieldDecl.{FieldDecl}
 use Rattle.script_grammar.specs.declared.tree.MessageDecl.{MessageDecl}
@@ -14,8 +13,6 @@ use Rattle.script_names.specs.Names.{names_of, number_of}
 use Rattle.script_names.specs.Scope.{actor_rows, field_rows, message_rows}
 use Rattle.script_names.proofs.NameLemmas.{eq_sym}
 use Rattle.script_grammar.specs.declared.fault.ScriptCause.TheVariants.{TwiceDeclared}
-use Rattle.script_types.specs.declared.plan.Kind.{Kind}
-use Rattle.script_types.specs.declared.plan.ActorPlan.{ActorPlan}
 use Rattle.script_types.specs.Names.{AreApart, AreNames, AreOwnNames, actor_names, field_names, kind_names}
 use Rattle.script_faults.specs.First.{fault_if}
 use Rattle.script_faults.specs.Faults.{is_other, own_place, twice_declared, twice_from}
