@@ -26,12 +26,12 @@ fn write_totals(text: &mut Bytes, totals: Totals) -> Result<(), NoMemory>
 }
 
 // The line of an actor. Without memory a part of it may stay.
-fn write_row(text: &mut Bytes, actor: &ActorPlan, totals: Totals) -> Result<(), NoMemory>
-    ensures { OnOk result (text.new ≡ text.old ++ board_line actor.now totals) }
+fn write_row(text: &mut Bytes, actor: &ActorPlan, totals: &Totals) -> Result<(), NoMemory>
+    ensures { OnOk result (text.new ≡ text.old ++ board_line actor.now totals.now) }
 {
     text.push_all(b"board ")?;
     text.push_all(actor.name.bytes())?;
-    write_totals(text, totals)?;
+    write_totals(text, *totals)?;
     text.push_all(b"\n")
 }
 
@@ -41,7 +41,7 @@ fn write_rows(text: &mut Bytes, plan: &Plan, rows: &[Totals]) -> Result<(), NoMe
     ensures { OnOk result (text.new ≡ text.old ++ board_lines plan.now.actors rows.now) }
 {
     for (place, totals) in rows.iter().enumerate() {
-        write_row(text, plan.actors.at(place), *totals)?;
+        write_row(text, plan.actors.at(place), totals)?;
     }
     Ok(())
 }

@@ -26,5 +26,5 @@ returns-clause-board g c =
     let before = c.loop-actor.invariant in
     let rows = length c.args.totals.now in
     let now = published c.loop-actor.self in
-    let end : c.loop-actor.actor ≡ rows = omega (arith, c.loop-actor-test.false, c.loop-actor.auto.actor-end, c.len-count.ensures.same) in
+    let end : c.loop-actor.actor ≡ rows = omega (arith, c.loop-actor-test.false, c.loop-actor.auto.actor-end, c.len-count.ensures.count) in
     take-whole (board_of rows now) c.args.totals.now rows (board-length rows now) refl (subst (λ (n : ℕ). take n (board_of rows now) ≡ take n c.args.totals.now) end before.done)
