@@ -1,5 +1,7 @@
 -- When an answerer fits: as it reads, as arrivals go on, and beside another actor.
-use Rattle.std.proofs.Common.{◌≡◌, ◌≢◌, ◌∙◌, ◌⊎◌, inl, inr, ◌+◌, ◌≤◌, ℕ, zero, suc, List, [], ◌++◌, Option, Some, length, replicate, take, slice_get, slice_set, refl, sym, ap, subst, arith}
+use mathlib.Core.Logic.{dite}
+use native.Mathlib.Decide.{ℕ_discrete}
+use Rattle.std.proofs.Common.{◌≡◌, ◌≢◌, ◌∙◌, ◌⊎◌, inl, inr, ◌+◌, ◌≤◌, ℕ, zero, suc, List, [], ◌++◌, Option, Some, IsSome, length, replicate, take, slice_get, slice_set, refl, sym, ap, subst, arith}
 use Rattle.std.proofs.lemmas.List.{length-replicate, length-set, length-take-le, take-append-le, take_all}
 use Rattle.join_base.specs.declared.message.Value.{Value}
 use Rattle.pattern_core.specs.Members.{IsIn}
@@ -16,7 +18,7 @@ use Rattle.answerer.specs.declared.answering.Answers.{Answers}
 use Rattle.answerer.specs.declared.noting.Progress.{Progress}
 use Rattle.answerer.specs.declared.reading.Answerer.{Answerer}
 use Rattle.answerer.specs.Asks.{AreNoted, ask_at, asks_behind, asks_of}
-use Rattle.answerer.specs.Answered.{Answered, AreTriedBack, IsAnswer, IsOfBoard, IsTried, known}
+use Rattle.answerer.specs.Answered.{Answered, AreKnown, AreTriedBack, IsAnswer, IsOfBoard, IsTried, known}
 use Rattle.answerer.specs.Fit.{Fits, FitsGrow, FitsIn, FitsNothing, IsAlike, IsReply, KeepsOthers, not_read, or_not_read, progress_of}
 use Rattle.answerer.proofs.AskLemmas.{ask_front, ask_stays, asks_actor, asks_go_on, get_within, length_asks, noted_grow}
 use Rattle.answerer.proofs.AnsweredLemmas.{effects-append, stays_on}
@@ -144,7 +146,7 @@ fits_in_grow actor entries more p a fit =
     }
 
 pub fits_grow : FitsGrow
-fits_grow answerer actor entries more fit = record { rows = fit.rows; fits = fits_in_grow actor entries more (progress_of answerer actor) answerer.answers fit.fits }
+fits_grow answerer actor entries more fit = record { rows = fit.rows; known = fit.known; fits = fits_in_grow actor entries more (progress_of answerer actor) answerer.answers fit.fits }
 
 -- ---- the rows of all actors
 
@@ -158,6 +160,7 @@ fits_nothing answerer n many of none rows actor =
     let nothing : progress_of answerer actor ≡ not_read = ap (λ (own : List Progress). or_not_read (slice_get own actor)) rows ∙ none_read n actor in
     record {
       rows = ap length rows ∙ length-replicate n not_read ∙ many;
+      known = λ ask h. absurd (subst (IsIn ask) none h);
       fits = subst (λ (p : Progress). FitsIn actor [] p answerer.answers) (sym nothing) record {
         of_board = of;
         noted = record { few = omega arith; same = refl };
@@ -170,18 +173,30 @@ fits_nothing answerer n many of none rows actor =
 pub fits_there : (old : Answerer) (actor : ℕ) (entries : List Entry) (p : Progress) → slice_get old.progress actor ≡ Some p → Fits old actor entries → FitsIn actor entries p old.answers
 fits_there old actor entries p at fit = subst (λ (q : Progress). FitsIn actor entries q old.answers) (ap or_not_read at) fit.fits
 
-pub fits_read : (old : Answerer) (actor : ℕ) (entries : List Entry) (p q : Progress) (b : Answers) → slice_get old.progress actor ≡ Some p → Fits old actor entries → FitsIn actor entries q b
+-- what was listed before stays known, and of what this actor replied a value is known too
+known_read : (actor : ℕ) (entries : List Entry) (q : Progress) (a b : Answers) → AreKnown a → FitsIn actor entries q b → ((other : ℕ) → other ≢ actor → IsAlike other a b) → AreKnown b
+known_read actor entries q a b before now alike ask h =
+    dite (ℕ_discrete ask.actor actor)
+    (λ (same : ask.actor ≡ actor).
+    let (value, is, reply) = now.answered ask h same in
+    subst (λ (o : Option Value). IsSome o) (sym is) refl)
+    (λ (differ : ask.actor ≢ actor).
+    let other = alike ask.actor differ in
+    subst (λ (o : Option Value). IsSome o) (sym (other.known_same ask refl)) (before ask (other.back ask refl h)))
+
+pub fits_read : (old : Answerer) (actor : ℕ) (entries : List Entry) (p q : Progress) (b : Answers) → slice_get old.progress actor ≡ Some p → Fits old actor entries → FitsIn actor entries q b → ((other : ℕ) → other ≢ actor → IsAlike other old.answers b)
     → Fits (record { answers = b; progress = slice_set old.progress actor q }) actor entries
-fits_read old actor entries p q b at fit now =
+fits_read old actor entries p q b at fit now alike =
     let here : slice_get (slice_set old.progress actor q) actor ≡ Some q = get_same old.progress actor p q at in
     record {
       rows = length-set old.progress actor q ∙ fit.rows;
+      known = known_read actor entries q old.answers b fit.known now alike;
       fits = subst (λ (r : Progress). FitsIn actor entries r b) (sym (ap or_not_read here)) now;
     }
 
-pub others_read : (old : Answerer) (actor : ℕ) (entries : List Entry) (p q : Progress) (b : Answers) → slice_get old.progress actor ≡ Some p → Fits old actor entries → ((other : ℕ) → other ≢ actor → IsAlike other old.answers b)
+pub others_read : (old : Answerer) (actor : ℕ) (entries : List Entry) (p q : Progress) (b : Answers) → slice_get old.progress actor ≡ Some p → Fits old actor entries → FitsIn actor entries q b → ((other : ℕ) → other ≢ actor → IsAlike other old.answers b)
     → KeepsOthers old (record { answers = b; progress = slice_set old.progress actor q }) actor
-others_read old actor entries p q b at fit alike = λ other differ own. (forward other differ own, backward other differ own)
+others_read old actor entries p q b at fit read alike = λ other differ own. (forward other differ own, backward other differ own)
   where
     now : Answerer
     now = record { answers = b; progress = slice_set old.progress actor q }
@@ -192,11 +207,13 @@ others_read old actor entries p q b at fit alike = λ other differ own. (forward
     forward : (other : ℕ) → other ≢ actor → (own : List Entry) → Fits old other own → Fits now other own
     forward other differ own f = record {
       rows = length-set old.progress actor q ∙ fit.rows;
+      known = known_read actor entries q old.answers b fit.known read alike;
       fits = subst (λ (r : Progress). FitsIn other own r b) (sym (same other differ)) (fits_alike other own (progress_of old other) old.answers b (alike other differ) f.fits);
     }
 
     backward : (other : ℕ) → other ≢ actor → (own : List Entry) → Fits now other own → Fits old other own
     backward other differ own f = record {
       rows = fit.rows;
+      known = fit.known;
       fits = fits_alike other own (progress_of old other) b old.answers (alike_back other old.answers b fit.fits.of_board (alike other differ)) (subst (λ (r : Progress). FitsIn other own r b) (same other differ) f.fits);
     }

@@ -1,5 +1,5 @@
 -- What joining the list of another answerer does.
-use Rattle.std.proofs.Common.{◌≡◌, ◌≢◌, ◌∙◌, ◌⊎◌, inl, inr, ◌+◌, ◌<◌, ℕ, zero, suc, List, [], ◌∷◌, ◌++◌, Option, Some, None, IfSome, length, take, drop, get_or, refl, sym, ap, subst, arith}
+use Rattle.std.proofs.Common.{◌≡◌, ◌≢◌, ◌∙◌, ◌⊎◌, inl, inr, ◌+◌, ◌<◌, ℕ, zero, suc, List, [], ◌∷◌, ◌++◌, Option, Some, None, IfSome, IsSome, length, take, drop, get_or, refl, sym, ap, subst, arith}
 use Rattle.std.proofs.lemmas.List.{take-append-drop, take_more}
 use Rattle.join_base.specs.declared.message.Value.{Value}
 use Rattle.pattern_core.specs.Members.{IsIn}
@@ -8,11 +8,11 @@ use Rattle.fair_semantics.specs.declared.run.Entry.{Entry}
 use Rattle.ask_board.specs.declared.view.Ask.{Ask}
 use Rattle.ask_board.specs.declared.view.AskView.{AskView}
 use Rattle.ask_board.specs.declared.board.AskBoard.{AskBoard}
-use Rattle.ask_board.specs.Board.{HasAsk, StaysKnown, cells_of}
+use Rattle.ask_board.specs.Board.{HasAsk, IsViewOf, StaysKnown, cells_of}
 use Rattle.ask_board.specs.View.{AreOfOneBoard, known_of}
 use Rattle.answerer.specs.declared.answering.Answers.{Answers}
 use Rattle.answerer.specs.declared.noting.Progress.{Progress}
-use Rattle.answerer.specs.Answered.{IsOfBoard, IsTried, Joins, known}
+use Rattle.answerer.specs.Answered.{AreKnown, IsOfBoard, IsTried, Joins, known}
 use Rattle.answerer.specs.Fit.{FitsIn, IsReply}
 use Rattle.answerer.proofs.AnsweredLemmas.{another_stays, ask_cases, stays_on, stays_same}
 
@@ -143,6 +143,22 @@ joins_some view asks i ask none a b c l at j learn =
         by x (inr (h, is)) = inr (inside x h, is)
 
 -- ---- the fit
+
+some_stays : (old now : Option Value) → StaysKnown old now → IsSome old → IsSome now
+some_stays None now stays some = absurd cc
+some_stays (Some v) now stays some = subst (λ (o : Option Value). IsSome o) (sym stays) refl
+
+-- a value is known of each ask on the list, as it was of those on both lists
+pub known_joined : (view : AskView) (asks : List Ask) (a b : Answers) → Joins view asks a b → AreKnown a → ((ask : Ask) → IsIn ask asks → IsSome (known_of view ask)) → AreKnown b
+known_joined view asks a b j own theirs ask h = by (j.listed ask h)
+  where
+    by : IsIn ask a.asks ⊎ (IsIn ask asks × (known b ask ≡ known_of view ask)) → IsSome (known b ask)
+    by (inl here) = some_stays (known a ask) (known b ask) (j.stays ask) (own ask here)
+    by (inr (here, same)) = subst (λ (o : Option Value). IsSome o) (sym same) (theirs ask here)
+
+-- views of boards that have the same cells are of one board
+pub one_view : (board other : AskBoard) (view theirs : AskView) → cells_of other ≡ cells_of board → IsViewOf board view → IsViewOf other theirs → AreOfOneBoard view theirs
+one_view board other view theirs same own their = their ∙ same ∙ sym own
 
 pub fits_joined : (actor : ℕ) (entries : List Entry) (p q : Progress) (a others b : Answers) → FitsIn actor entries p a → FitsIn actor entries q others → Joins others.view others.asks a b → FitsIn actor entries p b
 fits_joined actor entries p q a others b fit theirs j = record {

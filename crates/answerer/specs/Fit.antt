@@ -9,7 +9,7 @@ use Rattle.ask_board.specs.declared.view.Ask.{Ask}
 use Rattle.answerer.specs.declared.answering.Answers.{Answers}
 use Rattle.answerer.specs.declared.noting.Progress.{Progress}
 use Rattle.answerer.specs.declared.reading.Answerer.{Answerer}
-use Rattle.answerer.specs.Answered.{AreTriedBack, IsOfBoard, known}
+use Rattle.answerer.specs.Answered.{AreKnown, AreTriedBack, IsOfBoard, known}
 use Rattle.answerer.specs.Asks.{AreNoted, ask_at, asks_of}
 
 -- one of the entries replies this to the arrival of the ask
@@ -37,8 +37,10 @@ or_not_read (Some progress) = progress
 abbrev pub progress_of : Answerer → ℕ → Progress
 progress_of answerer actor = or_not_read (slice_get answerer.progress actor)
 
+-- so it is of the actor, and a value is known of each ask on the list, of whichever actor
 pub record Fits (answerer : Answerer) (actor : ℕ) (entries : List Entry) : Type 0 where
   pub rows : length answerer.progress ≡ 32
+  pub known : AreKnown answerer.answers
   pub fits : FitsIn actor entries (progress_of answerer actor) answerer.answers
 
 -- it fits every actor that has no entries

@@ -105,8 +105,8 @@ impl<'a> Answers<'a> {
         Ok(())
     }
 
-    // Answers what the firing of an arrival replies.
-    fn answer_firing(
+    /// Answers what the firing of an arrival replies.
+    pub fn answer_firing(
         &mut self,
         alloc: Global,
         asks: &[Option<Ask>],

@@ -2,7 +2,8 @@
 //!
 //! An `Answerer` has a view of an `AskBoard` and a list of the asks that it answered. `read` takes the entries of an
 //! actor, of which it may have read the first ones before. What they reply to arrivals from feeds it puts on the board.
-//! `join` puts the lists of two together.
+//! `join` puts the lists of two together. Beside a pool an answerer does the same with each actor that it is shown
+//! (`Beside`).
 //!
 //! A contract sees when an answerer fits the entries of an actor (`Fits`): of each ask of this actor on its list it
 //! knows a value, which they reply to that arrival. What fits some entries fits those that go on from them
@@ -16,6 +17,7 @@ mod answering;
 mod law;
 mod noting;
 mod reading;
+mod showing;
 
 pub use law::fit_law;
 pub use reading::Answerer;

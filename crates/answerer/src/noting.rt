@@ -33,8 +33,8 @@ fn last_place(asks: &[Option<Ask>], feed: u32) -> u32
     0
 }
 
-// The ask of the next arrival, where it is from a feed.
-fn next_ask(actor: u32, source: Source, asks: &[Option<Ask>]) -> Option<Ask>
+/// The ask of the next arrival, where it is from a feed.
+pub fn next_ask(actor: u32, source: Source, asks: &[Option<Ask>]) -> Option<Ask>
     requires room { (feed : ℕ) → last_place feed asks.now + 1 < 2 ^ 32 }
     ensures { result ≡ next_ask actor source asks.now }
 {

@@ -1,6 +1,7 @@
 //! Answers by the entries of actors.
 ghost use Rattle.std.specs.Prelude.{◌≡◌, ◌≢◌, ◌<◌, ◌^◌, ℕ, [], IfOk, List, OnOk, length, replicate};
 ghost use Rattle.pattern_core.specs.Members.{IsIn};
+ghost use Rattle.ask_board.specs.Board.{cells_of};
 ghost use Rattle.ask_board.specs.declared.view.Ask.{Ask as OneAsk};
 ghost use Rattle.fair_semantics.specs.declared.run.Entry.{Entry as OneEntry};
 ghost use Rattle.answerer.specs.Answered.{AreKnown, AreTriedBack, IsOfBoard};
@@ -17,9 +18,9 @@ use std::alloc::Global;
 /// Answers asks of a board by what actors reply.
 #[derive(Drop)]
 pub struct Answerer<'a> {
-    answers: Answers<'a>,
+    pub(crate) answers: Answers<'a>,
     // What was read of each actor.
-    progress: Items<Progress>,
+    pub(crate) progress: Items<Progress>,
 }
 
 // What was read of 32 actors that were not read yet.
@@ -89,11 +90,13 @@ impl<'a> Answerer<'a> {
     ///
     /// It fits then what both fitted. At `Ok` its list has the asks of both. Without memory it has some of the other's.
     pub fn join(&mut self, other: Answerer) -> Result<(), NoMemory>
-        requires one_board { other.answers.board.now ≡ self.old.answers.board.now }
+        requires one_board { cells_of other.answers.board.now ≡ cells_of self.old.answers.board.now }
         requires of_board { IsOfBoard self.old.answers }
         requires others { IsOfBoard other.answers }
         requires known { AreKnown other.answers }
         ensures fits { (actor : ℕ) (entries : List OneEntry) → Fits self.old actor entries → Fits other.entry actor entries → Fits self.new actor entries }
+        ensures board { self.new.answers.board.now ≡ self.old.answers.board.now }
+        ensures of_board { IsOfBoard self.new.answers }
         ensures kept { (ask : OneAsk) → IsIn ask self.old.answers.asks → IsIn ask self.new.answers.asks }
         ensures joined { OnOk result ((ask : OneAsk) → IsIn ask other.entry.answers.asks → IsIn ask self.new.answers.asks) }
     {
