@@ -40,7 +40,8 @@ fn stealing_workers(
 
 /// The run of a plan as `run_pool` gives it, with the same conditions and answers, by workers that have a deque of
 /// tickets each. A worker puts the tickets of actors that it made ready into its own deque. It takes the oldest ticket
-/// there, or steals the oldest one of another deque, or takes one of the queue in which the feeds put theirs.
+/// there, or steals the oldest one of another deque, or takes one of the queue in which the feeds put theirs. By turns
+/// it looks into the deques first and into the queue first.
 pub fn run_stealing<R: Threads + Wait + Sync, G: Gate>(
     rt: &R,
     alloc: Global,

@@ -1,5 +1,5 @@
 -- What contracts read of a pass.
-use Rattle.std.specs.Prelude.{◌≡◌, ℕ, List, ◌∷◌, map}
+use Rattle.std.specs.Prelude.{◌≡◌, Bool, ℕ, List, ◌∷◌, map}
 use Rattle.std.specs.declared.alloc.Global.{Global}
 use Rattle.atomic_blocks.specs.Lent.{RowsId}
 use Rattle.crossbeam_deque.specs.Handles.{view, stealer_deque, worker_deque, worker_port, worker_view}
@@ -58,6 +58,10 @@ module _ {P : Type 0} where
   -- how many actors the deques were made for: tickets are numbers below it
   abbrev pub made_for : StealPass P → ℕ
   made_for p = p.actors
+
+  -- whether a worker looks into the pool's queue first, the next time, and else into the deques
+  abbrev pub queue_first : StealPass P → Bool
+  queue_first p = p.queue_first
 
   -- the same pass of the same deques
   pub record IsSamePass (p q : StealPass P) : Type 0 where

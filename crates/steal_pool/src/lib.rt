@@ -2,7 +2,9 @@
 //!
 //! `deques` makes a pass for each worker. `StealPass::put` adds a ticket at the back of the pass's own deque.
 //! `StealPass::take` takes the one in front of it, or else steals that of another deque, or finds none in any. A pass
-//! is a `TicketSource` of `actor_pool`, and `work_stealing` is a worker of a pool that has its tickets there.
+//! is a `TicketSource` of `actor_pool`, and `work_stealing` is a worker of a pool that has its tickets there. By turns
+//! it looks into the deques first and into the pool's queue first. So no ticket waits for ever behind those of actors
+//! that stay ready.
 //!
 //! A contract sees of a pass its views (`views_of`), one for each deque, its own first: the tickets that it put there
 //! and those that it took, in order. A pass is made for a rule on deques, `P`, of which the calls know nothing. Who

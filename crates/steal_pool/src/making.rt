@@ -32,6 +32,7 @@ fn lone_passes<P: Protocol<u32, DequeView>>(
             own,
             others: Vec::new(alloc),
             actors,
+            queue_first: false,
         })?;
     }
     Ok(passes)

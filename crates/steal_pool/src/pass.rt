@@ -20,6 +20,8 @@ pub struct StealPass<P: Protocol<u32, DequeView> = InOrder> {
     // From the deque with the next number upwards.
     pub(crate) others: Vec<Thief<P>>,
     pub(crate) actors: u32,
+    // Whether a worker looks into the pool's queue first, the next time.
+    pub(crate) queue_first: bool,
     ghost fifo: { worker_flavor own ≡ 0 },
     ghost owner: { worker_port own ≡ 0 },
     ghost few: { actors ≤ 32 },

@@ -102,14 +102,15 @@ fn is_watched<R: Threads + Wait + Sync>(
     Ok(all && arrivals(&run) == 64 && times_shown(back.as_slice()) > 0)
 }
 
-// The run of the building by workers that steal, and whether all messages came.
-fn is_whole<R: Threads + Wait + Sync>(
+// How many messages come in the run of the building by workers that steal.
+fn arrivals_stealing<R: Threads + Wait + Sync>(
     rt: &R,
     alloc: Global,
     rows: u32,
+    ring: u32,
     workers: u32,
-) -> Result<bool, NoMemory> {
-    if rows < 1 || rows > 20_000 || workers > 64 {
+) -> Result<usize, NoMemory> {
+    if rows < 1 || rows > 20_000 || ring < 1 || ring > 4096 || workers > 64 {
         return Err(NoMemory);
     }
     let plan = load_plan(alloc)?;
@@ -118,8 +119,8 @@ fn is_whole<R: Threads + Wait + Sync>(
         arrivals: 50_000,
         partials: 65_536,
     };
-    let run = run_stealing(rt, alloc, &plan, limits, feeds, 64, workers, &FreeGate)?;
-    Ok(arrivals(&run) == 64)
+    let run = run_stealing(rt, alloc, &plan, limits, feeds, ring, workers, &FreeGate)?;
+    Ok(arrivals(&run))
 }
 
 #[test]
@@ -133,8 +134,18 @@ fn what_stands_beside_is_shown_actors(rt: HostRuntime) -> Result<(), Fail> {
 fn all_messages_come_where_workers_steal(rt: HostRuntime) -> Result<(), Fail> {
     let mut whole = true;
     for workers in [0, 1, 8] {
-        whole &= is_whole(&rt, rt.alloc(), 12, workers)?;
+        whole &= arrivals_stealing(&rt, rt.alloc(), 12, 64, workers)? == 64;
     }
     assert!(rt; whole);
+    Ok(())
+}
+
+// Four halls whose links to the desk are full stay ready. So a sole worker has to look into the pool's queue too, where
+// the desk's ticket may be.
+#[test]
+fn a_sole_worker_that_steals_ends_though_links_are_full(rt: HostRuntime) -> Result<(), Fail> {
+    let narrow = arrivals_stealing(&rt, rt.alloc(), 300, 1, 1)?;
+    let wide = arrivals_stealing(&rt, rt.alloc(), 300, 64, 1)?;
+    assert!(rt; narrow == 1600 && wide == 1600);
     Ok(())
 }
