@@ -7,9 +7,10 @@ ghost use Rattle.script_faults.specs.First.{first_of};
 ghost use Rattle.script_faults.specs.Faults.{is_same, is_words, leaf_faults, name_faults, operand_faults, term_faults};
 
 use crate::first::{Fault, note, note_if, note_too_many};
-use join_base::{Name, Sort};
+use join_base::Sort;
 use script_grammar::{LeafDecl, OperandDecl, Part, ScriptCause};
 use script_names::{NameTable, Slot};
+use script_tokens::ScriptName;
 
 pub(crate) fn is_words(sort: Sort) -> bool
     ensures { result ≡ is_words sort }
@@ -35,7 +36,7 @@ pub(crate) fn is_same(left: Sort, right: Sort) -> bool
 pub(crate) fn note_name(
     found: &mut Option<Fault>,
     variables: &NameTable<Slot>,
-    name: &Name,
+    name: &ScriptName,
     place: u64,
     alone: bool,
 )
@@ -91,7 +92,7 @@ pub(crate) fn note_operand(
 }
 
 // The type of the variable of a name.
-fn sort_of(variables: &NameTable<Slot>, name: &Name) -> Sort
+fn sort_of(variables: &NameTable<Slot>, name: &ScriptName) -> Sort
     ensures { result ≡ sort_of variables.now name.now }
 {
     match variables.item_of(name.bytes()) {

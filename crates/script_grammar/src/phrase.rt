@@ -1,5 +1,5 @@
 //! What is read from tokens, and lists of it.
-ghost use Rattle.std.specs.Prelude.{◌≡◌, ◌∷◌, [], Bool};
+ghost use Rattle.std.specs.Prelude.{◌≡◌, ◌∷◌, [], Bool, IfOk};
 ghost use Rattle.script_tokens.specs.declared.token.Kind.{Kind};
 ghost use Rattle.script_grammar.specs.Reading.{head, repeated};
 ghost use Rattle.script_grammar.specs.ScriptReading.{Reads, next_is, after_mark, further, separated_read, listed_read, with_front};
@@ -7,7 +7,7 @@ ghost use Rattle.script_grammar.specs.Gives.{Gives};
 
 use crate::part::{is_next, mark_at};
 use crate::stop::Stop;
-use join_base::Items;
+use join_base::{Items, NoMemory};
 use script_tokens::{Mark, Token};
 use std::alloc::Global;
 
@@ -29,6 +29,24 @@ pub trait Repeated: Phrase {
         ensures { result ≡ next_is begins (head tokens.now) };
 }
 
+// A list of one item. Most lists have no more, so that there is no room for more.
+fn only<X: Drop>(alloc: Global, item: X) -> Result<Items<X>, NoMemory>
+    ensures one { IfOk result (λ list. list ≡ item ∷ []) }
+{
+    let mut rows = Vec::with_capacity(alloc, 1)?;
+    rows.push(item)?;
+    Ok(Items::from_vec(rows))
+}
+
+// The same list, with no room for more.
+fn fitted<X>(list: Items<X>) -> Items<X>
+    ensures same { result ≡ list }
+{
+    let mut rows = list.into_vec();
+    rows.shrink_to_fit();
+    Items::from_vec(rows)
+}
+
 /// As many phrases as there are.
 #[tactic(auto, using(crate::proofs::LoopLemmas::with_front_nil))]
 pub fn repeated_at<'a, X: Repeated>(
@@ -48,13 +66,24 @@ pub fn behind_first_at<'a, X: Repeated>(
 ) -> Result<(Items<X>, &'a [Token]), Stop<'a>>
     ensures { Gives (λ x. x) result (with_front (first ∷ []) (repeated (next_is X.begins) X.reader tokens.now)) }
 {
-    let mut front = Items::new(alloc);
-    front.push(first)?;
+    let front = only(alloc, first)?;
     behind_at(alloc, front, tokens)
 }
 
-// Each takes a token, so that there are no more of them than tokens.
+// The same behind some.
 fn behind_at<'a, X: Repeated>(
+    alloc: Global,
+    front: Items<X>,
+    tokens: &'a [Token],
+) -> Result<(Items<X>, &'a [Token]), Stop<'a>>
+    ensures { Gives (λ x. x) result (with_front front (repeated (next_is X.begins) X.reader tokens.now)) }
+{
+    let (list, rest) = more_at(alloc, front, tokens)?;
+    Ok((fitted(list), rest))
+}
+
+// Each takes a token, so that there are no more of them than tokens.
+fn more_at<'a, X: Repeated>(
     alloc: Global,
     front: Items<X>,
     tokens: &'a [Token],
@@ -110,8 +139,20 @@ fn further_at<'a, X: Phrase>(
 ) -> Result<(Items<X>, &'a [Token]), Stop<'a>>
     ensures { Gives (λ x. x) result (with_front (first ∷ []) (further mark X.reader tokens.now)) }
 {
-    let mut list = Items::new(alloc);
-    list.push(first)?;
+    let front = only(alloc, first)?;
+    let (list, rest) = more_behind_mark_at(alloc, mark, front, tokens)?;
+    Ok((fitted(list), rest))
+}
+
+fn more_behind_mark_at<'a, X: Phrase>(
+    alloc: Global,
+    mark: Mark,
+    front: Items<X>,
+    tokens: &'a [Token],
+) -> Result<(Items<X>, &'a [Token]), Stop<'a>>
+    ensures { Gives (λ x. x) result (with_front front (further mark X.reader tokens.now)) }
+{
+    let mut list = front;
     let mut rest = tokens;
     'list: for _ in 0..tokens.len() {
         if !is_next(rest, mark) {

@@ -1,14 +1,15 @@
 //! The tree of a script, with places.
 ghost use Rattle.std.specs.Prelude.{◌≡◌, ◌∷◌, [], ◌++◌, ◌<◌, length, map, slice_get, Some, OnOk, OnErr};
 
-use join_base::{Items, Name, NoMemory, Relation, Sort, Text};
+use join_base::{Items, NoMemory, Relation, Sort, Text};
+use script_tokens::ScriptName;
 use std::alloc::Global;
 use std::marker::Model;
 
 /// A name and its place.
 #[derive(Drop)]
 pub struct Spelt {
-    pub name: Name,
+    pub name: ScriptName,
     pub place: u64,
 }
 
@@ -55,7 +56,7 @@ pub struct RuleDecl {
 #[derive(Drop)]
 pub struct PatternDecl {
     pub kind: Spelt,
-    pub variables: Items<(u64, Option<Name>)>,
+    pub variables: Items<(u64, Option<ScriptName>)>,
 }
 
 /// Atoms with `||` between them.
@@ -97,7 +98,7 @@ pub struct LeafDecl {
 #[derive(Drop)]
 pub enum Part {
     Number(i64),
-    Named(Name),
+    Named(ScriptName),
 }
 
 /// A statement, with the place of its keyword.
@@ -194,5 +195,12 @@ impl ConjunctDeclList {
             Ok(()) => Ok(()),
             Err(_) => Err(NoMemory),
         }
+    }
+
+    /// Gives back the room for more conjuncts.
+    pub fn fit(&mut self)
+        ensures same { self.new ≡ self.old }
+    {
+        self.rows.shrink_to_fit();
     }
 }

@@ -4,8 +4,9 @@ ghost use Rattle.std.specs.Option.{option_map};
 ghost use Rattle.script_names.specs.Scope.{actor_rows, field_rows, message_of, message_rows, sort_at, sorts_among, sorts_of, variable_at, variables_from, variables_in, variables_of};
 
 use crate::table::NameTable;
-use join_base::{Name, NoMemory, Sort};
+use join_base::{NoMemory, Sort};
 use script_grammar::{ActorDecl, FieldDecl, MessageDecl, PatternDecl, RuleDecl};
+use script_tokens::ScriptName;
 use std::alloc::Global;
 
 /// The field that a variable stands for, by the numbers of the pattern and of the field, and its type; and the place
@@ -99,7 +100,7 @@ fn sort_of_field(fields: Option<&[FieldDecl]>, field: usize) -> Sort
 // Adds a variable with a name.
 fn push_variable<'a>(
     variables: &mut NameTable<'a, Slot>,
-    name: &'a Option<Name>,
+    name: &'a Option<ScriptName>,
     slot: Slot,
 ) -> Result<(), NoMemory>
     ensures { OnOk result (variables.new ≡ variables.old ++ variable_at slot name.now) }

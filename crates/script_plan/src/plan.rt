@@ -12,7 +12,8 @@ use crate::names::{Script, Variables};
 use join_base::{Items, Name, NoMemory, Sort};
 use pattern_core::Definition;
 use script_grammar::{ActorDecl, FieldDecl, MessageDecl, PatternDecl, RuleDecl, Tree};
-use script_types::{ActorPlan, Kind, Plan, Rule, copy_variable};
+use script_tokens::ScriptName;
+use script_types::{ActorPlan, Kind, Plan, Rule};
 use std::alloc::Global;
 
 fn fields_of(alloc: Global, decls: &[FieldDecl]) -> Result<Items<(Name, Sort)>, NoMemory>
@@ -21,7 +22,7 @@ fn fields_of(alloc: Global, decls: &[FieldDecl]) -> Result<Items<(Name, Sort)>, 
 {
     let mut fields = Items::new(alloc);
     for decl in decls {
-        let name = decl.name.name.copy(alloc)?;
+        let name = decl.name.name.to_name(alloc)?;
         fields.push((name, decl.sort))?;
     }
     Ok(fields)
@@ -33,7 +34,7 @@ fn kind_of(alloc: Global, message: &MessageDecl) -> Result<Kind, NoMemory>
     ensures names { IfOk result (λ kind. AreNames (field_names kind)) }
 {
     Ok(Kind {
-        name: message.name.name.copy(alloc)?,
+        name: message.name.name.to_name(alloc)?,
         fields: fields_of(alloc, message.fields.as_slice())?,
     })
 }
@@ -65,12 +66,21 @@ fn patterns_of(
     Ok(patterns)
 }
 
+fn variable_of(alloc: Global, name: &Option<ScriptName>) -> Result<Option<Name>, NoMemory>
+    ensures { IfOk result (λ variable. variable ≡ name.now) }
+{
+    match name {
+        None => Ok(None),
+        Some(name) => Ok(Some(name.to_name(alloc)?)),
+    }
+}
+
 fn names_in(alloc: Global, pattern: &PatternDecl) -> Result<Items<Option<Name>>, NoMemory>
     ensures { IfOk result (λ names. names ≡ names_in pattern.now) }
 {
     let mut names = Items::new(alloc);
     for (_, name) in pattern.variables.as_slice() {
-        let copied = copy_variable(alloc, name)?;
+        let copied = variable_of(alloc, name)?;
         names.push(copied)?;
     }
     Ok(names)
@@ -167,7 +177,7 @@ fn actor_of<'a>(
     ensures name { IfOk result (λ plan. is_name plan.name ≡ true) }
 {
     Ok(ActorPlan {
-        name: actor.name.name.copy(alloc)?,
+        name: actor.name.name.to_name(alloc)?,
         rules: rules_of(alloc, script, actor.rules.as_slice())?,
     })
 }

@@ -1,6 +1,8 @@
 -- The lemmas by topic:
 -- - how long the token in front is: WordLemmas
+-- - that a name is a text: NameLemmas
 -- - that a text has one list of tokens: ListLemmas
 pub mod ListLemmas
+pub mod NameLemmas
 pub mod TokenLemmas
 pub mod WordLemmas

@@ -7,8 +7,9 @@ ghost use Rattle.join_base.specs.Integer.{are_digits, value_of};
 ghost use Rattle.join_base.specs.Text.{begins_word, goes_on_word};
 ghost use Rattle.script_tokens.specs.Tokens.{is_blank, skip, word_kind, number_kind, symbol_at, plain_at, IsToken, IsQuotedToken, is_bad, AreTokens, AreFront, SomeList, OneList};
 
+use crate::name::ScriptName;
 use crate::token::{Kind, Mark, Token};
-use join_base::{Name, NoMemory, QuoteFault, byte_at, read_integer, read_quoted_text};
+use join_base::{NoMemory, QuoteFault, byte_at, read_integer, read_quoted_text};
 use std::alloc::Global;
 
 fn is_blank(b: u8) -> bool
@@ -126,7 +127,7 @@ fn word_of(alloc: Global, word: &[u8]) -> Result<Kind, NoMemory>
         return Ok(Kind::Mark(Mark::Blank));
     }
     if word.len() <= 64 {
-        let name = Name::from_bytes(alloc, word)?;
+        let name = ScriptName::from_bytes(alloc, word)?;
         return Ok(Kind::Name(name));
     }
     Ok(Kind::Bad)

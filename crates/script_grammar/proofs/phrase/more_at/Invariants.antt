@@ -1,7 +1,7 @@
 use Rattle.script_grammar.specs.Reading.{repeated}
 use Rattle.script_grammar.specs.ScriptReading.{next_is, with_front}
 use Rattle.script_grammar.proofs.LoopLemmas.{IsLeft}
-use Rattle.script_grammar.proofs.phrase.behind_at.Given as goal
+use Rattle.script_grammar.proofs.phrase.more_at.Given as goal
 
 abbrev pub invariant-list : goal.invariant-list
 invariant-list g l =

@@ -1,7 +1,7 @@
 use Rattle.std.proofs.Common.{sym, ◌∙◌}
 use Rattle.std.proofs.lemmas.Result.{err_from_is_err_and}
 use Rattle.script_grammar.proofs.LoopLemmas.{begun, goes_on, stops, ends, turns_end}
-use Rattle.script_grammar.proofs.phrase.behind_at.Goals as goal
+use Rattle.script_grammar.proofs.phrase.more_behind_mark_at.Goals as goal
 
 pub list-init : goal.list-init
 list-init g c = begun
