@@ -13,11 +13,14 @@ _joinactors() {
   fi
   case $before in
     --arrivals | --partials | --workers | --ring | --monitors) return ;;
+    --pool) mapfile -t COMPREPLY < <(compgen -W "queue steal" -- "$word"); return ;;
   esac
   if [[ $word == -* ]]; then
+    local options="--arrivals --partials --workers --ring"
+    [[ $command == run ]] && options+=" --pool"
+    [[ $command == watch ]] && options+=" --monitors"
     case $command in
-      run | ask) mapfile -t COMPREPLY < <(compgen -W "--arrivals --partials --workers --ring" -- "$word") ;;
-      watch) mapfile -t COMPREPLY < <(compgen -W "--arrivals --partials --workers --ring --monitors" -- "$word") ;;
+      run | ask | watch) mapfile -t COMPREPLY < <(compgen -W "$options" -- "$word") ;;
     esac
     return
   fi

@@ -65,26 +65,34 @@ fn two_actors(alloc: Global) -> Result<MemoryInputs, NoMemory> {
     inputs_of(alloc, TWO_ACTORS)
 }
 
-// Whether a run of two workers ends past the gate with a log that is accepted.
+// Whether a run of two workers over this kind of pool ends past the gate with a log that is accepted.
 fn two_are_done<R: Threads + Wait + Sync>(
     rt: &R,
     alloc: Global,
+    pool: &str,
     gate: &Both,
 ) -> Result<bool, NoMemory> {
     let mut inputs = two_actors(alloc)?;
-    let words = ["run", "--ring", "64", "--workers", "2", "s", "f"].as_slice();
-    let (status, log) = answer_to(rt, alloc, words, &mut inputs, gate)?;
+    let words = ["run", pool, "--ring", "64", "--workers", "2", "s", "f"];
+    let (status, log) = answer_to(rt, alloc, words.as_slice(), &mut inputs, gate)?;
     Ok(status == Status::Done && is_accepted(rt, alloc, &mut inputs, log)?)
 }
 
-#[test]
-fn two_workers_are_at_work_at_a_time(rt: HostRuntime) {
+// Whether the two workers meet at the gate in such a run.
+fn two_meet<R: Threads + Wait + Sync>(rt: &R, alloc: Global, pool: &str) -> bool {
     let gate = Both {
         first: AtomicU64::new(0),
         second: AtomicU64::new(0),
         failures: AtomicU64::new(0),
     };
-    assert!(rt; two_are_done(&rt, rt.alloc(), &gate) == Ok(true) && gate.met());
+    two_are_done(rt, alloc, pool, &gate) == Ok(true) && gate.met()
+}
+
+#[test]
+fn two_workers_are_at_work_at_a_time(rt: HostRuntime) {
+    let queue = two_meet(&rt, rt.alloc(), "--pool=queue");
+    let steal = two_meet(&rt, rt.alloc(), "--pool=steal");
+    assert!(rt; queue && steal);
 }
 
 // Holds whoever is at one actor until somebody was at another.
@@ -218,20 +226,21 @@ fn four_actors(alloc: Global) -> Result<MemoryInputs, NoMemory> {
 fn is_lawful<R: Threads + Wait + Sync>(
     rt: &R,
     alloc: Global,
-    options: [&str; 3],
+    options: [&str; 4],
 ) -> Result<bool, NoMemory> {
-    let [ring, workers, arrivals] = options;
-    let words = ["run", ring, workers, arrivals, "s", "f", "g", "h"];
+    let [pool, ring, workers, arrivals] = options;
+    let words = ["run", pool, ring, workers, arrivals, "s", "f", "g", "h"];
     let mut inputs = four_actors(alloc)?;
     let (status, log) = answer_to(rt, alloc, words.as_slice(), &mut inputs, &FreeGate)?;
     let is_done = matches!(status, Status::Done | Status::Limits);
     Ok(is_done && is_accepted(rt, alloc, &mut inputs, log)?)
 }
 
-// The same by these numbers.
+// The same by this kind of pool and these numbers.
 fn is_lawful_by<R: Threads + Wait + Sync>(
     rt: &R,
     alloc: Global,
+    pool: &str,
     ring: u32,
     workers: u32,
     arrivals: u32,
@@ -239,19 +248,23 @@ fn is_lawful_by<R: Threads + Wait + Sync>(
     let ring = format!(in alloc; "--ring={ring}")?;
     let workers = format!(in alloc; "--workers={workers}")?;
     let arrivals = format!(in alloc; "--arrivals={arrivals}")?;
-    let options = [ring.as_str(), workers.as_str(), arrivals.as_str()];
+    let options = [pool, ring.as_str(), workers.as_str(), arrivals.as_str()];
     is_lawful(rt, alloc, options)
 }
 
-// Whether runs by many numbers do so.
-fn all_are_lawful<R: Threads + Wait + Sync>(rt: &R, alloc: Global) -> Result<bool, NoMemory> {
+// Whether runs by many numbers do so, over this kind of pool.
+fn all_are_lawful<R: Threads + Wait + Sync>(
+    rt: &R,
+    alloc: Global,
+    pool: &str,
+) -> Result<bool, NoMemory> {
     let mut state = 2026;
-    for _ in 0..200u32 {
+    for _ in 0..100u32 {
         // One ring in four has room for one message.
         let ring = (next_number(&mut state) % 4) * (next_number(&mut state) % 64) + 1;
         let workers = next_number(&mut state) % 8 + 1;
         let arrivals = next_number(&mut state) % 40 + 1;
-        if !is_lawful_by(rt, alloc, ring, workers, arrivals)? {
+        if !is_lawful_by(rt, alloc, pool, ring, workers, arrivals)? {
             return Ok(false);
         }
     }
@@ -260,5 +273,7 @@ fn all_are_lawful<R: Threads + Wait + Sync>(rt: &R, alloc: Global) -> Result<boo
 
 #[test]
 fn runs_by_any_numbers_are_accepted(rt: HostRuntime) {
-    assert!(rt; all_are_lawful(&rt, rt.alloc()) == Ok(true));
+    let queue = all_are_lawful(&rt, rt.alloc(), "--pool=queue");
+    let steal = all_are_lawful(&rt, rt.alloc(), "--pool=steal");
+    assert!(rt; queue == Ok(true) && steal == Ok(true));
 }

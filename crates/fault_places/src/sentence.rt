@@ -18,6 +18,7 @@ the options of run, ask and watch, each at most once:
   --ring N        1 to 4096, usually 64
   --arrivals N    1 to 1000000, usually 50000
   --partials N    1 to 1000000, usually 65536
+  --pool P        queue or steal, usually queue; for run alone
   --monitors N    1 to 8, usually 1; for watch alone
 ";
 

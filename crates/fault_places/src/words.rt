@@ -37,18 +37,29 @@ const COMMANDS: &[Command] = &[
 
 const MOST_ROWS: i64 = 20_000;
 
-// The name of an option, and the greatest number that it may have.
-type Choice = (&'static [u8], i64);
+/// What the value of an option may be.
+#[derive(Clone, Copy)]
+enum Values {
+    /// A number from 1 to this one.
+    UpTo(i64),
+    /// The name of a pool.
+    Pools,
+}
 
-const OPTIONS: &[Choice] = &[
-    (b"workers", 64),
-    (b"ring", 4_096),
-    (b"arrivals", 1_000_000),
-    (b"partials", 1_000_000),
+// The name of an option, and its values.
+type Choice = (&'static [u8], Values);
+
+// An option, and the one command that takes it where not all with options do.
+type Rule = (Choice, Option<&'static [u8]>);
+
+const OPTIONS: &[Rule] = &[
+    ((b"workers", Values::UpTo(64)), None),
+    ((b"ring", Values::UpTo(4_096)), None),
+    ((b"arrivals", Values::UpTo(1_000_000)), None),
+    ((b"partials", Values::UpTo(1_000_000)), None),
+    ((b"pool", Values::Pools), Some(b"run")),
+    ((b"monitors", Values::UpTo(8)), Some(b"watch")),
 ];
-
-// An option of `watch` alone.
-const MONITORS: Choice = (b"monitors", 8);
 
 /// What is wrong with the words.
 #[derive(Clone, Copy)]
@@ -63,8 +74,8 @@ enum Wrong<'a> {
     NoOption(&'a [u8]),
     /// An option begins with two dashes.
     OneDash(&'a [u8]),
-    NoNumber(Choice),
-    BadNumber(Choice, &'a [u8]),
+    NoValue(Choice),
+    BadValue(Choice, &'a [u8]),
     Twice(&'a [u8]),
     Count(usize),
     BadRows(&'a [u8]),
@@ -76,10 +87,10 @@ fn command_named(name: &[u8]) -> Option<Command> {
 
 // The option of a command.
 fn option_named(command: Command, name: &[u8]) -> Option<Choice> {
-    match OPTIONS.iter().find(|option| option.0 == name) {
-        Some(option) => Some(*option),
-        None if command.0 == b"watch".as_slice() && name == MONITORS.0 => Some(MONITORS),
-        None => None,
+    let (option, only) = OPTIONS.iter().find(|rule| rule.0.0 == name).copied()?;
+    match only {
+        Some(other) if other != command.0 => None,
+        _ => Some(option),
     }
 }
 
@@ -100,6 +111,13 @@ fn is_in_range(value: &[u8], most: i64) -> bool {
     }
 }
 
+fn is_among(value: &[u8], values: Values) -> bool {
+    match values {
+        Values::UpTo(most) => is_in_range(value, most),
+        Values::Pools => value == b"queue".as_slice() || value == b"steal".as_slice(),
+    }
+}
+
 // What is wrong with an option that has this value, or the word behind it.
 fn wrong_value<'a>(
     option: Choice,
@@ -107,9 +125,9 @@ fn wrong_value<'a>(
     behind: Option<&'a [u8]>,
 ) -> Option<Wrong<'a>> {
     match value.or(behind) {
-        None => Some(Wrong::NoNumber(option)),
-        Some(value) if is_in_range(value, option.1) => None,
-        Some(value) => Some(Wrong::BadNumber(option, value)),
+        None => Some(Wrong::NoValue(option)),
+        Some(value) if is_among(value, option.1) => None,
+        Some(value) => Some(Wrong::BadValue(option, value)),
     }
 }
 
@@ -224,20 +242,27 @@ fn push_no_option<'a>(
     )
 }
 
-// Appends the range of an option's number, and what is told of it.
-fn push_range<'a>(
+// Appends which values an option may have, and what is told of it.
+fn push_values<'a>(
     out: &mut Bytes,
     option: Choice,
     told: &'a [u8],
     value: Part<'a>,
 ) -> Result<(), NoMemory> {
+    let (kinds, most) = match option.1 {
+        Values::UpTo(most) => (
+            Part::Text(b": a number from 1 to "),
+            Part::Number(i128::from(most)),
+        ),
+        Values::Pools => (Part::Text(b": queue or steal"), Part::Text(b"")),
+    };
     push_parts(
         out,
         &[
             Part::Text(b"--"),
             Part::Text(option.0),
-            Part::Text(b": a number from 1 to "),
-            Part::Number(i128::from(option.1)),
+            kinds,
+            most,
             Part::Text(told),
             value,
         ],
@@ -322,11 +347,11 @@ fn push_wrong(
         Wrong::OneDash(word) => {
             push_no_option(out, command, word, b", and behind -- a word is a file")
         }
-        Wrong::NoNumber(option) => {
-            push_range(out, option, b" is wanted behind it", Part::Text(b""))
+        Wrong::NoValue(option) => {
+            push_values(out, option, b" is wanted behind it", Part::Text(b""))
         }
-        Wrong::BadNumber(option, value) => {
-            push_range(out, option, b" is wanted, and not ", word_part(value))
+        Wrong::BadValue(option, value) => {
+            push_values(out, option, b" is wanted, and not ", word_part(value))
         }
         Wrong::Twice(word) => push_word(out, cut(word).0, b" is given twice"),
         Wrong::Count(count) => push_count(out, command, wanted, count),

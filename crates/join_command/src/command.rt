@@ -30,6 +30,7 @@ pub fn command_of<'a>(alloc: Global, words: &'a WordList) -> Result<Option<Reque
         Setting::Arrivals,
         Setting::Partials,
         Setting::Monitors,
+        Setting::Pool,
     ];
     command_words::command_of(alloc, &verbs, &settings, words)
 }

@@ -7,10 +7,10 @@ ghost use Rattle.join_command.specs.Replying.{AreRunParts};
 ghost use Rattle.join_command.specs.Verdict.{limits_of};
 
 use actor_pool::Gate;
-use command_words::RunOptions;
+use command_words::{Queueing, RunOptions};
 use fair_semantics::{Limits, Run};
 use join_base::{FeedList, NoMemory};
-use pool_run::run_pool;
+use pool_run::{run_pool, run_stealing};
 use script_types::Plan;
 use std::alloc::Global;
 use std::sync::Wait;
@@ -27,8 +27,9 @@ pub(crate) fn limits_of(options: RunOptions) -> Limits
 }
 
 /// The run of the plan on its feeds, over all actors, within the limits of the options, by as many workers and over
-/// links with as much room as they say. It is linked to the feeds, and it is that of one schedule of single steps: the
-/// logs of its actors may be read as those of a run on one thread, step after step. It may wait.
+/// links with as much room as they say. By the option `pool` the workers have one queue of tickets, or a deque each, from
+/// which the others steal. The run is linked to the feeds, and it is that of one schedule of single steps: the logs of
+/// its actors may be read as those of a run on one thread, step after step. It may wait.
 pub fn run_feeds<R: Threads + Wait + Sync, G: Gate>(
     rt: &R,
     alloc: Global,
@@ -44,14 +45,9 @@ pub fn run_feeds<R: Threads + Wait + Sync, G: Gate>(
     ensures version { IfOk result (λ run. run.version ≡ 2) }
 {
     let limits = limits_of(options);
-    run_pool(
-        rt,
-        alloc,
-        plan,
-        limits,
-        feeds,
-        options.ring,
-        options.workers,
-        gate,
-    )
+    let (ring, workers) = (options.ring, options.workers);
+    match options.pool {
+        Queueing::Queue => run_pool(rt, alloc, plan, limits, feeds, ring, workers, gate),
+        Queueing::Steal => run_stealing(rt, alloc, plan, limits, feeds, ring, workers, gate),
+    }
 }

@@ -95,15 +95,16 @@ fn prepare<R: Threads + Wait + Sync, I: Inputs, G: Gate>(
 /// Carries out the command that the words are; `words` leaves out the program's name. `run SCRIPT FEED..` fetches the
 /// script and then 1 to 16 feeds in order, runs the script on the posts of the feeds within the limits that
 /// `--arrivals` and `--partials` give, each from 1 to 1,000,000, and writes the log of that run. Each feed is posted by
-/// a thread of its own, and `--workers` threads work, 1 to 64, over links of `--ring` places, 1 to 4096. `check SCRIPT`
+/// a thread of its own, and `--workers` threads work, 1 to 64, over links of `--ring` places, 1 to 4096. `--pool` says
+/// where they have their tickets: in one `queue`, or in a deque each, from which the others `steal`. `check SCRIPT`
 /// fetches the script, and writes its plan. `lint SCRIPT` fetches the script, and writes a line for each definition of
 /// which it sees that it can never fire and for each kind that no other one takes, and then their number. `replay
 /// SCRIPT LOG` fetches the script and then the log, and writes how many arrivals the log has. `load N` fetches nothing,
 /// runs the building of `building_load` on feeds of N rows, 1 to 20,000, as a `run` without options does, and writes
 /// the summary of that run.
 ///
-/// `ask SCRIPT FEED..` has the words and options of `run`, and writes behind the log a line for each row of a feed that
-/// the run replied to, feed by feed and row by row.
+/// `ask SCRIPT FEED..` has the words and options of `run`, but `--pool`, and writes behind the log a line for each row
+/// of a feed that the run replied to, feed by feed and row by row.
 ///
 /// `watch SCRIPT FEED..` has the words and options of `run`, and `--monitors`, 1 to 8. It writes behind the log a line
 /// for each actor with its totals: how many messages arrived, how many of them fired, and how many posts that made.

@@ -213,6 +213,18 @@ const WORDS: &[Words] = &[
         "joinactors: --workers: a number from 1 to 64 is wanted, and not s\n",
     ),
     (
+        "run --pool other s f",
+        "joinactors: --pool: queue or steal is wanted, and not other\n",
+    ),
+    (
+        "run s f --pool",
+        "joinactors: --pool: queue or steal is wanted behind it\n",
+    ),
+    (
+        "ask --pool steal s f",
+        "joinactors: --pool is no option of ask\n",
+    ),
+    (
         "check",
         "joinactors: check: one script is wanted, and there are 0 words\n",
     ),

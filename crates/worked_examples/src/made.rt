@@ -75,6 +75,32 @@ const JOINING: &[(&str, &[&str])] = &[
         "thousand rows most workers",
         &["run", "--ring=4096", "--workers=64", "script", "input"],
     ),
+    (
+        "thousand rows stealing, ring of one",
+        &[
+            "run",
+            "--pool=steal",
+            "--ring",
+            "1",
+            "--workers",
+            "1",
+            "script",
+            "input",
+        ],
+    ),
+    (
+        "thousand rows stealing, eight workers",
+        &[
+            "run",
+            "--pool=steal",
+            "--ring",
+            "64",
+            "--workers",
+            "8",
+            "script",
+            "input",
+        ],
+    ),
 ];
 
 fn are_joined<R: Threads + Wait + Sync>(

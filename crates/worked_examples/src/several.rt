@@ -288,11 +288,25 @@ fn are_printed<R: Threads + Wait + Sync>(
 
 const TWO_WORKERS: &[&str] = &["run", "--ring", "64", "--workers", "2", "script", "input"];
 
+const TWO_THAT_STEAL: &[&str] = &[
+    "run",
+    "--pool",
+    "steal",
+    "--ring",
+    "64",
+    "--workers",
+    "2",
+    "script",
+    "input",
+];
+
 fn tell_two_actors<R: Print + Threads + Wait + Sync>(rt: &R, alloc: Global) -> bool {
     let one = told(rt, "two actors one feed", are_printed(rt, alloc, RUN));
     let two = are_printed(rt, alloc, TWO_WORKERS);
     let two = told(rt, "two actors two workers", two);
-    counted(rt, "runs of two actors", 2, one && two)
+    let steal = are_printed(rt, alloc, TWO_THAT_STEAL);
+    let steal = told(rt, "two actors stealing", steal);
+    counted(rt, "runs of two actors", 3, one && two && steal)
 }
 
 /// Tells of all these runs, and answers whether all of them come to what they should.

@@ -36,11 +36,8 @@ const OPTIONS: &[Refused] = &[
     ),
     ("partials zero", &["run", "--partials", "0", "s", "f"]),
     ("pool of no kind", &["run", "--pool", "other", "s", "f"]),
-    ("pool is no option", &["run", "--pool", "steal", "s", "f"]),
-    (
-        "pool queue is no option",
-        &["run", "--pool", "queue", "s", "f"],
-    ),
+    ("pool of ask", &["ask", "--pool", "steal", "s", "f"]),
+    ("pool without value", &["run", "s", "f", "--pool"]),
     ("ring too big", &["run", "--ring", "4097", "s", "f"]),
     (
         "ring twice",
@@ -234,6 +231,24 @@ const TAKEN: &[Taken] = &[
     ),
 ];
 
+const POOLS: &[Taken] = &[
+    (
+        "pool of tickets",
+        &["run", "--pool", "queue", "s", "f"],
+        USUAL,
+    ),
+    (
+        "pool with equals sign",
+        &["run", "--pool=steal", "s", "f"],
+        USUAL,
+    ),
+    (
+        "stealing, two workers",
+        &["run", "--pool", "steal", "--workers", "2", "s", "f"],
+        USUAL,
+    ),
+];
+
 const DASHED: &[Taken] = &[
     (
         "double dash then dashed name",
@@ -281,11 +296,16 @@ fn dashes_are_taken<R: Print + Threads + Wait + Sync>(rt: &R, alloc: Global) -> 
     tell_taken(rt, alloc, "scripts with a dash", DASHED_FILES, DASHED)
 }
 
+fn pools_are_taken<R: Print + Threads + Wait + Sync>(rt: &R, alloc: Global) -> bool {
+    tell_taken(rt, alloc, "pools", FILES, POOLS)
+}
+
 /// Tells of all words, and answers whether all of them come to what they should.
 pub fn are_right<R: Print + Threads + Wait + Sync>(rt: &R, alloc: Global) -> bool {
     let options = options_are_refused(rt, alloc);
     let others = others_are_refused(rt, alloc);
     let taken = options_are_taken(rt, alloc);
+    let pools = pools_are_taken(rt, alloc);
     let dashes = dashes_are_taken(rt, alloc);
-    options && others && taken && dashes
+    options && others && taken && pools && dashes
 }
