@@ -1,0 +1,5 @@
+-- what is claimed: what the joined answerer knows of a run
+pub mod Asking
+-- an answerer of one board
+pub mod Tellers
+pub mod Growing
