@@ -16,21 +16,43 @@ fn has_no_quote(bytes: &[u8]) -> bool
     plain
 }
 
-/// Whether the records of these bytes are their lines, cut at the commas: no byte is a double quote, and the first is
-/// none of a byte order mark.
+fn ends_line(byte: u8) -> bool
+    ensures { result ≡ ends_line byte }
+{
+    byte == b'\r' || byte == b'\n'
+}
+
+// The most commas of a line that is cut in place. A list of more fields would take far more than the record of csv.
+const MANY: usize = 1000;
+
+// Whether a line has more than so many commas.
+fn has_long_line(bytes: &[u8]) -> bool {
+    let mut commas = 0usize;
+    for byte in bytes {
+        if *byte == b',' {
+            commas = commas.saturating_add(1);
+            if commas > MANY {
+                return true;
+            }
+        } else if ends_line(*byte) {
+            commas = 0;
+        }
+    }
+    false
+}
+
+/// Whether the lines of these bytes may be cut in place. Then the records are the lines, cut at the commas: no byte is
+/// a double quote, and the first is none of a byte order mark. It says no too where a line has very many fields.
 pub fn is_plain(bytes: &[u8]) -> bool
     ensures { result ≡ true → IsPlain bytes.now }
 {
     if byte_at(bytes, 0) == 0xEF {
         return false;
     }
+    if has_long_line(bytes) {
+        return false;
+    }
     has_no_quote(bytes)
-}
-
-fn ends_line(byte: u8) -> bool
-    ensures { result ≡ ends_line byte }
-{
-    byte == b'\r' || byte == b'\n'
 }
 
 // How many line ends are in front.
