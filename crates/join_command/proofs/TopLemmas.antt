@@ -69,7 +69,7 @@ module _ (words : Words) where
   asks_none files (Some (Check script)) = inl refl
   asks_none files (Some (Replay script log)) = replay_asks_nothing
   asks_none files (Some (Load rows)) = refl
-  asks_none files (Some (Watch run monitors)) = refl
+  asks_none files (Some (Watch run monitors)) = asks_nothing
   asks_none files (Some (Lint script)) = inl refl
   asks_none files (Some (Ask run)) = asks_nothing
 

@@ -13,6 +13,7 @@ use std::thread::{Threads, yield_now};
 use watch_run::{NoView, View, run_watched};
 
 /// Notes which monitors showed something, one bit for each.
+#[derive(Drop)]
 struct Noting {
     monitors: AtomicU64,
 }

@@ -23,3 +23,7 @@ line_written actors rows i actor row whole so_far now same within actor_is row_i
     ∙ append_assoc so_far (board_line actor row) rest
     ∙ ap (λ (text : List ℕ). so_far ++ text) (sym (lines_more actors rows i actor row known within actor_at row_is))
     ∙ so_far_is
+
+-- within a list the default is no matter
+pub same_row : (rows : List Totals) (i : ℕ) (one other : Totals) → i < length rows → get_or rows i one ≡ get_or rows i other
+same_row rows i one other within = same_Some (get_or rows i one) (get_or rows i other) (sym (slice_get-get_or rows i one within) ∙ slice_get-get_or rows i other within)

@@ -1,9 +1,14 @@
-use Rattle.std.proofs.Common.{◌++◌}
+use Rattle.std.proofs.Common.{◌++◌, get_or}
+use Rattle.live_board.specs.Folding.{no_totals}
 use Rattle.watch_run.specs.BoardText.{board_lines}
-use Rattle.watch_run.proofs.LineLemmas.{line_written}
+use Rattle.watch_run.proofs.LineLemmas.{line_written, same_row}
 use Rattle.watch_run.proofs.board_text.write_rows.Goals as goal
 
 pub loop-place-preserved : goal.loop-place-preserved
 loop-place-preserved c =
-    line_written c.args.plan.now.actors c.args.rows.now c.loop-place.place c.at.result.now c.index-rows-place.result (c.args.text.now ++ board_lines c.args.plan.now.actors c.args.rows.now) c.loop-place.text c.write_row.new.text
-    c.requires c.loop-place-test.true c.at.ensures.item c.index-rows-place.is c.loop-place.invariant c.in_ok-write_row.ensures
+    let actors = c.args.plan.now.actors in
+    let rows = c.args.rows.now in
+    let place = c.loop-place.place in
+    let row = get_or rows place no_totals in
+    line_written actors rows place c.at.result.now row (c.args.text.now ++ board_lines actors rows) c.loop-place.text c.write_row.new.text
+    c.requires c.loop-place-test.true c.at.ensures.item (same_row rows place no_totals row c.loop-place-test.true) c.loop-place.invariant c.in_ok-write_row.ensures

@@ -7,4 +7,4 @@ use Rattle.watch_run.proofs.reading.read_on.Goals as goal
 pub loop-preserved : goal.loop-preserved
 loop-preserved g c =
     let rows = left_rows (glass_of c.loop.monitor) in
-    ap length c.in-Ok.ensures.shown.folded ∙ board-length rows (left_records (glass_of c.read.new.self)) ∙ sym c.read.ensures.rows
+    ap length c.in-Ok-read.ensures.shown.folded ∙ board-length rows (left_records (glass_of c.read.new.self)) ∙ sym c.read.ensures.rows
