@@ -21,7 +21,9 @@ fn file_of<'a>(command: &Request<'a>, number: u64) -> Option<&'a Word> {
             run.feeds.as_slice().get(place as usize).copied()
         }
         (Request::Replay { log, .. }, Some(0)) => Some(*log),
-        (Request::Run(run) | Request::Ask(run) | Request::Watch { run, .. }, None) => Some(run.script),
+        (Request::Run(run) | Request::Ask(run) | Request::Watch { run, .. }, None) => Some(
+            run.script,
+        ),
         (Request::Check { script }, None)
         | (Request::Lint { script }, None)
         | (Request::Replay { script, .. }, None) => Some(*script),
@@ -88,7 +90,13 @@ fn refused_note(
         return unseen_note(rt.alloc(), name, line);
     };
     match command {
-        Request::Run(run) | Request::Ask(run) | Request::Watch { run, .. } => run_note(rt, run.script, name, text.bytes(), line),
+        Request::Run(run) | Request::Ask(run) | Request::Watch { run, .. } => run_note(
+            rt,
+            run.script,
+            name,
+            text.bytes(),
+            line,
+        ),
         Request::Replay { script, .. } => replay_note(rt, *script, name, text.bytes(), line),
         _ => refusal_note(rt.alloc(), name, text.bytes(), line),
     }

@@ -106,7 +106,9 @@ pub fn feeds_remark(rt: &HostRuntime, command: &Request<'_>) -> Result<Bytes, No
 pub fn script_to_remark<'a>(command: &Request<'a>, has_jammed: bool) -> Option<&'a Word> {
     match command {
         Request::Check { script } | Request::Lint { script } => Some(*script),
-        Request::Run(run) | Request::Ask(run) | Request::Watch { run, .. } if has_jammed => Some(run.script),
+        Request::Run(run) | Request::Ask(run) | Request::Watch { run, .. } if has_jammed => Some(
+            run.script,
+        ),
         _ => None,
     }
 }
