@@ -10,6 +10,7 @@ use crate::refusal::Difference;
 use crate::rows::{Rows, SeenRow, number_of, row_count};
 use fair_semantics::{ActorRun, Entry, Run};
 use join_base::{Message, Posts, Source};
+use log_posts::same_message;
 
 // How many lines an entry takes.
 fn entry_size(entry: &Entry) -> u64
