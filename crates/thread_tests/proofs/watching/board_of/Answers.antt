@@ -1,0 +1,11 @@
+use Rattle.std.proofs.Common.{rules, ℕ, ◌≤◌}
+use Rattle.thread_tests.proofs.LoadLemmas.{building_fits, four_feeds}
+use Rattle.thread_tests.proofs.watching.board_of.Goals as goal
+
+pub run_watched-requires-clause-count : goal.run_watched-requires-clause-count
+run_watched-requires-clause-count g c κs within = four_feeds c.in_ok-feeds.feeds c.args.rows c.in_ok-feeds.ensures.feeds
+
+pub run_watched-requires-clause-posts : goal.run_watched-requires-clause-posts
+run_watched-requires-clause-posts g c κs within =
+    let few : c.args.rows ≤ 20000 = search rules in
+    building_fits c.in_ok-plan.plan c.in_ok-feeds.feeds c.args.rows few c.in_ok-plan.ensures.plan c.in_ok-feeds.ensures.feeds
