@@ -16,7 +16,7 @@ use Rattle.fair_semantics.specs.Fair.{Sent, after_all}
 use Rattle.fair_semantics.specs.Linked.{arrived, arrived_after, same_source}
 use Rattle.fair_semantics.proofs.FairLemmas.{after_all-append}
 use Rattle.fair_semantics.proofs.TakenLemmas.{arrival_of, late_is, next_of, records, spent_is}
-use Rattle.run_order.proofs.EventLemmas.{if_from, sent_from}
+use Rattle.run_order_law.proofs.EventLemmas.{if_from, sent_from}
 use Rattle.schedule_law.proofs.BehindLemmas.{AreRecords, Split, arrived_are, behind_entries, left, none_behind, split}
 use Rattle.actor_turn.specs.Held.{Held, History, as_sent, history_with, is_taken}
 use Rattle.actor_turn.proofs.RestLemmas.{taken_fits, taken_runs}

@@ -9,8 +9,8 @@ use Rattle.join_base.specs.declared.message.Source.{Source}
 use Rattle.join_base.specs.declared.message.Source.TheVariants.{Feed, Actor}
 use Rattle.fair_semantics.specs.Linked.{same_source, sources}
 use Rattle.fair_semantics.proofs.CountedLemmas.{Among}
-use Rattle.run_order.proofs.EventLemmas.{same_source_is}
-use Rattle.run_order.proofs.SourceLemmas.{NoneOf, OneOf}
+use Rattle.run_order_law.proofs.EventLemmas.{same_source_is}
+use Rattle.run_order_law.proofs.SourceLemmas.{NoneOf, OneOf}
 use Rattle.post_ring.specs.Links.{received, sent}
 use Rattle.post_ring.specs.declared.link_in.LinkIn.{LinkIn}
 use Rattle.post_ring.specs.declared.link_out.LinkOut.{LinkOut}

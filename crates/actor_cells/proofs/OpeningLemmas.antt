@@ -13,7 +13,7 @@ use Rattle.fair_semantics.specs.Step.{State, opening}
 use Rattle.fair_semantics.specs.Fair.{rules_of}
 use Rattle.fair_semantics.specs.Linked.{arrived, entry_posts, same_source}
 use Rattle.fair_semantics.proofs.ListLemmas.{each_from_All}
-use Rattle.run_order.proofs.EventLemmas.{same_source_is}
+use Rattle.run_order_law.proofs.EventLemmas.{same_source_is}
 use Rattle.actor_turn.specs.Held.{Held, posts_for}
 use Rattle.actor_turn.specs.Rest.{HoldsPartialMatches}
 use Rattle.post_ring.specs.Links.{received}

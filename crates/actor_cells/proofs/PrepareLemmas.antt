@@ -20,7 +20,7 @@ use Rattle.cell_links.specs.declared.ends.ActorLinks.{ActorLinks}
 use Rattle.cell_links.specs.declared.ends.LinkTags.{LinkTags}
 use Rattle.cell_links.specs.declared.ends.Inward.{Inward}
 use Rattle.cell_links.specs.declared.ends.Outward.{Outward}
-use Rattle.cell_links.specs.declared.poster.Poster.{Poster}
+use Rattle.cell_links.specs.declared.feed_links.FeedLinks.{FeedLinks}
 use Rattle.cell_links.specs.Ends.{PosterTag, link_count, link_tags, poster_links, tags_of}
 use Rattle.cell_links.specs.Making.{AreNew, IsNewIn, IsNewOut, TargetsApart}
 use Rattle.cell_links.specs.Wiring.{IsWired}
@@ -170,5 +170,5 @@ exist-all count actors targets many are =
 pub apart-all : (count : ℕ) (actors : List ActorPlan) (targets : List (Vec ℕ Global)) → AreTargetsOf count actors (map numbers_of targets) → All (λ (ts : Vec ℕ Global). TargetsApart ts.items) targets
 apart-all count actors targets are = All-unmap TargetsApart numbers_of targets (targets-apart count actors (map numbers_of targets) are)
 
-pub new-posters : (count actors ring : ℕ) (posters : List Poster) → count ≡ actors → All (λ (p : Poster). (link_count p ≡ count) × All (IsNewOut ring) (poster_links p)) posters → All (IsNewPoster actors ring) posters
+pub new-posters : (count actors ring : ℕ) (posters : List FeedLinks) → count ≡ actors → All (λ (p : FeedLinks). (link_count p ≡ count) × All (IsNewOut ring) (poster_links p)) posters → All (IsNewPoster actors ring) posters
 new-posters count actors ring posters same each k d within = let e = each k d within in record { count = e.0 ∙ same; links = e.1 }

@@ -23,9 +23,9 @@ use Rattle.fair_semantics.proofs.RestLemmas.{each_in, each_in_order, each_of_all
 use Rattle.fair_semantics.proofs.SizeLemmas.{Sized, sized, sized_opening}
 use Rattle.fair_semantics.proofs.TakenLemmas.{arrival_of, late_is, next_of, records, spent_is}
 use Rattle.fair_semantics.proofs.FairLemmas.{after_all-append}
-use Rattle.run_order.proofs.EventLemmas.{if_from, sent_from}
-use Rattle.run_order.proofs.GivenLemmas.{arrived_all, given_all, rests_none}
-use Rattle.run_order.proofs.SourceLemmas.{NoneOf, OneOf, actor_among, contains_one, feed_among, itself, one_or_none}
+use Rattle.run_order_law.proofs.EventLemmas.{if_from, sent_from}
+use Rattle.run_order_law.proofs.GivenLemmas.{arrived_all, given_all, rests_none}
+use Rattle.run_order_law.proofs.SourceLemmas.{NoneOf, OneOf, actor_among, contains_one, feed_among, itself, one_or_none}
 use Rattle.schedule_law.proofs.SettledLemmas as settled
 
 -- ---- sources

@@ -4,7 +4,7 @@ use Rattle.join_base.specs.declared.items.NoMemory.{NoMemory}
 use Rattle.script_types.specs.declared.plan.Plan.{Plan}
 use Rattle.fair_semantics.specs.declared.run.Limits.{Limits}
 use Rattle.actor_turn.specs.Held.{new_actor}
-use Rattle.cell_links.specs.declared.poster.Poster.{Poster}
+use Rattle.cell_links.specs.declared.feed_links.FeedLinks.{FeedLinks}
 use Rattle.cell_links.specs.Ends.{PosterTag, link_count, poster_links}
 use Rattle.cell_links.specs.Making.{IsNewIn, IsNewOut}
 use Rattle.cell_links.specs.Wiring.{IsWired}
@@ -13,7 +13,7 @@ use Rattle.actor_cells.specs.declared.cell.CellTag.{CellTag}
 use Rattle.actor_cells.specs.declared.cells.Cells.{Cells}
 use Rattle.actor_cells.specs.declared.serving.Turned.{Turned}
 use Rattle.actor_cells.specs.Lawful.{held_in, tally_of}
-use Rattle.actor_cells.specs.Served.{AllSent, StaysLawful, IsRefusing, Turns}
+use Rattle.actor_cells.specs.Served.{AllSent, StaysLawful, IsRefusing, TakesInTurn}
 
 -- the cells of a list, in order
 abbrev pub cells_of : Cells → List Cell
@@ -30,12 +30,12 @@ pub record IsOpening (plan : Plan) (limits : Limits) (feeds ring index : ℕ) (c
   pub outward : All (IsNewOut ring) c.outward.items
 
 -- a link to each actor, over which nothing went
-pub record IsNewPoster (actors ring : ℕ) (p : Poster) : Type 0 where
+pub record IsNewPoster (actors ring : ℕ) (p : FeedLinks) : Type 0 where
   pub count : link_count p ≡ actors
   pub links : All (IsNewOut ring) (poster_links p)
 
 -- an opening cell for each actor and a new poster for each feed
-pub record ArePrepared (plan : Plan) (limits : Limits) (feeds ring : ℕ) (cells : List Cell) (posters : List Poster) : Type 0 where
+pub record ArePrepared (plan : Plan) (limits : Limits) (feeds ring : ℕ) (cells : List Cell) (posters : List FeedLinks) : Type 0 where
   pub count : length cells ≡ length plan.actors
   pub opening : (index : ℕ) (c : Cell) → slice_get cells index ≡ Some c → IsOpening plan limits feeds ring index c
   pub feed_count : length posters ≡ feeds
@@ -48,6 +48,6 @@ pub record IsServedAt (place : ℕ) (old now : List Cell) (result : Result Turne
   pub here : slice_get old place ≡ Some before
   pub only : now ≡ slice_set old place after
   pub kept : StaysLawful before after
-  pub turned : IfOk result (Turns (tally_of before) (tally_of after))
+  pub turned : IfOk result (TakesInTurn (tally_of before) (tally_of after))
   pub sent : OnOk result (AllSent after)
   pub refused : OnErr result (IsRefusing after)

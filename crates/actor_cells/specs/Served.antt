@@ -32,9 +32,9 @@ LooksRose (link ∷ before) [] = ⊥
 LooksRose (link ∷ before) (now ∷ after) = (one_more link.empty_looks ≤ now.empty_looks) × LooksRose before after
 
 -- More: 256 messages were taken. Dry: fewer were, and each link was looked at and showed none
-abbrev pub Turns : List LinkTally → List LinkTally → Turned → Type 0
-Turns before after turned.More = all_received after ≡ all_received before + 256
-Turns before after turned.Dry = (all_received after < all_received before + 256) × LooksRose before after
+abbrev pub TakesInTurn : List LinkTally → List LinkTally → Turned → Type 0
+TakesInTurn before after turned.More = all_received after ≡ all_received before + 256
+TakesInTurn before after turned.Dry = (all_received after < all_received before + 256) × LooksRose before after
 
 -- a message that the actor would take waits first on one of the links
 pub record IsRefusing (c : Cell) : Type 0 where

@@ -38,10 +38,14 @@ pub fn opening_cells(
     requires typed { IsTyped plan.now }
     requires limits { AreLimits limits }
     requires count { length links.items ≡ length plan.now.actors }
-    ensures actors { IfOk result (λ cells. map held_in cells.items ≡ new_actors plan.now limits feeds (length plan.now.actors)) }
-    ensures inward { IfOk result (λ cells. map (λ c. c.inward.items) cells.items ≡ map (λ l. l.inward.items) links.items) }
-    ensures outward { IfOk result (λ cells. map (λ c. c.outward.items) cells.items ≡ map (λ l. l.outward.items) links.items) }
-    ensures texts { OnOk result ((index : ℕ) → index < length plan.now.actors → AllByRecursion RuleFits (setting_of plan.now index limits).rules) }
+    ensures actors { IfOk result (λ cells. map held_in cells.items ≡ new_actors plan.now limits feeds
+        (length plan.now.actors)) }
+    ensures inward { IfOk result (λ cells. map (λ c. c.inward.items) cells.items ≡ map (λ l. l.inward.items)
+        links.items) }
+    ensures outward { IfOk result (λ cells. map (λ c. c.outward.items) cells.items ≡ map (λ l. l.outward.items)
+        links.items) }
+    ensures texts { OnOk result ((index : ℕ) → index < length plan.now.actors
+        → AllByRecursion RuleFits (setting_of plan.now index limits).rules) }
 {
     let mut cells = Vec::new(alloc);
     let mut index = 0u32;

@@ -13,7 +13,7 @@ ghost use Rattle.actor_cells.specs.Prepared.{ArePrepared, AreWired, cells_of};
 use crate::cells::Cells;
 use crate::opening::opening_cells;
 use crate::targets::all_targets;
-use cell_links::{Poster, connect};
+use cell_links::{FeedLinks, connect};
 use fair_semantics::Limits;
 use join_base::NoMemory;
 use script_types::Plan;
@@ -29,7 +29,7 @@ pub fn prepare(
     limits: Limits,
     feeds: u32,
     ring: u32,
-) -> Result<(Cells, Vec<Poster>), NoMemory>
+) -> Result<(Cells, Vec<FeedLinks>), NoMemory>
     requires typed { IsTyped plan.now }
     requires limits { AreLimits limits }
     requires feeds { IsFrom1To 16 feeds }
@@ -37,7 +37,8 @@ pub fn prepare(
     ensures prepared { IfOk result (λ made. ArePrepared plan.now limits feeds ring (cells_of made.0) made.1.items) }
     ensures lawful { IfOk result (λ made. AreLawful (cells_of made.0)) }
     ensures wired { IfOk result (λ made. AreWired (map cell_tag (cells_of made.0)) (map poster_tag made.1.items)) }
-    ensures texts { OnOk result ((index : ℕ) → index < length plan.now.actors → AllByRecursion RuleFits (setting_of plan.now index limits).rules) }
+    ensures texts { OnOk result ((index : ℕ) → index < length plan.now.actors
+        → AllByRecursion RuleFits (setting_of plan.now index limits).rules) }
 {
     let targets = all_targets(alloc, plan)?;
     let (links, posters) = connect(alloc, feeds, targets.as_slice(), ring)?;

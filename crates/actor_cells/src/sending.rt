@@ -68,7 +68,8 @@ impl Cell {
         ensures inward { self.new.inward ≡ self.old.inward }
         ensures state { state_in self.new ≡ state_in self.old }
         ensures count { length self.new.outward.items ≡ length self.old.outward.items }
-        ensures sent { FirstSent place (held_in self.old) self.old.outward.items → FirstSent (place + 1) (held_in self.new) self.new.outward.items }
+        ensures sent { FirstSent place (held_in self.old) self.old.outward.items
+            → FirstSent (place + 1) (held_in self.new) self.new.outward.items }
     {
         let one = &mut self.outward[place];
         send_over(&mut self.actor, one.target, &mut one.link)

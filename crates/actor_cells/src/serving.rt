@@ -2,7 +2,7 @@
 ghost use Rattle.std.specs.Prelude.{◌≡◌, ◌<◌, ◌≤◌, length, IfOk, OnErr, OnOk, MatchBool, MatchOption};
 ghost use Rattle.join_base.specs.Late.{HasCount};
 ghost use Rattle.actor_cells.specs.Lawful.{IsLawful, tally_of};
-ghost use Rattle.actor_cells.specs.Served.{AllSent, StaysLawful, IsRefusing, LooksRose, Turns};
+ghost use Rattle.actor_cells.specs.Served.{AllSent, StaysLawful, IsRefusing, LooksRose, TakesInTurn};
 ghost use Rattle.actor_cells.specs.Steps.{Brings, FindsNone, Refuses, TakesMany, changed_at, one_look, one_received};
 
 use crate::actor_set::ActorSet;
@@ -34,7 +34,8 @@ fn bring_one<L: Ledger>(
     steps: &mut Steps<L>,
 ) -> Result<Option<Outcome>, NoMemory>
     requires known { HasCount actor.old.state.late source }
-    ensures brought { IfOk result (λ found. MatchOption found (FindsNone actor.old actor.new link.old link.new) (λ outcome. Brings source actor.old actor.new link.old link.new)) }
+    ensures brought { IfOk result (λ found. MatchOption found (FindsNone actor.old actor.new link.old link.new)
+        (λ outcome. Brings source actor.old actor.new link.old link.new)) }
     ensures refused { OnErr result (Refuses actor.old actor.new link.old link.new) }
 {
     let Some(stamped) = link.take() else {
@@ -68,7 +69,9 @@ impl Cell {
         requires within { place < length self.old.inward.items }
         requires lawful { IsLawful self.old }
         ensures kept { StaysLawful self.old self.new }
-        ensures tally { IfOk result (λ found. MatchOption found (tally_of self.new ≡ changed_at one_look (tally_of self.old) place) (λ outcome. tally_of self.new ≡ changed_at one_received (tally_of self.old) place)) }
+        ensures tally { IfOk result (λ found. MatchOption found (tally_of self.new
+            ≡ changed_at one_look (tally_of self.old) place) (λ outcome. tally_of self.new ≡ changed_at one_received
+            (tally_of self.old) place)) }
         ensures refused { OnErr result (IsRefusing self.new) }
     {
         let one = &mut self.inward[place];
@@ -88,7 +91,8 @@ impl Cell {
         requires within { place < length self.old.inward.items }
         requires lawful { IsLawful self.old }
         ensures kept { StaysLawful self.old self.new }
-        ensures tally { IfOk result (λ found. MatchBool found (tally_of self.new ≡ changed_at one_received (tally_of self.old) place) (tally_of self.new ≡ changed_at one_look (tally_of self.old) place)) }
+        ensures tally { IfOk result (λ found. MatchBool found (tally_of self.new ≡ changed_at one_received
+            (tally_of self.old) place) (tally_of self.new ≡ changed_at one_look (tally_of self.old) place)) }
         ensures refused { OnErr result (IsRefusing self.new) }
     {
         let Some(outcome) = self.bring(alloc, place, steps)? else {
@@ -139,7 +143,8 @@ impl Cell {
         ensures kept { StaysLawful self.old self.new }
         ensures few { IfOk result (λ taken. taken ≤ most) }
         ensures taken { IfOk result (λ taken. TakesMany (tally_of self.old) (tally_of self.new) taken) }
-        ensures none { IfOk result (λ taken. taken ≡ 0 → tally_of self.new ≡ changed_at one_look (tally_of self.old) place) }
+        ensures none { IfOk result (λ taken. taken ≡ 0 → tally_of self.new
+            ≡ changed_at one_look (tally_of self.old) place) }
         ensures refused { OnErr result (IsRefusing self.new) }
     {
         if !self.bring_and_send(alloc, place, steps)? {
@@ -183,7 +188,7 @@ impl Cell {
     ) -> Result<Turned, NoMemory>
         requires lawful { IsLawful self.old }
         ensures kept { StaysLawful self.old self.new }
-        ensures turned { IfOk result (Turns (tally_of self.old) (tally_of self.new)) }
+        ensures turned { IfOk result (TakesInTurn (tally_of self.old) (tally_of self.new)) }
         ensures refused { OnErr result (IsRefusing self.new) }
     {
         let mut taken = self.take_own(alloc, Cell::MOST, steps)?;
@@ -213,7 +218,7 @@ impl Cell {
     ) -> Result<Turned, NoMemory>
         requires lawful { IsLawful self.old }
         ensures kept { StaysLawful self.old self.new }
-        ensures turned { IfOk result (Turns (tally_of self.old) (tally_of self.new)) }
+        ensures turned { IfOk result (TakesInTurn (tally_of self.old) (tally_of self.new)) }
         ensures sent { OnOk result (AllSent self.new) }
         ensures refused { OnErr result (IsRefusing self.new) }
     {

@@ -59,7 +59,8 @@ fn targets_of(alloc: Global, count: u32, rules: &Items<Rule>) -> Result<Vec<u32>
 pub fn all_targets(alloc: Global, plan: &Plan) -> Result<Vec<Vec<u32>>, NoMemory>
     requires few { length plan.now.actors ≤ 32 }
     ensures count { IfOk result (λ targets. length targets.items ≡ length plan.now.actors) }
-    ensures targets { IfOk result (λ targets. AreTargetsOf (length plan.now.actors) plan.now.actors (map (λ own. own.items) targets.items)) }
+    ensures targets { IfOk result (λ targets. AreTargetsOf (length plan.now.actors) plan.now.actors
+        (map (λ own. own.items) targets.items)) }
 {
     let count = plan.actors.len() as u32;
     let mut targets = Vec::new(alloc);

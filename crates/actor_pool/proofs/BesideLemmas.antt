@@ -13,7 +13,7 @@ use Rattle.fair_semantics.specs.Linked.{arrived, given_by, rests_by}
 use Rattle.fair_semantics.proofs.ChainLemmas.{adds}
 use Rattle.fair_semantics.proofs.FairLemmas.{after_all-append}
 use Rattle.fair_semantics.proofs.TakenLemmas.{ended, taken_count, taken_or_fewer}
-use Rattle.run_order.proofs.ArrivalLemmas.{length-arrived}
+use Rattle.run_order_law.proofs.ArrivalLemmas.{length-arrived}
 use Rattle.fair_semantics.specs.Step.{Setting, State, opening}
 use Rattle.turn_lock.specs.View.{HasSeenAll, seen_of}
 use Rattle.turn_lock.specs.Steps.{Gets, GivesBack}
@@ -26,7 +26,7 @@ use Rattle.actor_pool.specs.declared.helper.Helper.{Helper}
 use Rattle.actor_pool.specs.declared.pool.Pool.{Pool}
 use Rattle.actor_pool.specs.declared.turning.TurnFault.{TurnFault}
 use Rattle.actor_pool.specs.declared.turning.TurnFault.TheVariants.{Busy, NoMemory}
-use Rattle.actor_pool.specs.Helpers.{SeatView, GoesOn, seat_of}
+use Rattle.actor_pool.specs.Helpers.{SeatView, HelperGoesOn, seat_of}
 use Rattle.actor_pool.specs.Turning.{TakesTurn, Faulted, FaultedBeside}
 use Rattle.actor_pool.specs.Beside.{Fitting, FitsOpening, FitsSeen, IsReached, KeepsOthers, ShowsHistory, setting_in}
 use Rattle.actor_pool.proofs.HelperLemmas.{turn-went}
@@ -95,7 +95,7 @@ module _ {B : Type 0} (fits : Fitting B) (grows : Grows fits) where
   fits-later kept v w tags seen fit actor tag at =
       grows kept actor (setting_in tag) (seen_of v actor) (seen_of w actor) (seen actor) (fit actor tag (ap (λ (l : List CellTag). slice_get l actor) (sym tags) ∙ at))
 
-  pub goes-fits : (p : Pool) (a b : Helper) (kept : B) → GoesOn p a b → FitsSeen fits (seat_of a) kept → FitsSeen fits (seat_of b) kept
+  pub goes-fits : (p : Pool) (a b : Helper) (kept : B) → HelperGoesOn p a b → FitsSeen fits (seat_of a) kept → FitsSeen fits (seat_of b) kept
   goes-fits p a b kept on fit = fits-later kept (seat_of a) (seat_of b) on.tags on.seen fit
 
   -- what is kept fits the cell of a turn that was got

@@ -16,7 +16,7 @@ use Rattle.actor_cells.specs.Served.{StaysLawful}
 use Rattle.actor_pool.specs.declared.helper.Helper.{Helper}
 use Rattle.actor_pool.specs.declared.pool.Pool.{Pool}
 use Rattle.actor_pool.specs.Turning.{HadTurn, TakesTurn}
-use Rattle.actor_pool.specs.Helpers.{SeatView, IsHelperOf, GoesOn, seat_of, pass_of}
+use Rattle.actor_pool.specs.Helpers.{SeatView, IsHelperOf, HelperGoesOn, seat_of, pass_of}
 
 pub prefix-refl : {X : Type 0} (a : List X) → IsPrefix a a
 prefix-refl a = ([], append-nil a)
@@ -82,7 +82,7 @@ turn-taken i k v w1 w c c0 d word at here got kept back =
       tally_left = went.left_is;
     }
 
-pub went-goes : (p : Pool) (a b : Helper) (i : ℕ) (c d : Cell) → IsHelperOf p a → b.seat.seat.table_id ≡ a.seat.seat.table_id → b.pass ≡ a.pass → Went i c d (seat_of a) (seat_of b) → GoesOn p a b
+pub went-goes : (p : Pool) (a b : Helper) (i : ℕ) (c d : Cell) → IsHelperOf p a → b.seat.seat.table_id ≡ a.seat.seat.table_id → b.pass ≡ a.pass → Went i c d (seat_of a) (seat_of b) → HelperGoesOn p a b
 went-goes p a b i c d belongs same kept went = record {
   own = record { seat = same ∙ belongs.seat; pass = ap (λ q. q.pass.table_id) kept ∙ belongs.pass; free = went.free };
   role = went.role;
@@ -93,10 +93,10 @@ went-goes p a b i c d belongs same kept went = record {
   nones = (let e = ap (λ q. (pass_view q).nones) kept in omega (arith, e));
 }
 
-pub stays : (p : Pool) (a : Helper) → IsHelperOf p a → GoesOn p a a
+pub stays : (p : Pool) (a : Helper) → IsHelperOf p a → HelperGoesOn p a a
 stays p a own = record { own = own; role = refl; tags = refl; seen = λ j. prefix-refl _; tries = omega arith; claims = omega arith; nones = omega arith }
 
-pub goes-further : (p : Pool) (a b c : Helper) → GoesOn p a b → GoesOn p b c → GoesOn p a c
+pub goes-further : (p : Pool) (a b c : Helper) → HelperGoesOn p a b → HelperGoesOn p b c → HelperGoesOn p a c
 goes-further p a b c h k = record {
   own = k.own;
   role = k.role ∙ h.role;
@@ -121,7 +121,7 @@ one-fewer n k v w more first out =
 
 -- a step that adds nothing to what is seen and leaves the tries and claims, or adds to them
 stepped : (p : Pool) (a b : Helper) (w : SeatView) → IsHelperOf p a → IsSameSeat a.seat b.seat → b.pass ≡ a.pass → seat_of b ≡ w
-    → w.turn ≡ (seat_of a).turn → w.role ≡ (seat_of a).role → w.tags ≡ (seat_of a).tags → w.seen ≡ (seat_of a).seen → (seat_of a).tries ≤ w.tries → (seat_of a).claims ≤ w.claims → GoesOn p a b
+    → w.turn ≡ (seat_of a).turn → w.role ≡ (seat_of a).role → w.tags ≡ (seat_of a).tags → w.seen ≡ (seat_of a).seen → (seat_of a).tries ≤ w.tries → (seat_of a).claims ≤ w.claims → HelperGoesOn p a b
 stepped p a b w belongs same kept is t r g s m n = record {
   own = record { seat = same.0 ∙ belongs.seat; pass = ap (λ q. q.pass.table_id) kept ∙ belongs.pass; free = ap (λ (x : SeatView). x.turn) is ∙ t ∙ belongs.free };
   role = ap (λ (x : SeatView). x.role) is ∙ r;
@@ -132,14 +132,14 @@ stepped p a b w belongs same kept is t r g s m n = record {
   nones = (let e = ap (λ q. (pass_view q).nones) kept in omega (arith, e));
 }
 
-pub flag-goes : (p : Pool) (a b : Helper) (i : ℕ) → IsHelperOf p a → IsSameSeat a.seat b.seat → b.pass ≡ a.pass → (word : ℕ) × (seat_of b ≡ flagged i word (seat_of a)) → GoesOn p a b
+pub flag-goes : (p : Pool) (a b : Helper) (i : ℕ) → IsHelperOf p a → IsSameSeat a.seat b.seat → b.pass ≡ a.pass → (word : ℕ) × (seat_of b ≡ flagged i word (seat_of a)) → HelperGoesOn p a b
 flag-goes p a b i own same kept step = stepped p a b (flagged i step.0 (seat_of a)) own same kept step.1 refl refl refl refl (omega arith) (omega arith)
 
-pub unmark-goes : (p : Pool) (a b : Helper) (i : ℕ) → IsHelperOf p a → IsSameSeat a.seat b.seat → b.pass ≡ a.pass → (word : ℕ) × (seat_of b ≡ unmarked i word (seat_of a)) → GoesOn p a b
+pub unmark-goes : (p : Pool) (a b : Helper) (i : ℕ) → IsHelperOf p a → IsSameSeat a.seat b.seat → b.pass ≡ a.pass → (word : ℕ) × (seat_of b ≡ unmarked i word (seat_of a)) → HelperGoesOn p a b
 unmark-goes p a b i own same kept step = stepped p a b (unmarked i step.0 (seat_of a)) own same kept step.1 refl refl refl refl (omega arith) (omega arith)
 
 -- the same seat, and another look at the queue
-pub took : (p : Pool) (a b : Helper) → IsHelperOf p a → IsSamePass a.pass b.pass → b.seat ≡ a.seat → (pass_of a).nones ≤ (pass_of b).nones → GoesOn p a b
+pub took : (p : Pool) (a b : Helper) → IsHelperOf p a → IsSamePass a.pass b.pass → b.seat ≡ a.seat → (pass_of a).nones ≤ (pass_of b).nones → HelperGoesOn p a b
 took p a b belongs same seat fewer =
     let is = ap (λ s. view_of s) seat in record {
       own = record { seat = ap (λ s. s.seat.table_id) seat ∙ belongs.seat; pass = same.0 ∙ belongs.pass; free = ap (λ (x : SeatView). x.turn) is ∙ belongs.free };

@@ -5,7 +5,7 @@ use Rattle.std.proofs.lemmas.List.{length-map, length-replicate, get_or-map}
 use Rattle.script_types.specs.declared.plan.Plan.{Plan}
 use Rattle.fair_semantics.specs.declared.run.Limits.{Limits}
 use Rattle.actor_turn.specs.Held.{Held}
-use Rattle.cell_links.specs.declared.poster.Poster as ends
+use Rattle.cell_links.specs.declared.feed_links.FeedLinks as ends
 use Rattle.cell_links.specs.Ends.{PosterTag, link_count, poster_tag}
 use Rattle.actor_cells.specs.declared.cell.Cell.{Cell}
 use Rattle.actor_cells.specs.declared.cell.CellTag.{CellTag}

@@ -10,7 +10,7 @@ use Rattle.join_base.specs.declared.message.Stamped.{Stamped}
 use Rattle.fair_semantics.specs.Linked.{post_for}
 use Rattle.post_ring.specs.Links.{stamped}
 use Rattle.cell_links.specs.declared.ends.Outward.{Outward}
-use Rattle.cell_links.specs.declared.poster.Poster as ends
+use Rattle.cell_links.specs.declared.feed_links.FeedLinks as ends
 use Rattle.cell_links.specs.Ends.{SendsMore, SendsSame, link_count, sent_to}
 use Rattle.actor_pool.specs.declared.pool.Pool.{Pool}
 use Rattle.actor_pool.specs.declared.poster.Poster.{Poster}

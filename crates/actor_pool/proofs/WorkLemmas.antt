@@ -8,7 +8,7 @@ use Rattle.actor_pool.specs.declared.helper.Helper.{Helper}
 use Rattle.actor_pool.specs.declared.pool.Pool.{Pool}
 use Rattle.ready_queue.specs.declared.view.PassView.{PassView}
 use Rattle.ready_queue.specs.View.{with_taken, with_none}
-use Rattle.actor_pool.specs.Helpers.{SeatView, GoesOn, seat_of, pass_of, actor_count}
+use Rattle.actor_pool.specs.Helpers.{SeatView, HelperGoesOn, seat_of, pass_of, actor_count}
 use Rattle.actor_pool.specs.Announcing.{Announces}
 use Rattle.actor_pool.specs.Working.{Works, WorksFrom, TakesTickets, actors_among}
 use Rattle.actor_pool.proofs.HelperLemmas.{goes-further, stays}
@@ -54,7 +54,7 @@ works-passed p m n x a b large h =
     record { goes_on = h.goes_on; taken = h.taken; more = h.more; claims = omega (arith, h.goes_on.claims, h.counted, none) }
 
 -- a ticket was taken, and a claim made
-pub works-one : (p : Pool) (m n k x : ℕ) (a b c : Helper) → TakesTickets p (x ∷ []) m n a b → GoesOn p b c → (pass_of c).taken ≡ (pass_of b).taken → k ≡ n → (seat_of b).claims + 1 ≤ (seat_of c).claims → WorksFrom p m k a c
+pub works-one : (p : Pool) (m n k x : ℕ) (a b c : Helper) → TakesTickets p (x ∷ []) m n a b → HelperGoesOn p b c → (pass_of c).taken ≡ (pass_of b).taken → k ≡ n → (seat_of b).claims + 1 ≤ (seat_of c).claims → WorksFrom p m k a c
 works-one p m n k x a b c h on still same claimed = record {
   goes_on = goes-further p a b c h.goes_on on;
   taken = h.taken;
@@ -67,10 +67,10 @@ pub works-queue : (p : Pool) (a b : Helper) → WorksFrom p 0 0 a b → Works p 
 works-queue p a b h = record { goes_on = h.goes_on; taken = h.taken; more = h.more; claims = omega (arith, h.claims) }
 
 -- a ticket of the pool's queue, or none
-pub takes-queue : (p : Pool) (n x : ℕ) (a b : Helper) → GoesOn p a b → pass_of b ≡ with_taken x (pass_of a) → TakesTickets p (x ∷ []) n n a b
+pub takes-queue : (p : Pool) (n x : ℕ) (a b : Helper) → HelperGoesOn p a b → pass_of b ≡ with_taken x (pass_of a) → TakesTickets p (x ∷ []) n n a b
 takes-queue p n x a b on taken = record { goes_on = on; taken = x ∷ []; more = ap (λ (q : PassView). q.taken) taken; counted = refl }
 
-pub takes-none : (p : Pool) (n : ℕ) (a b : Helper) → GoesOn p a b → pass_of b ≡ with_none (pass_of a) → TakesTickets p [] n n a b
+pub takes-none : (p : Pool) (n : ℕ) (a b : Helper) → HelperGoesOn p a b → pass_of b ≡ with_none (pass_of a) → TakesTickets p [] n n a b
 takes-none p n a b on refused = record { goes_on = on; taken = []; more = ap (λ (q : PassView). q.taken) refused ∙ sym (append-nil (pass_of a).taken); counted = refl }
 
 -- a ticket that was taken elsewhere

@@ -42,7 +42,7 @@ abbrev pub IsFirstHelper : Pool → ℕ → Helper → Type 0
 IsFirstHelper p out h = IsFirst (out + feed_count p) (seat_of h)
 
 -- the same helper later: it has seen no less, and its tries, claims and empty takes did not fall
-pub record GoesOn (p : Pool) (old now : Helper) : Type 0 where
+pub record HelperGoesOn (p : Pool) (old now : Helper) : Type 0 where
   pub own : IsHelperOf p now
   pub role : (seat_of now).role ≡ (seat_of old).role
   pub tags : (seat_of now).tags ≡ (seat_of old).tags

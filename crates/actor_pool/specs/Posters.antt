@@ -9,7 +9,7 @@ use Rattle.turn_lock.specs.View.{IsOther}
 use Rattle.turn_lock.specs.Seats.{view_of, IsOf}
 use Rattle.turn_lock.specs.declared.turns.Turns.{Turns}
 use Rattle.cell_links.specs.declared.ends.Outward.{Outward}
-use Rattle.cell_links.specs.declared.poster.Poster as ends
+use Rattle.cell_links.specs.declared.feed_links.FeedLinks as ends
 use Rattle.cell_links.specs.Ends.{PosterTag, poster_tag, poster_links, link_count, sent_to}
 use Rattle.actor_pool.specs.declared.pool.Pool.{Pool}
 use Rattle.actor_pool.specs.declared.poster.Poster.{Poster}

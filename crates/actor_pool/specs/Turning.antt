@@ -4,7 +4,7 @@ use Rattle.turn_lock.specs.Steps.{Gets, GivesBack, Misses}
 use Rattle.actor_cells.specs.declared.cell.Cell.{Cell}
 use Rattle.actor_cells.specs.declared.serving.Turned.{Turned}
 use Rattle.actor_cells.specs.Lawful.{IsLawful, cell_tag, history_of, tally_of}
-use Rattle.actor_cells.specs.Served.{AllSent, IsRefusing, StaysLawful, Turns}
+use Rattle.actor_cells.specs.Served.{AllSent, IsRefusing, StaysLawful, TakesInTurn}
 use Rattle.actor_pool.specs.declared.turning.TurnFault.{TurnFault}
 use Rattle.actor_pool.specs.declared.turning.TurnFault.TheVariants.{Busy, NoMemory}
 use Rattle.actor_pool.specs.Helpers.{SeatView}
@@ -31,7 +31,7 @@ pub record ServedTurn (i : ℕ) (turned : Turned) (v w : SeatView) : Type 0 wher
   pub found : Cell
   pub left : Cell
   pub turn : TakesTurn i found left v w
-  pub tallies : Turns (tally_of found) (tally_of left) turned
+  pub tallies : TakesInTurn (tally_of found) (tally_of left) turned
   pub sent : AllSent left
 
 -- a turn that was given back without memory: the message that was refused waits first on its link

@@ -1,6 +1,6 @@
 //! Announcing actors that are ready.
 ghost use Rattle.std.specs.Prelude.{◌≡◌, ◌<◌, ◌≤◌};
-ghost use Rattle.actor_pool.specs.Helpers.{IsHelperOf, GoesOn, seat_of, pass_of, actor_count};
+ghost use Rattle.actor_pool.specs.Helpers.{IsHelperOf, HelperGoesOn, seat_of, pass_of, actor_count};
 ghost use Rattle.actor_pool.specs.Announcing.{Announces};
 
 use crate::helper::Helper;
@@ -13,8 +13,9 @@ use std::sync::Wait;
 pub fn announce<R: Wait>(rt: &R, pool: &Pool, helper: &mut Helper, actor: u32)
     requires own { IsHelperOf pool.now helper.old }
     requires exists { actor < actor_count pool.now }
-    ensures goes_on { GoesOn pool.now helper.old helper.new }
-    ensures announced { Announces actor (seat_of helper.old) (pass_of helper.old) (seat_of helper.new) (pass_of helper.new) }
+    ensures goes_on { HelperGoesOn pool.now helper.old helper.new }
+    ensures announced { Announces actor (seat_of helper.old) (pass_of helper.old) (seat_of helper.new)
+        (pass_of helper.new) }
 {
     if !pool.turns.mark(&mut helper.seat, actor) {
         return;
@@ -46,7 +47,7 @@ fn announce_if_due<R: Wait, S: TicketSource>(
     requires belongs { S.belongs source.old (actor_count pool.now) }
     requires exists { actor < actor_count pool.now }
     ensures belongs { S.belongs source.new (actor_count pool.now) }
-    ensures goes_on { GoesOn pool.now helper.old helper.new }
+    ensures goes_on { HelperGoesOn pool.now helper.old helper.new }
     ensures taken { (pass_of helper.new).taken ≡ (pass_of helper.old).taken }
     ensures took { S.took source.new (actor_count pool.now) ≡ S.took source.old (actor_count pool.now) }
     ensures nones { S.nones source.old (pass_of helper.old) ≤ S.nones source.new (pass_of helper.new) }
@@ -69,7 +70,7 @@ pub(crate) fn announce_due<R: Wait, S: TicketSource>(
     requires own { IsHelperOf pool.now helper.old }
     requires belongs { S.belongs source.old (actor_count pool.now) }
     ensures belongs { S.belongs source.new (actor_count pool.now) }
-    ensures goes_on { GoesOn pool.now helper.old helper.new }
+    ensures goes_on { HelperGoesOn pool.now helper.old helper.new }
     ensures taken { (pass_of helper.new).taken ≡ (pass_of helper.old).taken }
     ensures took { S.took source.new (actor_count pool.now) ≡ S.took source.old (actor_count pool.now) }
     ensures nones { S.nones source.old (pass_of helper.old) ≤ S.nones source.new (pass_of helper.new) }

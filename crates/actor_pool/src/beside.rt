@@ -24,8 +24,8 @@ pub trait Beside<R> {
     // What is so where it may want memory: nothing is, where it never does.
     ghost wants: { Type 0 };
 
-    /// Takes what it keeps from the state of an actor, which is one that fair steps reach. Its entries are those that its
-    /// history makes. What it keeps of the other actors stays.
+    /// Takes what it keeps from the state of an actor, which is one that fair steps reach. Its entries are those that
+    /// its history makes. What it keeps of the other actors stays.
     fn seen(&mut self, rt: &R, alloc: Global, actor: u32, state: &Actor) -> Result<(), NoMemory>
         requires below { actor < 32 }
         requires reached { IsReached state.now.setting state.now.state }
@@ -37,5 +37,6 @@ pub trait Beside<R> {
         ensures wants { OnErr result wants };
 
     // What fits some arrivals fits what goes on from them.
-    ghost grows: { (kept : Self) (actor : ℕ) (setting : Setting) (before after : History) → IsPrefix before after → fits kept actor setting before → fits kept actor setting after };
+    ghost grows: { (kept : Self) (actor : ℕ) (setting : Setting) (before after : History) → IsPrefix before after
+        → fits kept actor setting before → fits kept actor setting after };
 }

@@ -23,7 +23,7 @@ fn join_all(
     turns: &Turns<Cell>,
     seat: &mut TurnSeat<Cell>,
     mut posters: Vec<Poster>,
-) -> Result<Vec<cell_links::Poster>, NoMemory>
+) -> Result<Vec<cell_links::FeedLinks>, NoMemory>
     requires own { IsOf turns.now seat.old }
     requires first { IsFirst (length posters.items) (view_of seat.old) }
     requires free { (view_of seat.old).turn ≡ Free }
@@ -59,7 +59,7 @@ impl Pool {
         alloc: Global,
         posters: Vec<Poster>,
         helper: Helper,
-    ) -> Result<(Vec<Cell>, Vec<cell_links::Poster>), NoMemory>
+    ) -> Result<(Vec<Cell>, Vec<cell_links::FeedLinks>), NoMemory>
         requires own { IsHelperOf self helper }
         requires first { IsFirstHelper self 0 helper }
         requires count { length posters.items ≡ feed_count self }

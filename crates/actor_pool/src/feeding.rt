@@ -3,7 +3,7 @@ ghost use Rattle.std.specs.Prelude.{◌≡◌, ◌+◌, ◌<◌, ◌≤◌, OnOk
 ghost use Rattle.post_ring.specs.Links.{stamped};
 ghost use Rattle.cell_links.specs.Ends.{SendsMore, SendsSame};
 ghost use Rattle.actor_pool.specs.Beside.{FitsSeen};
-ghost use Rattle.actor_pool.specs.Helpers.{IsHelperOf, GoesOn, seat_of, actor_count};
+ghost use Rattle.actor_pool.specs.Helpers.{IsHelperOf, HelperGoesOn, seat_of, actor_count};
 ghost use Rattle.actor_pool.specs.Posters.{IsPosterOf, SendsAll, SendsSome, feed_tag, feed_links};
 
 use crate::announcing::{announce, announce_due};
@@ -37,7 +37,7 @@ fn help<R: Wait, B: Beside<R>, L: Ledger>(
     requires own { IsHelperOf pool.now helper.old }
     requires exists { actor < actor_count pool.now }
     requires fits { FitsSeen B.fits (seat_of helper.old) beside.old }
-    ensures goes_on { GoesOn pool.now helper.old helper.new }
+    ensures goes_on { HelperGoesOn pool.now helper.old helper.new }
     ensures fits { FitsSeen B.fits (seat_of helper.new) beside.new }
 {
     let failed = has_failed(pool);
@@ -78,7 +78,7 @@ fn post_one<R: Wait, B: Beside<R>, L: Ledger>(
     requires fits { FitsSeen B.fits (seat_of helper.old) beside.old }
     ensures poster { IsPosterOf pool.now poster.new }
     ensures tag { feed_tag poster.new ≡ feed_tag poster.old }
-    ensures goes_on { GoesOn pool.now helper.old helper.new }
+    ensures goes_on { HelperGoesOn pool.now helper.old helper.new }
     ensures sent { OnOk result (SendsMore (feed_links poster.old) actor (stamped message 0) (feed_links poster.new)) }
     ensures tries { OnOk result ((seat_of helper.old).tries + 1 ≤ (seat_of helper.new).tries) }
     ensures none { OnErr result (SendsSame (feed_links poster.old) (feed_links poster.new)) }
@@ -119,7 +119,7 @@ fn post_waiting<R: Wait, B: Beside<R>, L: Ledger>(
     requires some { 0 < L.parts }
     ensures poster { IsPosterOf pool.now poster.new }
     ensures tag { feed_tag poster.new ≡ feed_tag poster.old }
-    ensures goes_on { GoesOn pool.now helper.old helper.new }
+    ensures goes_on { HelperGoesOn pool.now helper.old helper.new }
     ensures sent { OnOk result (SendsAll (feed_links poster.old) (reverse waiting.items) (feed_links poster.new)) }
     ensures some { OnErr result (SendsSome (feed_links poster.old) (reverse waiting.items) (feed_links poster.new)) }
     ensures tries { OnOk result ((seat_of helper.old).tries + length waiting.items ≤ (seat_of helper.new).tries) }
@@ -152,7 +152,7 @@ pub fn feed_beside<R: Wait, B: Beside<R>>(
     requires fits { FitsSeen B.fits (seat_of helper.old) beside.old }
     ensures poster { IsPosterOf pool.now poster.new }
     ensures tag { feed_tag poster.new ≡ feed_tag poster.old }
-    ensures goes_on { GoesOn pool.now helper.old helper.new }
+    ensures goes_on { HelperGoesOn pool.now helper.old helper.new }
     ensures sent { OnOk result (SendsAll (feed_links poster.old) posts (feed_links poster.new)) }
     ensures some { OnErr result (SendsSome (feed_links poster.old) posts (feed_links poster.new)) }
     ensures tries { OnOk result ((seat_of helper.old).tries + length posts ≤ (seat_of helper.new).tries) }
@@ -185,7 +185,7 @@ pub fn feed<R: Wait>(
     requires exist { All (λ post. post.0 < actor_count pool.now) posts }
     ensures poster { IsPosterOf pool.now poster.new }
     ensures tag { feed_tag poster.new ≡ feed_tag poster.old }
-    ensures goes_on { GoesOn pool.now helper.old helper.new }
+    ensures goes_on { HelperGoesOn pool.now helper.old helper.new }
     ensures sent { OnOk result (SendsAll (feed_links poster.old) posts (feed_links poster.new)) }
     ensures some { OnErr result (SendsSome (feed_links poster.old) posts (feed_links poster.new)) }
     ensures tries { OnOk result ((seat_of helper.old).tries + length posts ≤ (seat_of helper.new).tries) }

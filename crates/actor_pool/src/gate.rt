@@ -3,7 +3,7 @@
 /// Is told of each turn that a worker is about to try for. A test may hold workers here.
 pub trait Gate: Sync {
     /// The worker of this number, counted from 1, is about to try for a turn of the actor.
-    fn enter(&self, thread: u32, actor: u32);
+    fn enter(&self, worker: u32, actor: u32);
 }
 
 /// Holds nobody.
@@ -11,5 +11,5 @@ pub trait Gate: Sync {
 pub struct FreeGate;
 
 impl Gate for FreeGate {
-    fn enter(&self, _thread: u32, _actor: u32) {}
+    fn enter(&self, _worker: u32, _actor: u32) {}
 }

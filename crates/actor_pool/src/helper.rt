@@ -15,8 +15,8 @@ pub struct Helper {
     pub(crate) noted: Noted,
 }
 
-/// What the latest turn of a helper left to be announced: nothing, where another seat was at the actor. No clause speaks
-/// of it.
+/// What the latest turn of a helper left to be announced: nothing, where another seat was at the actor. No clause
+/// speaks of it.
 #[derive(Clone, Copy)]
 pub(crate) struct Noted {
     // The actor of the turn.

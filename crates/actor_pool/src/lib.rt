@@ -6,11 +6,11 @@
 //! actor that is ready. `feed` posts all of a feed, and `work` takes tickets and turns, past a `Gate`, until the feeds
 //! have ended; these three may wait. `Pool::close` gives the cells back.
 //!
-//! `turn_beside`, `feed_beside` and `work_beside` do the same with a `Beside`, which is shown each actor that they take a
-//! turn at; `turn`, `feed` and `work` are these calls with `Nobody`. `work_from` is `work` with a `TicketSource`: tickets
-//! of its own, beside the pool's queue (`PoolQueue`). `work_from_beside` has both, and is the one loop of all workers.
-//! Who writes a source has `take_ticket`, `mark_only` and `unmark_only`, the parts of what `work` does with the queue,
-//! and `Pool::actors`, `due` and `feeds_ended`.
+//! `turn_beside`, `feed_beside` and `work_beside` do the same with a `Beside`, which is shown each actor that they take
+//! a turn at; `turn`, `feed` and `work` are these calls with `Nobody`. `work_from` is `work` with a `TicketSource`:
+//! tickets of its own, beside the pool's queue (`PoolQueue`). `work_from_beside` has both, and is the one loop of all
+//! workers. Who writes a source has `take_ticket`, `mark_only` and `unmark_only`, the parts of what `work` does with
+//! the queue, and `Pool::actors`, `due` and `feeds_ended`.
 //!
 //! A contract sees of a helper the view of its seat (`seat_of`) and of its pass (`pass_of`), and of a poster its links,
 //! their tag and the view of its seat. A helper goes on (`GoesOn`): it sees no less, and its tries, claims and empty

@@ -2,7 +2,7 @@
 ghost use Rattle.std.specs.Prelude.{◌≡◌, ◌<◌, length, All, IfOk, OnOk, ℕ};
 ghost use Rattle.script_types.specs.Typed.{IsTyped};
 ghost use Rattle.fair_semantics.specs.Fits.{IsFrom1To};
-ghost use Rattle.run_fits.specs.FitsLaw.{RulesFit};
+ghost use Rattle.run_fit_law.specs.FitsLaw.{RulesFit};
 ghost use Rattle.actor_turn.specs.Held.{AreLimits};
 ghost use Rattle.actor_cells.specs.Prepared.{IsNewPoster};
 ghost use Rattle.actor_pool.specs.Helpers.{actor_count};
@@ -38,7 +38,8 @@ impl Pool {
         ensures whole { IfOk result (λ made. IsWhole plan.now limits made.0 made.1.items made.2) }
         ensures actors { IfOk result (λ made. actor_count made.0 ≡ length plan.now.actors) }
         ensures count { IfOk result (λ made. length made.1.items ≡ feeds) }
-        ensures fresh { IfOk result (λ made. All (λ poster. IsNewPoster (length plan.now.actors) ring (feed_ends poster)) made.1.items) }
+        ensures fresh { IfOk result (λ made. All (λ poster. IsNewPoster (length plan.now.actors) ring
+            (feed_ends poster)) made.1.items) }
         ensures texts { OnOk result ((index : ℕ) → index < length plan.now.actors → RulesFit plan.now limits index) }
     {
         let (cells, ends) = prepare(alloc, plan, limits, feeds, ring)?;

@@ -23,7 +23,7 @@ fn seat_all(
     alloc: Global,
     turns: &Turns<Cell>,
     seat: &mut TurnSeat<Cell>,
-    mut ends: Vec<cell_links::Poster>,
+    mut ends: Vec<cell_links::FeedLinks>,
 ) -> Result<Vec<Poster>, NoMemory>
     requires own { IsOf turns.now seat.old }
     requires first { IsFirst 0 (view_of seat.old) }
@@ -51,7 +51,7 @@ fn seat_all(
 pub(crate) fn behind_locks(
     alloc: Global,
     cells: Vec<Cell>,
-    ends: Vec<cell_links::Poster>,
+    ends: Vec<cell_links::FeedLinks>,
 ) -> Result<(Pool, Vec<Poster>, Helper), NoMemory>
     requires some { 0 < length cells.items }
     requires few { length cells.items ≤ 32 }

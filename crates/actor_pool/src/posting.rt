@@ -22,7 +22,9 @@ impl Poster {
         ensures tag { feed_tag self.new ≡ feed_tag self.old }
         ensures sent { OnOk result (SendsMore (feed_links self.old) actor (stamped message 0) (feed_links self.new)) }
         ensures flagged { OnOk result (FlagsMore actor (feed_seat self.old) (feed_seat self.new)) }
-        ensures full { IfErr result (λ full. (full.message ≡ message) × SendsSame (feed_links self.old) (feed_links self.new) × (room_to (feed_links self.old) actor ≡ 0) × (feed_seat self.new ≡ feed_seat self.old)) }
+        ensures full { IfErr result (λ full. (full.message ≡ message) × SendsSame (feed_links self.old)
+            (feed_links self.new) × (room_to (feed_links self.old) actor ≡ 0) × (feed_seat self.new
+            ≡ feed_seat self.old)) }
     {
         match self.ends.push(actor, message) {
             Ok(()) => {

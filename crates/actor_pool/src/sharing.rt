@@ -30,9 +30,12 @@ impl Helper {
         requires first { (out : ℕ) × IsFirstHelper pool.now out self.old }
         ensures own { IsHelperOf pool.now self.new }
         ensures pass { pass_of self.new ≡ shared_pass (pass_of self.old) }
-        ensures kept { seat_of self.new ≡ (if is_ok result then with_one_more (seat_of self.old) else seat_of self.old) }
-        ensures given { IfOk result (λ other. IsHelperOf pool.now other × (seat_of other ≡ new_view (seat_of self.old)) × (pass_of other ≡ new_pass)) }
-        ensures out { OnOk result ((out : ℕ) → IsFirstHelper pool.now out self.old → IsFirstHelper pool.now (out + 1) self.new) }
+        ensures kept { seat_of self.new ≡ (if is_ok result then with_one_more (seat_of self.old) else
+            seat_of self.old) }
+        ensures given { IfOk result (λ other. IsHelperOf pool.now other × (seat_of other ≡ new_view (seat_of self.old))
+            × (pass_of other ≡ new_pass)) }
+        ensures out { OnOk result ((out : ℕ) → IsFirstHelper pool.now out self.old
+            → IsFirstHelper pool.now (out + 1) self.new) }
     {
         let pass = pool.tickets.split_pass(&mut self.pass)?;
         let seat = pool.turns.split_seat(&mut self.seat)?;
@@ -54,7 +57,8 @@ impl Helper {
         ensures own { IsHelperOf pool.now self.new }
         ensures seat { seat_of self.new ≡ joined_seats (seat_of self.old) (seat_of other) }
         ensures pass { pass_of self.new ≡ joined_passes (pass_of self.old) (pass_of other) }
-        ensures seen { HasSeenAll (seat_of self.old) (seat_of self.new) × HasSeenAll (seat_of other) (seat_of self.new) }
+        ensures seen { HasSeenAll (seat_of self.old) (seat_of self.new) × HasSeenAll (seat_of other)
+            (seat_of self.new) }
         ensures out { (out : ℕ) → IsFirstHelper pool.now (out + 1) self.old → IsFirstHelper pool.now out self.new }
     {
         let Helper { seat, pass, .. } = other;

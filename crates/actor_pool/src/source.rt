@@ -2,7 +2,7 @@
 ghost use Rattle.std.specs.Prelude.{◌≡◌, ◌+◌, ◌<◌, ◌≤◌, ℕ, IfNone};
 ghost use Rattle.std.specs.Option.{option_to_list};
 ghost use Rattle.ready_queue.specs.declared.view.PassView.{PassView};
-ghost use Rattle.actor_pool.specs.Helpers.{IsHelperOf, GoesOn, pass_of, actor_count};
+ghost use Rattle.actor_pool.specs.Helpers.{IsHelperOf, HelperGoesOn, pass_of, actor_count};
 ghost use Rattle.actor_pool.specs.Working.{FindsNone, TakesTickets};
 
 use crate::announcing::announce;
@@ -28,19 +28,21 @@ pub trait TicketSource {
         requires own { IsHelperOf pool.now helper.old }
         requires belongs { belongs self.old (actor_count pool.now) }
         ensures belongs { belongs self.new (actor_count pool.now) }
-        ensures taken { TakesTickets pool.now (option_to_list result) (took self.old (actor_count pool.now)) (took self.new (actor_count pool.now)) helper.old helper.new }
+        ensures taken { TakesTickets pool.now (option_to_list result) (took self.old (actor_count pool.now))
+            (took self.new (actor_count pool.now)) helper.old helper.new }
         ensures none { IfNone result (FindsNone helper.old helper.new) }
-        ensures found_none { IfNone result (nones self.old (pass_of helper.old) + 1 ≤ nones self.new (pass_of helper.new)) }
+        ensures found_none { IfNone result (nones self.old (pass_of helper.old) + 1 ≤ nones self.new
+            (pass_of helper.new)) }
         ensures nones { nones self.old (pass_of helper.old) ≤ nones self.new (pass_of helper.new) };
 
-    /// Announces that an actor is ready: marks it and, where it was not marked, puts its ticket. Where that can't be put
-    /// the mark is taken back.
+    /// Announces that an actor is ready: marks it and, where it was not marked, puts its ticket. Where that can't be
+    /// put the mark is taken back.
     fn announce<R: Wait>(&mut self, rt: &R, pool: &Pool, helper: &mut Helper, actor: u32)
         requires own { IsHelperOf pool.now helper.old }
         requires belongs { belongs self.old (actor_count pool.now) }
         requires exists { actor < actor_count pool.now }
         ensures belongs { belongs self.new (actor_count pool.now) }
-        ensures goes_on { GoesOn pool.now helper.old helper.new }
+        ensures goes_on { HelperGoesOn pool.now helper.old helper.new }
         ensures taken { (pass_of helper.new).taken ≡ (pass_of helper.old).taken }
         ensures took { took self.new (actor_count pool.now) ≡ took self.old (actor_count pool.now) }
         ensures nones { nones self.old (pass_of helper.old) ≤ nones self.new (pass_of helper.new) };

@@ -3,7 +3,7 @@ ghost use Rattle.std.specs.Prelude.{◌≡◌, ◌<◌, IfNone, IfSome};
 ghost use Rattle.ready_queue.specs.View.{with_taken, with_none};
 ghost use Rattle.ready_queue.specs.Rule.{TicketRule};
 ghost use Rattle.ready_queue.specs.Moments.{WasAt, WasFirst};
-ghost use Rattle.actor_pool.specs.Helpers.{IsHelperOf, GoesOn, seat_of, pass_of};
+ghost use Rattle.actor_pool.specs.Helpers.{IsHelperOf, HelperGoesOn, seat_of, pass_of};
 
 use crate::helper::Helper;
 use crate::pool::Pool;
@@ -13,7 +13,7 @@ use std::sync::Wait;
 /// None comes only where the queue was empty at a moment of this call.
 pub fn take_ticket<R: Wait>(rt: &R, pool: &Pool, helper: &mut Helper) -> Option<u32>
     requires own { IsHelperOf pool.now helper.old }
-    ensures goes_on { GoesOn pool.now helper.old helper.new }
+    ensures goes_on { HelperGoesOn pool.now helper.old helper.new }
     ensures seat { seat_of helper.new ≡ seat_of helper.old }
     ensures taken { IfSome result (λ actor. pass_of helper.new ≡ with_taken actor (pass_of helper.old)) }
     ensures front { IfSome result (λ actor. WasFirst TicketRule actor (pass_of helper.old)) }

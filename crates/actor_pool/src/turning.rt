@@ -2,9 +2,9 @@
 ghost use Rattle.std.specs.Prelude.{◌≡◌, ◌⊎◌, ◌<◌, IfOk, IfErr, OnOk, OnErr};
 ghost use Rattle.join_base.specs.Outside.{Rose};
 ghost use Rattle.actor_cells.specs.Lawful.{IsLawful, cell_tag, history_of, tally_of};
-ghost use Rattle.actor_cells.specs.Served.{AllSent, IsRefusing, StaysLawful, Turns};
+ghost use Rattle.actor_cells.specs.Served.{AllSent, IsRefusing, StaysLawful, TakesInTurn};
 ghost use Rattle.actor_pool.specs.Beside.{FitsSeen, KeepsOthers, Shows, setting_in};
-ghost use Rattle.actor_pool.specs.Helpers.{IsHelperOf, GoesOn, seat_of, pass_of, actor_count};
+ghost use Rattle.actor_pool.specs.Helpers.{IsHelperOf, HelperGoesOn, seat_of, pass_of, actor_count};
 ghost use Rattle.actor_pool.specs.Turning.{ServedTurn, Faulted, FaultedBeside};
 
 use crate::beside::Beside;
@@ -36,7 +36,7 @@ fn serve_noted<L: Ledger>(
 ) -> Result<Turned, NoMemory>
     requires lawful { IsLawful cell.old }
     ensures kept { StaysLawful cell.old cell.new }
-    ensures turned { IfOk result (Turns (tally_of cell.old) (tally_of cell.new)) }
+    ensures turned { IfOk result (TakesInTurn (tally_of cell.old) (tally_of cell.new)) }
     ensures sent { OnOk result (AllSent cell.new) }
     ensures refused { OnErr result (IsRefusing cell.new) }
 {
@@ -61,7 +61,7 @@ fn serve_and_show<R, B: Beside<R>, L: Ledger>(
     requires below { actor < 32 }
     requires fits { B.fits beside.old actor (setting_in (cell_tag cell.old)) (history_of cell.old) }
     ensures kept { StaysLawful cell.old cell.new }
-    ensures turned { IfOk result (Turns (tally_of cell.old) (tally_of cell.new)) }
+    ensures turned { IfOk result (TakesInTurn (tally_of cell.old) (tally_of cell.new)) }
     ensures sent { OnOk result (AllSent cell.new) }
     ensures refused { OnErr result (IsRefusing cell.new ⊎ B.wants) }
     ensures fits { B.fits beside.new actor (setting_in (cell_tag cell.new)) (history_of cell.new) }
@@ -82,9 +82,10 @@ fn serve_and_show<R, B: Beside<R>, L: Ledger>(
 /// Tries once for the turn of an actor, as `turn` does. Who gets it serves the actor, shows it to what stands beside,
 /// and gives the turn back.
 ///
-/// What is kept of each actor fits what the helper has seen of it, before and after. At `Ok` and at `NoMemory` the actor
-/// was shown once, and at `Busy` nothing was shown. At `NoMemory` a message was refused, as at that of `turn`, or what
-/// stands beside found no memory: then all messages that the turn took have arrived. It waits only where `seen` does.
+/// What is kept of each actor fits what the helper has seen of it, before and after. At `Ok` and at `NoMemory` the
+/// actor was shown once, and at `Busy` nothing was shown. At `NoMemory` a message was refused, as at that of `turn`, or
+/// what stands beside found no memory: then all messages that the turn took have arrived. It waits only where `seen`
+/// does.
 pub fn turn_beside<R, B: Beside<R>, L: Ledger>(
     rt: &R,
     alloc: Global,
@@ -97,10 +98,11 @@ pub fn turn_beside<R, B: Beside<R>, L: Ledger>(
     requires own { IsHelperOf pool.now helper.old }
     requires exists { actor < actor_count pool.now }
     requires fits { FitsSeen B.fits (seat_of helper.old) beside.old }
-    ensures goes_on { GoesOn pool.now helper.old helper.new }
+    ensures goes_on { HelperGoesOn pool.now helper.old helper.new }
     ensures pass { pass_of helper.new ≡ pass_of helper.old }
     ensures served { IfOk result (λ turned. ServedTurn actor turned (seat_of helper.old) (seat_of helper.new)) }
-    ensures fault { IfErr result (λ fault. FaultedBeside B.wants actor fault (seat_of helper.old) (seat_of helper.new)) }
+    ensures fault { IfErr result (λ fault. FaultedBeside B.wants actor fault (seat_of helper.old)
+        (seat_of helper.new)) }
     ensures fits { FitsSeen B.fits (seat_of helper.new) beside.new }
     ensures shown { Shows result (B.tells beside.old) (B.tells beside.new) }
 {
@@ -138,7 +140,7 @@ pub fn turn<L: Ledger>(
 ) -> Result<Turned, TurnFault>
     requires own { IsHelperOf pool.now helper.old }
     requires exists { actor < actor_count pool.now }
-    ensures goes_on { GoesOn pool.now helper.old helper.new }
+    ensures goes_on { HelperGoesOn pool.now helper.old helper.new }
     ensures pass { pass_of helper.new ≡ pass_of helper.old }
     ensures served { IfOk result (λ turned. ServedTurn actor turned (seat_of helper.old) (seat_of helper.new)) }
     ensures fault { IfErr result (λ fault. Faulted actor fault (seat_of helper.old) (seat_of helper.new)) }

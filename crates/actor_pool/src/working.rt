@@ -1,7 +1,7 @@
 //! A worker: turns by tickets.
 ghost use Rattle.std.specs.Prelude.{◌≡◌, ◌+◌, ◌<◌, ◌≤◌, false, OnOk, IfOk};
 ghost use Rattle.actor_pool.specs.Beside.{FitsSeen};
-ghost use Rattle.actor_pool.specs.Helpers.{IsHelperOf, GoesOn, seat_of, pass_of, actor_count};
+ghost use Rattle.actor_pool.specs.Helpers.{IsHelperOf, HelperGoesOn, seat_of, pass_of, actor_count};
 ghost use Rattle.actor_pool.specs.Working.{Works, WorksFrom, FindsNone};
 
 use crate::announcing::announce_due;
@@ -44,7 +44,7 @@ fn work_at<R: Wait, G: Gate, S: TicketSource, B: Beside<R>, L: Ledger>(
     source: &mut S,
     beside: &mut B,
     gate: &G,
-    thread: u32,
+    worker: u32,
     actor: u32,
     steps: &mut Steps<L>,
 ) -> Result<(), NoMemory>
@@ -53,7 +53,7 @@ fn work_at<R: Wait, G: Gate, S: TicketSource, B: Beside<R>, L: Ledger>(
     requires fits { FitsSeen B.fits (seat_of helper.old) beside.old }
     requires exists { actor < actor_count pool.now }
     ensures belongs { S.belongs source.new (actor_count pool.now) }
-    ensures goes_on { GoesOn pool.now helper.old helper.new }
+    ensures goes_on { HelperGoesOn pool.now helper.old helper.new }
     ensures taken { (pass_of helper.new).taken ≡ (pass_of helper.old).taken }
     ensures took { S.took source.new (actor_count pool.now) ≡ S.took source.old (actor_count pool.now) }
     ensures claimed { (seat_of helper.old).claims + 1 ≤ (seat_of helper.new).claims }
@@ -61,7 +61,7 @@ fn work_at<R: Wait, G: Gate, S: TicketSource, B: Beside<R>, L: Ledger>(
     ensures fits { FitsSeen B.fits (seat_of helper.new) beside.new }
 {
     pool.turns.unmark(&mut helper.seat, actor);
-    gate.enter(thread, actor);
+    gate.enter(worker, actor);
     match turn_beside(rt, alloc, pool, helper, actor, beside, steps) {
         Ok(_) => {
             announce_due(rt, pool, helper, source);
@@ -85,16 +85,18 @@ fn work_once<R: Wait, G: Gate, S: TicketSource, B: Beside<R>, L: Ledger>(
     source: &mut S,
     beside: &mut B,
     gate: &G,
-    thread: u32,
+    worker: u32,
     steps: &mut Steps<L>,
 ) -> Result<bool, NoMemory>
     requires own { IsHelperOf pool.now helper.old }
     requires belongs { S.belongs source.old (actor_count pool.now) }
     requires fits { FitsSeen B.fits (seat_of helper.old) beside.old }
     ensures belongs { S.belongs source.new (actor_count pool.now) }
-    ensures works { WorksFrom pool.now (S.took source.old (actor_count pool.now)) (S.took source.new (actor_count pool.now)) helper.old helper.new }
+    ensures works { WorksFrom pool.now (S.took source.old (actor_count pool.now))
+        (S.took source.new (actor_count pool.now)) helper.old helper.new }
     ensures none { IfOk result (λ found. found ≡ false → FindsNone helper.old helper.new) }
-    ensures found_none { IfOk result (λ found. found ≡ false → S.nones source.old (pass_of helper.old) + 1 ≤ S.nones source.new (pass_of helper.new)) }
+    ensures found_none { IfOk result (λ found. found ≡ false → S.nones source.old (pass_of helper.old) + 1 ≤ S.nones
+        source.new (pass_of helper.new)) }
     ensures nones { OnOk result (S.nones source.old (pass_of helper.old) ≤ S.nones source.new (pass_of helper.new)) }
     ensures fits { FitsSeen B.fits (seat_of helper.new) beside.new }
 {
@@ -109,7 +111,7 @@ fn work_once<R: Wait, G: Gate, S: TicketSource, B: Beside<R>, L: Ledger>(
         return Ok(true);
     }
     work_at(
-        rt, alloc, pool, helper, source, beside, gate, thread, actor, steps,
+        rt, alloc, pool, helper, source, beside, gate, worker, actor, steps,
     )?;
     Ok(true)
 }
@@ -123,7 +125,7 @@ fn work_on<R: Wait, G: Gate, S: TicketSource, B: Beside<R>, L: Ledger>(
     source: &mut S,
     beside: &mut B,
     gate: &G,
-    thread: u32,
+    worker: u32,
     blank: Blank,
 ) -> Result<(), NoMemory>
     requires own { IsHelperOf pool.now helper.old }
@@ -133,16 +135,18 @@ fn work_on<R: Wait, G: Gate, S: TicketSource, B: Beside<R>, L: Ledger>(
     requires blank_parts { blank.parts ≡ L.parts }
     requires some { 0 < L.parts }
     ensures belongs { S.belongs source.new (actor_count pool.now) }
-    ensures works { WorksFrom pool.now (S.took source.old (actor_count pool.now)) (S.took source.new (actor_count pool.now)) helper.old helper.new }
+    ensures works { WorksFrom pool.now (S.took source.old (actor_count pool.now))
+        (S.took source.new (actor_count pool.now)) helper.old helper.new }
     ensures none { OnOk result (FindsNone helper.old helper.new) }
-    ensures found_none { OnOk result (S.nones source.old (pass_of helper.old) + 1 ≤ S.nones source.new (pass_of helper.new)) }
+    ensures found_none { OnOk result (S.nones source.old (pass_of helper.old) + 1 ≤ S.nones source.new
+        (pass_of helper.new)) }
     ensures fits { FitsSeen B.fits (seat_of helper.new) beside.new }
 {
     let mut steps = Steps::<L>::new(blank);
     for _ in rt.forever() {
         let ended = feeds_ended(pool);
         let found = work_once(
-            rt, alloc, pool, helper, source, beside, gate, thread, &mut steps,
+            rt, alloc, pool, helper, source, beside, gate, worker, &mut steps,
         )?;
         if !found {
             if ended {
@@ -154,10 +158,10 @@ fn work_on<R: Wait, G: Gate, S: TicketSource, B: Beside<R>, L: Ledger>(
     unreachable!()
 }
 
-/// Takes tickets of a source, and at each of them a turn at its actor, until all feeds have ended and no ticket is found
-/// after that. It calls `enter` of the gate before each turn. Each actor that it takes a turn at is shown to what stands
-/// beside. After a turn it announces, by the source, the actors that the turn sent to, and the same actor where it may
-/// have more to do. The worker's number is counted from 1.
+/// Takes tickets of a source, and at each of them a turn at its actor, until all feeds have ended and no ticket is
+/// found after that. It calls `enter` of the gate before each turn. Each actor that it takes a turn at is shown to what
+/// stands beside. After a turn it announces, by the source, the actors that the turn sent to, and the same actor where
+/// it may have more to do. The worker's number is counted from 1.
 ///
 /// What is kept of each actor fits what the helper has seen of it, before and after, whatever the answer. `NoMemory`
 /// comes where a turn found no memory, of this worker or of another thread of the pool; each turn was given back then.
@@ -170,19 +174,21 @@ pub fn work_from_beside<R: Wait, G: Gate, S: TicketSource, B: Beside<R>>(
     source: &mut S,
     beside: &mut B,
     gate: &G,
-    thread: u32,
+    worker: u32,
 ) -> Result<(), NoMemory>
     requires own { IsHelperOf pool.now helper.old }
     requires belongs { S.belongs source.old (actor_count pool.now) }
     requires fits { FitsSeen B.fits (seat_of helper.old) beside.old }
     ensures belongs { S.belongs source.new (actor_count pool.now) }
-    ensures works { WorksFrom pool.now (S.took source.old (actor_count pool.now)) (S.took source.new (actor_count pool.now)) helper.old helper.new }
+    ensures works { WorksFrom pool.now (S.took source.old (actor_count pool.now))
+        (S.took source.new (actor_count pool.now)) helper.old helper.new }
     ensures none { OnOk result (FindsNone helper.old helper.new) }
-    ensures found_none { OnOk result (S.nones source.old (pass_of helper.old) + 1 ≤ S.nones source.new (pass_of helper.new)) }
+    ensures found_none { OnOk result (S.nones source.old (pass_of helper.old) + 1 ≤ S.nones source.new
+        (pass_of helper.new)) }
     ensures fits { FitsSeen B.fits (seat_of helper.new) beside.new }
 {
     let blank = Blank::new(1);
-    work_on::<R, G, S, B, Brand>(rt, alloc, pool, helper, source, beside, gate, thread, blank)
+    work_on::<R, G, S, B, Brand>(rt, alloc, pool, helper, source, beside, gate, worker, blank)
 }
 
 /// Works from a source of tickets, as `work_from_beside` does, with nobody beside the pool.
@@ -193,16 +199,18 @@ pub fn work_from<R: Wait, G: Gate, S: TicketSource>(
     helper: &mut Helper,
     source: &mut S,
     gate: &G,
-    thread: u32,
+    worker: u32,
 ) -> Result<(), NoMemory>
     requires own { IsHelperOf pool.now helper.old }
     requires belongs { S.belongs source.old (actor_count pool.now) }
     ensures belongs { S.belongs source.new (actor_count pool.now) }
-    ensures works { WorksFrom pool.now (S.took source.old (actor_count pool.now)) (S.took source.new (actor_count pool.now)) helper.old helper.new }
+    ensures works { WorksFrom pool.now (S.took source.old (actor_count pool.now))
+        (S.took source.new (actor_count pool.now)) helper.old helper.new }
     ensures none { OnOk result (FindsNone helper.old helper.new) }
-    ensures found_none { OnOk result (S.nones source.old (pass_of helper.old) + 1 ≤ S.nones source.new (pass_of helper.new)) }
+    ensures found_none { OnOk result (S.nones source.old (pass_of helper.old) + 1 ≤ S.nones source.new
+        (pass_of helper.new)) }
 {
-    work_from_beside(rt, alloc, pool, helper, source, &mut Nobody, gate, thread)
+    work_from_beside(rt, alloc, pool, helper, source, &mut Nobody, gate, worker)
 }
 
 /// Works from the pool's queue of tickets, as `work` does. Each actor that it takes a turn at is shown to what stands
@@ -216,7 +224,7 @@ pub fn work_beside<R: Wait, G: Gate, B: Beside<R>>(
     helper: &mut Helper,
     beside: &mut B,
     gate: &G,
-    thread: u32,
+    worker: u32,
 ) -> Result<(), NoMemory>
     requires own { IsHelperOf pool.now helper.old }
     requires fits { FitsSeen B.fits (seat_of helper.old) beside.old }
@@ -232,7 +240,7 @@ pub fn work_beside<R: Wait, G: Gate, B: Beside<R>>(
         &mut PoolQueue,
         beside,
         gate,
-        thread,
+        worker,
     )
 }
 
@@ -248,11 +256,11 @@ pub fn work<R: Wait, G: Gate>(
     pool: &Pool,
     helper: &mut Helper,
     gate: &G,
-    thread: u32,
+    worker: u32,
 ) -> Result<(), NoMemory>
     requires own { IsHelperOf pool.now helper.old }
     ensures works { Works pool.now helper.old helper.new }
     ensures none { OnOk result (FindsNone helper.old helper.new) }
 {
-    work_beside(rt, alloc, pool, helper, &mut Nobody, gate, thread)
+    work_beside(rt, alloc, pool, helper, &mut Nobody, gate, worker)
 }

@@ -16,7 +16,7 @@ use Rattle.fair_semantics.proofs.ListLemmas.{each_append}
 use Rattle.schedule_law.specs.WorkLeft.{most_work, work_left}
 use Rattle.schedule_law.proofs.BoundLemmas.{reached_work}
 use Rattle.schedule_law.proofs.WorkLemmas.{steps_leave_less}
-use Rattle.actor_system.specs.Serving.{Link, Served, ServedInPart, Serving, SteppedInPart, after_link, after_links, in_steps, is_some_post, links_of, links_to, or_same, some_taken, some_waits, system_in, waits_on}
+use Rattle.actor_system.specs.Serving.{Link, Served, ServedInPart, Serving, MadeStepsInPart, after_link, after_links, in_steps, is_some_post, links_of, links_to, or_same, some_taken, some_waits, system_in, waits_on}
 use Rattle.actor_system.specs.Inside.{IsSound}
 use Rattle.actor_system.proofs.LinkLemmas.{served_both, take_next, taken_where_waits}
 
@@ -140,7 +140,7 @@ step_more before now after k done one =
     let same = subst (λ (ls : List Link). Served now ls after) (same_all_links before now (in_steps k links) done) one in
     subst (λ (n : ℕ). Served before (in_steps n links) after) (sym next) (served_both before now after (in_steps k links) links done same)
 
-pub step_part : (before now after : Serving) (k : ℕ) → Served before (in_steps k (links_of before)) now → ServedInPart now (links_of now) after → SteppedInPart before after
+pub step_part : (before now after : Serving) (k : ℕ) → Served before (in_steps k (links_of before)) now → ServedInPart now (links_of now) after → MadeStepsInPart before after
 step_part before now after k done part = record {
   steps = k;
   first = part.first;

@@ -13,8 +13,8 @@ use Rattle.fair_semantics.specs.declared.run.ActorRun.{ActorRun}
 use Rattle.fair_semantics.specs.Fair.{run_of, setting_of}
 use Rattle.fair_semantics.specs.Linked.{IsLinked, numbers_from, sources}
 use Rattle.fair_semantics.specs.Step.{opening}
-use Rattle.run_order.specs.Order.{shown}
-use Rattle.run_order.proofs.SourceLemmas.{OneOf, actor_among, feed_among}
+use Rattle.run_order_law.specs.Order.{shown}
+use Rattle.run_order_law.proofs.SourceLemmas.{OneOf, actor_among, feed_among}
 use Rattle.schedule_law.specs.Reached.{NothingWaits}
 use Rattle.schedule_law.proofs.FitLemmas.{schedules_are_linked}
 use Rattle.schedule_law.proofs.SettledLemmas.{one_is_in}

@@ -12,10 +12,10 @@ use Rattle.fair_semantics.specs.Fair.{setting_of}
 use Rattle.fair_semantics.specs.Step.{State, fair_step, opening}
 use Rattle.fair_semantics.specs.Linked.{entry_posts}
 use Rattle.fair_semantics.specs.Schedule.{System, left_waiting, newly_waiting, posts_made, scheduled_step, state_after, taking}
-use Rattle.run_order.proofs.EventLemmas.{same_number}
-use Rattle.run_order.proofs.ListLemmas.{empty_right}
-use Rattle.run_order.proofs.ServeLemmas.{drop_added}
-use Rattle.run_order.proofs.SourceLemmas.{is_itself}
+use Rattle.run_order_law.proofs.EventLemmas.{same_number}
+use Rattle.run_order_law.proofs.ListLemmas.{empty_right}
+use Rattle.run_order_law.proofs.ServeLemmas.{drop_added}
+use Rattle.run_order_law.proofs.SourceLemmas.{is_itself}
 use Rattle.schedule_law.specs.Reached.{IsReached, IsServable}
 use Rattle.schedule_law.proofs.StandLemmas.{posts_beyond, reached_more}
 use Rattle.actor_turn.specs.Held.{Held, new_entries, posts_behind, posts_for, without_first}

@@ -6,7 +6,7 @@ use Rattle.script_types.specs.declared.plan.Plan.{Plan}
 use Rattle.fair_semantics.specs.declared.run.Limits.{Limits}
 use Rattle.fair_semantics.specs.Linked.{numbers_from}
 use Rattle.fair_semantics.proofs.FairLemmas.{numbers_from-more}
-use Rattle.run_fits.specs.FitsLaw.{RulesFit}
+use Rattle.run_fit_law.specs.FitsLaw.{RulesFit}
 use Rattle.actor_turn.specs.Held.{Held, new_actor}
 use Rattle.actor_system.specs.Opening.{RulesInRange, new_actors, rows_of}
 

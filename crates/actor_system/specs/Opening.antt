@@ -3,7 +3,7 @@ use Rattle.std.specs.Prelude.{ℕ, ◌<◌, List, map, replicate}
 use Rattle.script_types.specs.declared.plan.Plan.{Plan}
 use Rattle.fair_semantics.specs.declared.run.Limits.{Limits}
 use Rattle.fair_semantics.specs.Linked.{numbers_from}
-use Rattle.run_fits.specs.FitsLaw.{RulesFit}
+use Rattle.run_fit_law.specs.FitsLaw.{RulesFit}
 use Rattle.actor_turn.specs.Held.{Held, new_actor}
 
 -- the first of the actors

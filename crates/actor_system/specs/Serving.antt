@@ -130,12 +130,12 @@ in_steps zero links = []
 in_steps (suc k) links = in_steps k links ++ links
 
 -- so many whole steps were made
-pub record Stepped (before after : Serving) : Type 0 where
+pub record MadeSteps (before after : Serving) : Type 0 where
   pub steps : ℕ
   pub served : Served before (in_steps steps (links_of before)) after
 
 -- so many whole steps were made, and the first links of one more were served
-pub record SteppedInPart (before after : Serving) : Type 0 where
+pub record MadeStepsInPart (before after : Serving) : Type 0 where
   pub steps : ℕ
   pub first : List Link
   pub others : List Link

@@ -4,12 +4,12 @@ ghost use Rattle.join_base.specs.declared.message.Source.TheVariants as source;
 ghost use Rattle.script_types.specs.Typed.{IsTyped};
 ghost use Rattle.fair_semantics.specs.Fits.{IsFrom1To, SourceFits};
 ghost use Rattle.fair_semantics.specs.Linked.{IsLinked};
-ghost use Rattle.run_order.specs.Order.{IsScheduled, shown};
+ghost use Rattle.run_order_law.specs.Order.{IsScheduled, shown};
 ghost use Rattle.schedule_law.specs.Reached.{FeedsFit};
 ghost use Rattle.schedule_law.specs.WorkLeft.{work_left};
 ghost use Rattle.actor_turn.specs.Held.{AreLimits};
 ghost use Rattle.fair_semantics.specs.Schedule.{system_at_first};
-ghost use Rattle.actor_system.specs.Serving.{MovedTo, Served, ServedInPart, StandsAt, Stepped, SteppedInPart, after_link, links_of, links_to, some_taken, some_waits, system_in, waits_on};
+ghost use Rattle.actor_system.specs.Serving.{MovedTo, Served, ServedInPart, StandsAt, MadeSteps, MadeStepsInPart, after_link, links_of, links_to, some_taken, some_waits, system_in, waits_on};
 
 use crate::feed::next_for;
 use crate::opening::{actors_of, zeros};
@@ -92,7 +92,8 @@ impl<'p> System<'p> {
         requires target { target < length self.old.plan.actors }
         requires exists { SourceFits self.old.plan (length self.old.feeds) (source.Feed feed) }
 
-        ensures served { OnOk result (MovedTo self.old (after_link self.old.plan self.old.limits (system_in self.old) (target, source.Feed feed)) self.new) }
+        ensures served { OnOk result (MovedTo self.old (after_link self.old.plan self.old.limits (system_in self.old)
+            (target, source.Feed feed)) self.new) }
         ensures taken { IfOk result (λ taken. taken ≡ waits_on (system_in self.old) (target, source.Feed feed)) }
         ensures unchanged { OnErr result (MovedTo self.old (system_in self.old) self.new) }
     {
@@ -121,7 +122,8 @@ impl<'p> System<'p> {
         requires target { target < length self.old.plan.actors }
         requires exists { SourceFits self.old.plan (length self.old.feeds) (source.Actor sender) }
 
-        ensures served { OnOk result (MovedTo self.old (after_link self.old.plan self.old.limits (system_in self.old) (target, source.Actor sender)) self.new) }
+        ensures served { OnOk result (MovedTo self.old (after_link self.old.plan self.old.limits (system_in self.old)
+            (target, source.Actor sender)) self.new) }
         ensures taken { IfOk result (λ taken. taken ≡ waits_on (system_in self.old) (target, source.Actor sender)) }
         ensures unchanged { OnErr result (MovedTo self.old (system_in self.old) self.new) }
     {
@@ -152,7 +154,8 @@ impl<'p> System<'p> {
         requires target { target < length self.old.plan.actors }
         requires exists { SourceFits self.old.plan (length self.old.feeds) source }
 
-        ensures served { OnOk result (MovedTo self.old (after_link self.old.plan self.old.limits (system_in self.old) (target, source)) self.new) }
+        ensures served { OnOk result (MovedTo self.old (after_link self.old.plan self.old.limits (system_in self.old)
+            (target, source)) self.new) }
         ensures taken { IfOk result (λ taken. taken ≡ waits_on (system_in self.old) (target, source)) }
         ensures unchanged { OnErr result (MovedTo self.old (system_in self.old) self.new) }
     {
@@ -172,7 +175,8 @@ impl<'p> System<'p> {
         requires target { target < length self.old.plan.actors }
 
         ensures served { OnOk result (Served self.old (links_to self.old target) self.new) }
-        ensures taken { IfOk result (λ taken. taken ≡ some_taken self.old.plan self.old.limits (system_in self.old) (links_to self.old target)) }
+        ensures taken { IfOk result (λ taken. taken ≡ some_taken self.old.plan self.old.limits (system_in self.old)
+            (links_to self.old target)) }
         ensures part { OnErr result (ServedInPart self.old (links_to self.old target) self.new) }
     {
         let feeds = self.feeds.len();
@@ -224,8 +228,8 @@ impl<'p> System<'p> {
         ensures limits { self.new.limits ≡ self.old.limits }
         ensures feeds { self.new.feeds ≡ self.old.feeds }
         ensures nothing { OnOk result (some_waits self.new ≡ false) }
-        ensures stepped { OnOk result (Stepped self.old self.new) }
-        ensures part { OnErr result (SteppedInPart self.old self.new) }
+        ensures stepped { OnOk result (MadeSteps self.old self.new) }
+        ensures part { OnErr result (MadeStepsInPart self.old self.new) }
     {
         for turn in 0..self.most_steps() {
             if !self.step(alloc, steps)? {

@@ -7,7 +7,7 @@ use Rattle.script_types.specs.declared.plan.Plan.{Plan}
 use Rattle.fair_semantics.specs.declared.run.Limits.{Limits}
 use Rattle.fair_semantics.proofs.ListLemmas.{mapped_at}
 use Rattle.actor_turn.specs.Held.{Held, new_actor}
-use Rattle.cell_links.specs.declared.poster.Poster.{Poster}
+use Rattle.cell_links.specs.declared.feed_links.FeedLinks.{FeedLinks}
 use Rattle.cell_links.specs.Ends.{link_count, outward_tag, poster_links, poster_tag}
 use Rattle.actor_cells.specs.declared.cell.Cell.{Cell}
 use Rattle.actor_cells.specs.declared.serving.Turned.{Turned}
@@ -15,13 +15,13 @@ use Rattle.actor_cells.specs.Lawful.{cell_tag, held_in}
 use Rattle.actor_cells.specs.Prepared.{ArePrepared, IsServedAt}
 use Rattle.actor_cells.specs.Tags.{AreTagsOf, IsTagOf}
 
-pub count-kept : (p q : Poster) → poster_tag p ≡ poster_tag q → link_count p ≡ link_count q
+pub count-kept : (p q : FeedLinks) → poster_tag p ≡ poster_tag q → link_count p ≡ link_count q
 count-kept p q same = sym (length-map (poster_links p) outward_tag) ∙ ap length same ∙ length-map (poster_links q) outward_tag
 
 pub served-count : (place : ℕ) (old now : List Cell) (result : Result Turned NoMemory) → IsServedAt place old now result → length now ≡ length old
 served-count place old now result s = ap length s.only ∙ length-set old place s.after
 
-pub prepared_tags : (plan : Plan) (limits : Limits) (feeds ring : ℕ) (cells : List Cell) (posters : List Poster) → ArePrepared plan limits feeds ring cells posters → AreTagsOf plan limits feeds (map cell_tag cells)
+pub prepared_tags : (plan : Plan) (limits : Limits) (feeds ring : ℕ) (cells : List Cell) (posters : List FeedLinks) → ArePrepared plan limits feeds ring cells posters → AreTagsOf plan limits feeds (map cell_tag cells)
 prepared_tags plan limits feeds ring cells posters are = record {
   count = length-map cells cell_tag ∙ are.count;
   each = λ actor tag is.

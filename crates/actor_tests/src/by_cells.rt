@@ -2,7 +2,7 @@
 ghost use Rattle.std.specs.Prelude.{◌≡◌, ℕ, ◌<◌, All, IfOk, OnOk, length, map};
 ghost use Rattle.script_types.specs.Typed.{IsTyped};
 ghost use Rattle.fair_semantics.specs.Fits.{IsFrom1To};
-ghost use Rattle.run_fits.specs.FitsLaw.{RulesFit};
+ghost use Rattle.run_fit_law.specs.FitsLaw.{RulesFit};
 ghost use Rattle.actor_turn.specs.Held.{AreLimits};
 ghost use Rattle.cell_links.specs.Ends.{link_count, poster_tag};
 ghost use Rattle.actor_cells.specs.AllLawful.{AreLawful};
@@ -15,7 +15,7 @@ use crate::fed::limits_of;
 use crate::one_thread::feed_of;
 use crate::whole_runs::same_run;
 use actor_cells::{Cells, prepare};
-use cell_links::Poster;
+use cell_links::FeedLinks;
 use fair_semantics::{Limits, Run};
 use join_base::{FeedList, Message, Posts, Steps};
 use log_reader::read_log;
@@ -34,7 +34,7 @@ pub fn prepared(
     plan: &Plan,
     limits: Limits,
     ring: u32,
-) -> Result<(Cells, Vec<Poster>), Fail>
+) -> Result<(Cells, Vec<FeedLinks>), Fail>
     requires typed { IsTyped plan.now }
     requires limits { AreLimits limits }
     requires ring { IsFrom1To 4096 ring }
@@ -62,7 +62,7 @@ fn is_served<L: Ledger>(alloc: Global, cells: &mut Cells, actor: u32, steps: &mu
     served.is_ok()
 }
 
-fn is_pushed(poster: &mut Poster, actor: u32, message: Message) -> bool
+fn is_pushed(poster: &mut FeedLinks, actor: u32, message: Message) -> bool
     requires exists { actor < link_count poster.old }
     ensures poster { poster_tag poster.new ≡ poster_tag poster.old }
 {
@@ -73,7 +73,7 @@ fn is_pushed(poster: &mut Poster, actor: u32, message: Message) -> bool
 fn is_posted<L: Ledger>(
     alloc: Global,
     cells: &mut Cells,
-    poster: &mut Poster,
+    poster: &mut FeedLinks,
     actor: u32,
     message: Message,
     steps: &mut Steps<L>,
@@ -100,7 +100,7 @@ fn is_posted<L: Ledger>(
 fn is_copy_posted<L: Ledger>(
     alloc: Global,
     cells: &mut Cells,
-    poster: &mut Poster,
+    poster: &mut FeedLinks,
     actor: u32,
     message: &Message,
     steps: &mut Steps<L>,
@@ -125,7 +125,7 @@ fn is_copy_posted<L: Ledger>(
 fn are_posted<L: Ledger>(
     alloc: Global,
     cells: &mut Cells,
-    poster: &mut Poster,
+    poster: &mut FeedLinks,
     posts: &Posts,
     steps: &mut Steps<L>,
 ) -> bool

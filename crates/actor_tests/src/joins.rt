@@ -34,7 +34,7 @@ struct Rule {
 
 // A message, and whether it was brought and not yet taken.
 #[derive(Clone, Copy)]
-struct Letter {
+struct TestMessage {
     kind: u32,
     value: i64,
     waits: bool,
@@ -81,17 +81,17 @@ fn rule_by(state: &mut u32) -> Rule {
 }
 
 // No message, and then eight.
-fn letters_by(state: &mut u32) -> [Letter; 9] {
-    let mut letters = [Letter {
+fn messages_by(state: &mut u32) -> [TestMessage; 9] {
+    let mut messages = [TestMessage {
         kind: 0,
         value: 0,
         waits: false,
     }; 9];
     for number in 1..9 {
-        letters[number].kind = roll(state, 2);
-        letters[number].value = roll(state, 3) as i64;
+        messages[number].kind = roll(state, 2);
+        messages[number].value = roll(state, 3) as i64;
     }
-    letters
+    messages
 }
 
 // The text of a pattern of the first kind or of the second.
@@ -135,8 +135,8 @@ fn script_of(alloc: Global, rules: &[Rule; 2]) -> Result<String, Fail> {
     Ok(text)
 }
 
-fn row_of(letter: &Letter) -> &'static str {
-    match (letter.kind, letter.value) {
+fn row_of(message: &TestMessage) -> &'static str {
+    match (message.kind, message.value) {
         (0, 0) => "m,a,0\n",
         (0, 1) => "m,a,1\n",
         (0, _) => "m,a,2\n",
@@ -146,26 +146,26 @@ fn row_of(letter: &Letter) -> &'static str {
     }
 }
 
-fn feed_of(alloc: Global, letters: &[Letter]) -> Result<String, Fail> {
+fn feed_of(alloc: Global, messages: &[TestMessage]) -> Result<String, Fail> {
     let mut text = String::new(alloc);
-    for letter in letters {
-        text.push_str(row_of(letter))?;
+    for message in messages {
+        text.push_str(row_of(message))?;
     }
     Ok(text)
 }
 
 // Whether the number is that of a waiting message of the kind, and 0 where there is no pattern.
-fn may_stand(letters: &[Letter], kind: Option<u32>, number: u32) -> bool {
-    match (kind, letters.get(number as usize)) {
+fn may_stand(messages: &[TestMessage], kind: Option<u32>, number: u32) -> bool {
+    match (kind, messages.get(number as usize)) {
         (None, _) => number == 0,
-        (Some(kind), Some(letter)) => letter.waits && letter.kind == kind,
+        (Some(kind), Some(message)) => message.waits && message.kind == kind,
         (Some(_), None) => false,
     }
 }
 
-fn value(letters: &[Letter], number: u32) -> i64 {
-    match letters.get(number as usize) {
-        Some(letter) => letter.value,
+fn value(messages: &[TestMessage], number: u32) -> i64 {
+    match messages.get(number as usize) {
+        Some(message) => message.value,
         None => 0,
     }
 }
@@ -179,15 +179,15 @@ fn holds(guard: Guard, x: i64, y: i64) -> bool {
     }
 }
 
-fn is_match(letters: &[Letter], rule: &Rule, taken: [u32; 3]) -> bool {
+fn is_match(messages: &[TestMessage], rule: &Rule, taken: [u32; 3]) -> bool {
     let [first, second, third] = taken;
-    may_stand(letters, rule.kinds[0], first)
-        && may_stand(letters, rule.kinds[1], second)
-        && may_stand(letters, rule.kinds[2], third)
+    may_stand(messages, rule.kinds[0], first)
+        && may_stand(messages, rule.kinds[1], second)
+        && may_stand(messages, rule.kinds[2], third)
         && first != second
         && first != third
         && (third == 0 || second != third)
-        && holds(rule.guard, value(letters, first), value(letters, second))
+        && holds(rule.guard, value(messages, first), value(messages, second))
 }
 
 // The match with its numbers in ascending order, and 0 behind them.
@@ -215,13 +215,13 @@ fn lesser(best: Option<Match>, found: Match) -> Option<Match> {
 }
 
 // The least of a match and those of the definition.
-fn least(letters: &[Letter], rule: &Rule, number: u32, best: Option<Match>) -> Option<Match> {
+fn least(messages: &[TestMessage], rule: &Rule, number: u32, best: Option<Match>) -> Option<Match> {
     let mut best = best;
     for first in 1..9 {
         for second in 0..9 {
             for third in 0..9 {
                 let taken = [first, second, third];
-                if is_match(letters, rule, taken) {
+                if is_match(messages, rule, taken) {
                     best = lesser(best, match_of(number, taken));
                 }
             }
@@ -230,10 +230,10 @@ fn least(letters: &[Letter], rule: &Rule, number: u32, best: Option<Match>) -> O
     best
 }
 
-fn take_out(letters: &mut [Letter], taken: [u32; 3]) {
+fn take_out(messages: &mut [TestMessage], taken: [u32; 3]) {
     for number in taken {
-        if let Some(letter) = letters.get_mut(number as usize) {
-            letter.waits = false;
+        if let Some(message) = messages.get_mut(number as usize) {
+            message.waits = false;
         }
     }
 }
@@ -253,16 +253,16 @@ fn match_in(fired: &Fired) -> Option<Match> {
 }
 
 // Whether each arrival fired the least match of those that waited.
-fn are_least(rules: &[Rule; 2], letters: [Letter; 9], firings: &[Fired]) -> bool {
-    let mut letters = letters;
+fn are_least(rules: &[Rule; 2], messages: [TestMessage; 9], firings: &[Fired]) -> bool {
+    let mut messages = messages;
     let mut same = firings.len() == 8;
     for place in 0..8 {
-        letters[place + 1].waits = true;
-        let first = least(&letters, &rules[0], 1, None);
-        let best = least(&letters, &rules[1], 2, first);
+        messages[place + 1].waits = true;
+        let first = least(&messages, &rules[0], 1, None);
+        let best = least(&messages, &rules[1], 2, first);
         same &= firings.get(place).map(match_in) == Some(best);
         if let Some(found) = best {
-            take_out(&mut letters, found.taken);
+            take_out(&mut messages, found.taken);
         }
     }
     same
@@ -276,27 +276,27 @@ fn plan_by(alloc: Global, rules: &[Rule; 2]) -> Result<Plan, Fail>
     Ok(plan)
 }
 
-fn posts_by(alloc: Global, plan: &Plan, letters: &[Letter]) -> Result<Posts, Fail>
+fn posts_by(alloc: Global, plan: &Plan, messages: &[TestMessage]) -> Result<Posts, Fail>
     requires { IsTyped plan.now }
 {
-    let feed = feed_of(alloc, letters)?;
+    let feed = feed_of(alloc, messages)?;
     let posts = read_feed(alloc, plan, feed.as_bytes())?;
     Ok(posts)
 }
 
-// Whether the actor fires the least match at each of the posts, which are those letters.
+// Whether the actor fires the least match at each of the posts, which are those messages.
 fn fires<L: Ledger>(
     alloc: Global,
     actor: &mut Actor,
     posts: &Posts,
     rules: &[Rule; 2],
-    letters: [Letter; 9],
+    messages: [TestMessage; 9],
     steps: &mut Steps<L>,
 ) -> Result<bool, Fail>
     requires { HasCount actor.old.state.late (source.Feed 1) }
 {
     outcomes(alloc, actor, posts, steps)?;
-    Ok(are_least(rules, letters, actor.firings()))
+    Ok(are_least(rules, messages, actor.firings()))
 }
 
 fn fires_the_least<L: Ledger>(alloc: Global, seed: u32, blank: Blank) -> Result<bool, Fail>
@@ -306,12 +306,12 @@ fn fires_the_least<L: Ledger>(alloc: Global, seed: u32, blank: Blank) -> Result<
 {
     let mut state = seed;
     let rules = [rule_by(&mut state), rule_by(&mut state)];
-    let letters = letters_by(&mut state);
+    let messages = messages_by(&mut state);
     let mut steps = Steps::<L>::new(blank);
     let plan = plan_by(alloc, &rules)?;
-    let posts = posts_by(alloc, &plan, &letters[1..])?;
+    let posts = posts_by(alloc, &plan, &messages[1..])?;
     let mut actor = first_actor(alloc, &plan, limits_of(8, 1000))?;
-    fires(alloc, &mut actor, &posts, &rules, letters, &mut steps)
+    fires(alloc, &mut actor, &posts, &rules, messages, &mut steps)
 }
 
 #[test]

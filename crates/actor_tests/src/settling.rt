@@ -1,6 +1,6 @@
 ghost use Rattle.std.specs.Prelude.{◌≡◌, ℕ, ◌<◌, All, IfOk, OnOk, length, map};
 ghost use Rattle.script_types.specs.Typed.{IsTyped};
-ghost use Rattle.run_fits.specs.FitsLaw.{RulesFit};
+ghost use Rattle.run_fit_law.specs.FitsLaw.{RulesFit};
 ghost use Rattle.actor_turn.specs.Held.{AreLimits};
 ghost use Rattle.cell_links.specs.Ends.{link_count, poster_tag};
 ghost use Rattle.actor_cells.specs.AllLawful.{AreLawful};
@@ -10,7 +10,7 @@ ghost use Rattle.actor_cells.specs.Tags.{AreTagsOf};
 
 use crate::by_cells;
 use actor_cells::{Cells, Turned};
-use cell_links::Poster;
+use cell_links::FeedLinks;
 use fair_semantics::{Limits, Run};
 use join_base::{Fields, Items, Message, Name, NoMemory, Steps};
 use pool_settling::settle;
@@ -42,7 +42,7 @@ fn plan(alloc: Global) -> Result<Plan, Fail>
 }
 
 // The cell of that actor, and the poster of a feed.
-fn prepared(alloc: Global, plan: &Plan, limits: Limits) -> Result<(Cells, Vec<Poster>), Fail>
+fn prepared(alloc: Global, plan: &Plan, limits: Limits) -> Result<(Cells, Vec<FeedLinks>), Fail>
     requires typed { IsTyped plan.now }
     requires one { length plan.now.actors ≡ 1 }
     requires limits { AreLimits limits }
@@ -59,7 +59,7 @@ fn prepared(alloc: Global, plan: &Plan, limits: Limits) -> Result<(Cells, Vec<Po
 }
 
 // Posts so many messages to the actor, as far as there is room, and counts them.
-fn post(alloc: Global, poster: &mut Poster, count: u32) -> u32
+fn post(alloc: Global, poster: &mut FeedLinks, count: u32) -> u32
     requires { link_count poster.old ≡ 1 }
     ensures { poster_tag poster.new ≡ poster_tag poster.old }
 {

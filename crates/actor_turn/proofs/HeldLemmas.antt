@@ -21,7 +21,7 @@ use Rattle.fair_semantics.specs.declared.run.Ending.TheVariants as ending
 use Rattle.fair_semantics.specs.declared.run.Firing.{Firing}
 use Rattle.fair_semantics.specs.declared.run.Limits.{Limits}
 use Rattle.fair_semantics.specs.Fair.{rules_of, setting_of}
-use Rattle.fair_semantics.specs.Step.{Setting, State, definitions_of, letters_of}
+use Rattle.fair_semantics.specs.Step.{Setting, State, definitions_of, recorded_messages}
 use Rattle.actor_turn.specs.Held.{AreLimits, Held, new_actor, new_trees}
 use Rattle.actor_turn.specs.Inside.{IsAtRest}
 use Rattle.actor_turn.specs.Parts.{history_in, state_of}
@@ -35,9 +35,9 @@ only_one x [] all member once = absurd member
 only_one {X} x (y ∷ []) all member once = ap (λ (z : X). z ∷ []) (all y (inl refl))
 only_one x (y ∷ z ∷ xs) all member once = absurd (once.0 (inl (all z (inr (inl refl)) ∙ sym (all y (inl refl)))))
 
-alone : (letters : List Message) (tree : Tree) → 1 ≤ length tree.definition.patterns → SeesLatest tree.definition.window → ArePartial letters [] tree.definition tree.paths → HasOnce tree → tree.paths ≡ empty_of tree.definition ∷ []
-alone letters tree some sees partial once =
-    let cleared = (cleared_holds letters tree some sees).partial in
+alone : (messages : List Message) (tree : Tree) → 1 ≤ length tree.definition.patterns → SeesLatest tree.definition.window → ArePartial messages [] tree.definition tree.paths → HasOnce tree → tree.paths ≡ empty_of tree.definition ∷ []
+alone messages tree some sees partial once =
+    let cleared = (cleared_holds messages tree some sees).partial in
     only_one empty tree.paths (λ path m. is_empty path (cleared.back path (partial.to path m))) (partial.back empty (cleared.to empty (inl refl))) once
   where
     empty : Assignment
@@ -47,26 +47,26 @@ alone letters tree some sees partial once =
     is_empty path (inl e) = sym e
     is_empty path (inr m) = absurd m
 
-all_alone : (letters : List Message) (trees : List Tree) → HoldAll letters [] trees → AllByRecursion HasOnce trees → AllByRecursion (λ (tree : Tree). tree.paths ≡ empty_of tree.definition ∷ []) trees
-all_alone letters [] hold once = tt
-all_alone letters (t ∷ trees) hold once = (alone letters t hold.0.some hold.0.sees hold.0.partial once.0, all_alone letters trees hold.1 once.1)
+all_alone : (messages : List Message) (trees : List Tree) → HoldAll messages [] trees → AllByRecursion HasOnce trees → AllByRecursion (λ (tree : Tree). tree.paths ≡ empty_of tree.definition ∷ []) trees
+all_alone messages [] hold once = tt
+all_alone messages (t ∷ trees) hold once = (alone messages t hold.0.some hold.0.sees hold.0.partial once.0, all_alone messages trees hold.1 once.1)
 
 -- ---- from trees that hold the partial matches
 
-all_partial : (letters : List Message) (live : List ℕ) (trees : List Tree) → HoldAll letters live trees → AllByRecursion (λ (tree : Tree). ArePartial letters live tree.definition tree.paths) trees
-all_partial letters live [] hold = tt
-all_partial letters live (t ∷ trees) hold = (hold.0.partial, all_partial letters live trees hold.1)
+all_partial : (messages : List Message) (live : List ℕ) (trees : List Tree) → HoldAll messages live trees → AllByRecursion (λ (tree : Tree). ArePartial messages live tree.definition tree.paths) trees
+all_partial messages live [] hold = tt
+all_partial messages live (t ∷ trees) hold = (hold.0.partial, all_partial messages live trees hold.1)
 
 nothing_in : {X : Type 0} (xs : List X) → ((x : X) → ¬ IsIn x xs) → xs ≡ []
 nothing_in [] none = refl
 nothing_in (x ∷ xs) none = absurd (none x (inl refl))
 
-none_complete : (letters : List Message) (live : List ℕ) (rule : ℕ) (definitions : List Definition) (trees : List Tree) → AreTreesOf rule definitions trees → HoldAll letters live trees
-    → AllByRecursion (λ (d : Definition). complete_matches letters live d ≡ []) definitions
-none_complete letters live rule [] trees are hold = tt
-none_complete letters live rule (d ∷ definitions) [] are hold = absurd are
-none_complete letters live rule (d ∷ definitions) (t ∷ trees) are hold =
-    (ap (complete_matches letters live) (sym are.0) ∙ nothing_in (complete_matches letters live t.definition) hold.0.none, none_complete letters live (rule + 1) definitions trees are.2 hold.1)
+none_complete : (messages : List Message) (live : List ℕ) (rule : ℕ) (definitions : List Definition) (trees : List Tree) → AreTreesOf rule definitions trees → HoldAll messages live trees
+    → AllByRecursion (λ (d : Definition). complete_matches messages live d ≡ []) definitions
+none_complete messages live rule [] trees are hold = tt
+none_complete messages live rule (d ∷ definitions) [] are hold = absurd are
+none_complete messages live rule (d ∷ definitions) (t ∷ trees) are hold =
+    (ap (complete_matches messages live) (sym are.0) ∙ nothing_in (complete_matches messages live t.definition) hold.0.none, none_complete messages live (rule + 1) definitions trees are.2 hold.1)
 
 -- ---- every actor
 
@@ -74,20 +74,20 @@ module _ (setting : Setting) (m : Mail) (firings : List (Option Firing)) (end : 
   abbrev held : Held
   held = record { setting = setting; state = state_of m firings end; history = history_in m.arrivals; trees = trees; outbox = outbox; lent = lent }
 
-  abbrev letters : List Message
-  letters = letters_of held.state.entries
+  abbrev messages : List Message
+  messages = recorded_messages held.state.entries
 
   pub partial_held : HoldsPartialMatches held
   partial_held = record {
     of_rules = rest.steady.of_rules;
-    partial = all_partial letters m.live trees rest.steady.hold;
+    partial = all_partial messages m.live trees rest.steady.hold;
     once = rest.once;
     settled = rest.steady.settled;
-    ended = λ over. record { none_left = rest.ended over; alone = all_alone letters trees (subst (λ (live : List ℕ). HoldAll letters live trees) (rest.ended over) rest.steady.hold) rest.once };
+    ended = λ over. record { none_left = rest.ended over; alone = all_alone messages trees (subst (λ (live : List ℕ). HoldAll messages live trees) (rest.ended over) rest.steady.hold) rest.once };
   }
 
   pub none_waits : NoMatchWaits held
-  none_waits = record { none = none_complete letters m.live 1 (definitions_of setting.rules) trees rest.steady.of_rules rest.steady.hold; newest = rest.newest }
+  none_waits = record { none = none_complete messages m.live 1 (definitions_of setting.rules) trees rest.steady.of_rules rest.steady.hold; newest = rest.newest }
 
 -- ---- actors with the same trees, and new ones
 

@@ -19,10 +19,10 @@ let_go_is number taken [] = refl
 let_go_is number taken (t ∷ trees) = ap (λ (ts : List Tree). fired_at number taken t ∷ ts) (let_go_is number taken trees)
 
 -- what may be offered to all paths may be to those that are still seen
-pub can_expired : (letters : List Message) (number : ℕ) (trees : List Tree) → AllByRecursion (CanOfferTo letters number) trees → AllByRecursion (CanOfferTo letters number) (map settled_tree (map (expired_tree number) trees))
-can_expired letters number [] h = tt
-can_expired letters number (t ∷ trees) h = (each_filter (CanOffer (offer_to t letters number)) (is_path_seen (oldest_seen t.definition.window number)) t.paths h.0, can_expired letters number trees h.1)
+pub can_expired : (messages : List Message) (number : ℕ) (trees : List Tree) → AllByRecursion (CanOfferTo messages number) trees → AllByRecursion (CanOfferTo messages number) (map settled_tree (map (expired_tree number) trees))
+can_expired messages number [] h = tt
+can_expired messages number (t ∷ trees) h = (each_filter (CanOffer (offer_to t messages number)) (is_path_seen (oldest_seen t.definition.window number)) t.paths h.0, can_expired messages number trees h.1)
 
-pub indexed_expired : (index : Index) (letters : List Message) (number : ℕ) (trees : List Tree) → AllByRecursion (HasPaths index letters) trees → AllByRecursion (HasPaths index letters) (map settled_tree (map (expired_tree number) trees))
-indexed_expired index letters number [] h = tt
-indexed_expired index letters number (t ∷ trees) h = (each_filter (AreIndexed index letters) (is_path_seen (oldest_seen t.definition.window number)) t.paths h.0, indexed_expired index letters number trees h.1)
+pub indexed_expired : (index : Index) (messages : List Message) (number : ℕ) (trees : List Tree) → AllByRecursion (HasPaths index messages) trees → AllByRecursion (HasPaths index messages) (map settled_tree (map (expired_tree number) trees))
+indexed_expired index messages number [] h = tt
+indexed_expired index messages number (t ∷ trees) h = (each_filter (AreIndexed index messages) (is_path_seen (oldest_seen t.definition.window number)) t.paths h.0, indexed_expired index messages number trees h.1)

@@ -10,7 +10,7 @@ use Rattle.pattern_core.specs.Window.{SeesLatest, oldest_seen}
 use Rattle.value_index.specs.Index.{Index}
 use Rattle.match_tree.specs.Tree.{Tree, is_path_seen, is_path_without, empty_of}
 use Rattle.match_tree.specs.Tries.{tried, tries}
-use Rattle.tree_law.specs.Partials.{AreLive, letters_more, number_more, offer_more}
+use Rattle.tree_law.specs.Partials.{AreLive, messages_more, number_more, offer_more}
 use Rattle.tree_law.specs.Trees.{HoldAll, HasOnce, AreTreesOf, AreReservedFor, AreSettled, CanOfferTo, HasPaths, IsReservedAt, cleared_tree, expired_tree, path_count, settled_tree, tries_at, tries_from}
 use Rattle.tree_law.proofs.CountLemmas.{once_filter, once_sum}
 use Rattle.tree_law.proofs.OfferLemmas.{can_offer}
@@ -21,25 +21,25 @@ use Rattle.actor_turn.specs.Steady.{HasPatterns}
 
 -- ---- what is offered, and how often it is tried
 
-module _ (letters : List Message) (message : Message) (live : List ℕ) where
-  pub can_offer_all : AreLive letters live → (rule : ℕ) (definitions : List Definition) (trees : List Tree) → AllByRecursion (DefinitionSuits (letters_more letters message)) definitions
-      → AreTreesOf rule definitions trees → HoldAll letters live trees → AllByRecursion (CanOfferTo (letters_more letters message) (number_more letters)) trees
+module _ (messages : List Message) (message : Message) (live : List ℕ) where
+  pub can_offer_all : AreLive messages live → (rule : ℕ) (definitions : List Definition) (trees : List Tree) → AllByRecursion (DefinitionSuits (messages_more messages message)) definitions
+      → AreTreesOf rule definitions trees → HoldAll messages live trees → AllByRecursion (CanOfferTo (messages_more messages message) (number_more messages)) trees
   can_offer_all are_live rule [] [] suits are hold = tt
   can_offer_all are_live rule [] (t ∷ trees) suits are hold = absurd are
   can_offer_all are_live rule (d ∷ definitions) [] suits are hold = absurd are
   can_offer_all are_live rule (d ∷ definitions) (t ∷ trees) suits are hold =
-      let own = subst (λ (x : Definition). DefinitionSuits (letters_more letters message) x) (sym are.0) suits.0 in
-      (can_offer letters message live t are_live own hold.0, can_offer_all are_live (rule + 1) definitions trees suits.1 are.2 hold.1)
+      let own = subst (λ (x : Definition). DefinitionSuits (messages_more messages message) x) (sym are.0) suits.0 in
+      (can_offer messages message live t are_live own hold.0, can_offer_all are_live (rule + 1) definitions trees suits.1 are.2 hold.1)
 
-  pub tries_counted : (rule : ℕ) (definitions : List Definition) (trees : List Tree) → AreTreesOf rule definitions trees → HoldAll letters live trees → AllByRecursion HasOnce trees
-      → tries_at (letters_more letters message) (number_more letters) trees ≤ tries_from letters message live rule definitions
+  pub tries_counted : (rule : ℕ) (definitions : List Definition) (trees : List Tree) → AreTreesOf rule definitions trees → HoldAll messages live trees → AllByRecursion HasOnce trees
+      → tries_at (messages_more messages message) (number_more messages) trees ≤ tries_from messages message live rule definitions
   tries_counted rule [] [] are hold once = omega arith
   tries_counted rule [] (t ∷ trees) are hold once = absurd are
   tries_counted rule (d ∷ definitions) [] are hold once = absurd are
   tries_counted rule (d ∷ definitions) (t ∷ trees) are hold once =
-      let o = offer_more letters message t.definition t.rule in
-      let one : tries o t.paths ≤ tries o (partial_matches letters live t.definition) = once_sum (λ (path : Assignment). length (tried o path)) t.paths (partial_matches letters live t.definition) once.0 hold.0.partial.to in
-      let same : tries o (partial_matches letters live t.definition) ≡ tries (offer_more letters message d rule) (partial_matches letters live d) = λ i. tries (offer_more letters message (are.0 i) (are.1 i)) (partial_matches letters live (are.0 i)) in
+      let o = offer_more messages message t.definition t.rule in
+      let one : tries o t.paths ≤ tries o (partial_matches messages live t.definition) = once_sum (λ (path : Assignment). length (tried o path)) t.paths (partial_matches messages live t.definition) once.0 hold.0.partial.to in
+      let same : tries o (partial_matches messages live t.definition) ≡ tries (offer_more messages message d rule) (partial_matches messages live d) = λ i. tries (offer_more messages message (are.0 i) (are.1 i)) (partial_matches messages live (are.0 i)) in
       let rest = tries_counted (rule + 1) definitions trees are.2 hold.1 once.1 in
       omega arith
 
@@ -51,17 +51,17 @@ unsettled_of rule [] (t ∷ trees) h = h
 unsettled_of rule (d ∷ definitions) [] h = h
 unsettled_of rule (d ∷ definitions) (t ∷ trees) h = (h.0, h.1, unsettled_of (rule + 1) definitions trees h.2)
 
-pub unsettled_hold : (letters : List Message) (live : List ℕ) (trees : List Tree) → HoldAll letters live (map settled_tree trees) → HoldAll letters live trees
-unsettled_hold letters live [] h = tt
-unsettled_hold letters live (t ∷ trees) h = (record { some = h.0.some; sees = h.0.sees; partial = h.0.partial; none = h.0.none }, unsettled_hold letters live trees h.1)
+pub unsettled_hold : (messages : List Message) (live : List ℕ) (trees : List Tree) → HoldAll messages live (map settled_tree trees) → HoldAll messages live trees
+unsettled_hold messages live [] h = tt
+unsettled_hold messages live (t ∷ trees) h = (record { some = h.0.some; sees = h.0.sees; partial = h.0.partial; none = h.0.none }, unsettled_hold messages live trees h.1)
 
-pub unsettled_can : (letters : List Message) (number : ℕ) (trees : List Tree) → AllByRecursion (CanOfferTo letters number) (map settled_tree trees) → AllByRecursion (CanOfferTo letters number) trees
-unsettled_can letters number [] h = tt
-unsettled_can letters number (t ∷ trees) h = (h.0, unsettled_can letters number trees h.1)
+pub unsettled_can : (messages : List Message) (number : ℕ) (trees : List Tree) → AllByRecursion (CanOfferTo messages number) (map settled_tree trees) → AllByRecursion (CanOfferTo messages number) trees
+unsettled_can messages number [] h = tt
+unsettled_can messages number (t ∷ trees) h = (h.0, unsettled_can messages number trees h.1)
 
-pub unsettled_paths : (index : Index) (letters : List Message) (trees : List Tree) → AllByRecursion (HasPaths index letters) (map settled_tree trees) → AllByRecursion (HasPaths index letters) trees
-unsettled_paths index letters [] h = tt
-unsettled_paths index letters (t ∷ trees) h = (h.0, unsettled_paths index letters trees h.1)
+pub unsettled_paths : (index : Index) (messages : List Message) (trees : List Tree) → AllByRecursion (HasPaths index messages) (map settled_tree trees) → AllByRecursion (HasPaths index messages) trees
+unsettled_paths index messages [] h = tt
+unsettled_paths index messages (t ∷ trees) h = (h.0, unsettled_paths index messages trees h.1)
 
 pub unsettled_once : (trees : List Tree) → AllByRecursion HasOnce (map settled_tree trees) → AllByRecursion HasOnce trees
 unsettled_once [] h = tt
@@ -71,9 +71,9 @@ pub unsettled_count : (trees : List Tree) → path_count (map settled_tree trees
 unsettled_count [] = refl
 unsettled_count (t ∷ trees) = ap (λ (n : ℕ). length t.paths + n) (unsettled_count trees)
 
-pub reserved_for : (letters : List Message) (message : Message) (trees : List Tree) → AllByRecursion (IsReservedAt (letters_more letters message) (number_more letters)) trees → AreReservedFor letters message trees
-reserved_for letters message [] h = tt
-reserved_for letters message (t ∷ trees) h = (h.0, reserved_for letters message trees h.1)
+pub reserved_for : (messages : List Message) (message : Message) (trees : List Tree) → AllByRecursion (IsReservedAt (messages_more messages message) (number_more messages)) trees → AreReservedFor messages message trees
+reserved_for messages message [] h = tt
+reserved_for messages message (t ∷ trees) h = (h.0, reserved_for messages message trees h.1)
 
 -- ---- paths are few, and none stands twice
 

@@ -5,14 +5,14 @@ use Rattle.std.proofs.Math.Seq.{append_snoc, take-append_seam}
 use Rattle.std.proofs.lemmas.List.{append_cancel_left, map-append, reverse-append}
 use Rattle.join_base.specs.declared.message.Message.{Message}
 use Rattle.join_base.specs.declared.message.Source.{Source}
-use Rattle.mailbox_core.specs.Mail.{Mail, Received, latest_from, latest, marks_of, next_arrival, received_of, with_arrival, with_live, without_last}
-use Rattle.mailbox_core.specs.declared.mailbox.Mark.{Mark}
+use Rattle.mailbox_core.specs.Mail.{Mail, Received, latest_from, latest, postmarks_of, next_arrival, received_of, with_arrival, with_live, without_last}
+use Rattle.mailbox_core.specs.declared.mailbox.Postmark.{Postmark}
 use Rattle.mailbox_core.proofs.MailLemmas.{arrival_of, received_count, received_push}
 use Rattle.mailbox_core.specs.Mail as mail
 use Rattle.fair_semantics.specs.declared.run.Ending.{Ending}
 use Rattle.fair_semantics.specs.declared.run.Entry.{Entry}
 use Rattle.fair_semantics.specs.declared.run.Firing.{Firing}
-use Rattle.fair_semantics.specs.Step.{Arrival, last_stamp, letters_of, recorded}
+use Rattle.fair_semantics.specs.Step.{Arrival, last_stamp, recorded_messages, recorded}
 use Rattle.actor_turn.specs.Parts.{entries_of, state_of, AreFired}
 
 pub entries_count : (from : ℕ) (arrivals : List Received) (firings : List (Option Firing)) → length firings ≡ length arrivals → length (entries_of from arrivals firings) ≡ length arrivals
@@ -28,10 +28,10 @@ entries_firings from (a ∷ arrivals) [] e = absurd (omega arith)
 entries_firings from (a ∷ arrivals) (f ∷ firings) e = ap (λ (fs : List (Option Firing)). f ∷ fs) (entries_firings (from + 1) arrivals firings (omega arith))
 
 -- the messages are those of the mailbox
-pub entries_letters : (from : ℕ) (arrivals : List Received) (firings : List (Option Firing)) → length firings ≡ length arrivals → letters_of (entries_of from arrivals firings) ≡ mail.letters_of arrivals
-entries_letters from [] firings e = refl
-entries_letters from (a ∷ arrivals) [] e = absurd (omega arith)
-entries_letters from (a ∷ arrivals) (f ∷ firings) e = ap (λ (ms : List Message). a.message ∷ ms) (entries_letters (from + 1) arrivals firings (omega arith))
+pub entries_messages : (from : ℕ) (arrivals : List Received) (firings : List (Option Firing)) → length firings ≡ length arrivals → recorded_messages (entries_of from arrivals firings) ≡ mail.recorded_messages arrivals
+entries_messages from [] firings e = refl
+entries_messages from (a ∷ arrivals) [] e = absurd (omega arith)
+entries_messages from (a ∷ arrivals) (f ∷ firings) e = ap (λ (ms : List Message). a.message ∷ ms) (entries_messages (from + 1) arrivals firings (omega arith))
 
 -- and so is the latest stamp
 pub entries_latest : (from before : ℕ) (arrivals : List Received) (firings : List (Option Firing)) → length firings ≡ length arrivals → last_stamp before (entries_of from arrivals firings) ≡ latest_from before arrivals
@@ -67,17 +67,17 @@ module _ (m : Mail) (firings : List (Option Firing)) (end : Ending) (source : So
 
 -- ---- the entries of a run
 
-abbrev pub entry_from : ℕ → Message → Mark → Option Firing → Entry
+abbrev pub entry_from : ℕ → Message → Postmark → Option Firing → Entry
 entry_from number message mark firing = record { number = number; source = mark.source; message = message; stamp = mark.stamp; firing = firing }
 
 -- the last of each list goes in front of the entries that are there, the last first
-pub popped_entries : (letters letters' : List Message) (marks marks' : List Mark) (firings firings' : List (Option Firing)) (m : Message) (k : Mark) (f : Option Firing) (entries entries' : List Entry) (last : ℕ) (whole : List Entry)
-    → length marks' ≡ length letters' → length firings' ≡ length letters' → letters ≡ letters' ++ m ∷ [] → marks ≡ marks' ++ k ∷ [] → firings ≡ firings' ++ f ∷ [] → last ≡ 1 + length letters' → entries' ≡ entries ++ entry_from last m k f ∷ []
-    → entries_of 1 (received_of letters marks) firings ++ reverse entries ≡ whole → entries_of 1 (received_of letters' marks') firings' ++ reverse entries' ≡ whole
-popped_entries letters letters' marks marks' firings firings' m k f entries entries' last whole em ef el ek en eat er told =
-    let front : List Entry = entries_of 1 (received_of letters' marks') firings' in
-    let count = received_count letters' marks' em in
-    let pushed = ap (λ (rs : List Received). entries_of 1 rs (firings' ++ f ∷ [])) (received_push letters' marks' m k em) ∙ entries_more 1 last (received_of letters' marks') firings' (arrival_of m k) f (omega arith) (omega arith) in
+pub popped_entries : (messages messages' : List Message) (marks marks' : List Postmark) (firings firings' : List (Option Firing)) (m : Message) (k : Postmark) (f : Option Firing) (entries entries' : List Entry) (last : ℕ) (whole : List Entry)
+    → length marks' ≡ length messages' → length firings' ≡ length messages' → messages ≡ messages' ++ m ∷ [] → marks ≡ marks' ++ k ∷ [] → firings ≡ firings' ++ f ∷ [] → last ≡ 1 + length messages' → entries' ≡ entries ++ entry_from last m k f ∷ []
+    → entries_of 1 (received_of messages marks) firings ++ reverse entries ≡ whole → entries_of 1 (received_of messages' marks') firings' ++ reverse entries' ≡ whole
+popped_entries messages messages' marks marks' firings firings' m k f entries entries' last whole em ef el ek en eat er told =
+    let front : List Entry = entries_of 1 (received_of messages' marks') firings' in
+    let count = received_count messages' marks' em in
+    let pushed = ap (λ (rs : List Received). entries_of 1 rs (firings' ++ f ∷ [])) (received_push messages' marks' m k em) ∙ entries_more 1 last (received_of messages' marks') firings' (arrival_of m k) f (omega arith) (omega arith) in
     ap (λ (rs : List Entry). front ++ reverse rs) er
     ∙ ap (λ (rs : List Entry). front ++ rs) (reverse-append entries (entry_from last m k f ∷ []))
     ∙ sym (append_snoc front (entry_from last m k f) (reverse entries))
@@ -85,8 +85,8 @@ popped_entries letters letters' marks marks' firings firings' m k f entries entr
     ∙ (λ i. entries_of 1 (received_of (sym el i) (sym ek i)) (sym en i) ++ reverse entries)
     ∙ told
 
--- the arrivals are those of their letters and marks
-pub received_again : (arrivals : List Received) → received_of (mail.letters_of arrivals) (marks_of arrivals) ≡ arrivals
+-- the arrivals are those of their messages and marks
+pub received_again : (arrivals : List Received) → received_of (mail.recorded_messages arrivals) (postmarks_of arrivals) ≡ arrivals
 received_again [] = refl
 received_again (a ∷ arrivals) = ap (λ (rs : List Received). a ∷ rs) (received_again arrivals)
 
@@ -103,11 +103,11 @@ retracted_again m source message stamp =
     λ i. record { arrivals = arrivals i; live = live i; late = m.late }
 
 -- and its message comes back
-pub handed_back : (m before after : Mail) (source : Source) (message back : Message) (stamp : ℕ) → before ≡ with_arrival m source message stamp → mail.letters_of before.arrivals ≡ mail.letters_of after.arrivals ++ back ∷ [] → after ≡ without_last before → back ≡ message
+pub handed_back : (m before after : Mail) (source : Source) (message back : Message) (stamp : ℕ) → before ≡ with_arrival m source message stamp → mail.recorded_messages before.arrivals ≡ mail.recorded_messages after.arrivals ++ back ∷ [] → after ≡ without_last before → back ≡ message
 handed_back m before after source message back stamp is told left =
     let again : after ≡ m = left ∙ ap without_last is ∙ retracted_again m source message stamp in
-    let letters : mail.letters_of m.arrivals ++ back ∷ [] ≡ mail.letters_of m.arrivals ++ message ∷ [] =
-    ap (λ (x : Mail). mail.letters_of x.arrivals ++ back ∷ []) (sym again) ∙ sym told ∙ ap (λ (x : Mail). mail.letters_of x.arrivals) is
+    let messages : mail.recorded_messages m.arrivals ++ back ∷ [] ≡ mail.recorded_messages m.arrivals ++ message ∷ [] =
+    ap (λ (x : Mail). mail.recorded_messages x.arrivals ++ back ∷ []) (sym again) ∙ sym told ∙ ap (λ (x : Mail). mail.recorded_messages x.arrivals) is
     ∙ map-append (λ (a : Received). a.message) m.arrivals (next_arrival m.arrivals source message stamp ∷ []) in
-    let same : back ∷ [] ≡ message ∷ [] = append_cancel_left (mail.letters_of m.arrivals) (back ∷ []) (message ∷ []) letters in
+    let same : back ∷ [] ≡ message ∷ [] = append_cancel_left (mail.recorded_messages m.arrivals) (back ∷ []) (message ∷ []) messages in
     cc same

@@ -20,7 +20,7 @@ use Rattle.fair_semantics.specs.declared.run.Entry.{Entry}
 use Rattle.fair_semantics.specs.declared.run.Firing.{Firing}
 use Rattle.fair_semantics.specs.declared.run.Ending.{Ending}
 use Rattle.fair_semantics.specs.declared.run.Ending.TheVariants as ending
-use Rattle.fair_semantics.specs.Step.{Setting, State, Arrival, letters_of, letters_with, live_with, entry_with, recorded, definitions_of, is_running, is_refused, by_choice, fair_step, spent_step, late_step}
+use Rattle.fair_semantics.specs.Step.{Setting, State, Arrival, recorded_messages, messages_with, live_with, entry_with, recorded, definitions_of, is_running, is_refused, by_choice, fair_step, spent_step, late_step}
 use Rattle.actor_turn.specs.Steady.{IsSteady}
 
 -- ---- trees that are cleared
@@ -30,7 +30,7 @@ pub spent_steady : (setting : Setting) (state : State) (source : Source) (trees 
 spent_steady setting state source trees h = record {
   live = λ k m. absurd m;
   of_rules = cleared_of 1 (definitions_of setting.rules) trees h.of_rules;
-  hold = all_cleared (letters_of state.entries) (letters_of state.entries) state.live trees h.hold;
+  hold = all_cleared (recorded_messages state.entries) (recorded_messages state.entries) state.live trees h.hold;
   settled = cleared_settled trees;
 }
 
@@ -42,24 +42,24 @@ module _ (setting : Setting) (state : State) (source : Source) (message : Messag
   abbrev pub arrival : Arrival
   arrival = record { state = state; source = source; message = message; stamp = stamp }
 
-  abbrev letters : List Message
-  letters = letters_of state.entries
+  abbrev messages : List Message
+  messages = recorded_messages state.entries
 
-  count : length letters ≡ length state.entries
+  count : length messages ≡ length state.entries
   count = length-map state.entries (λ (entry : Entry). entry.message)
 
-  same_number : number_more letters ≡ length state.entries + 1
+  same_number : number_more messages ≡ length state.entries + 1
   same_number = ap (λ (n : ℕ). n + 1) count
 
-  same_live : live_more letters state.live ≡ live_with arrival
+  same_live : live_more messages state.live ≡ live_with arrival
   same_live = ap (λ (n : ℕ). state.live ++ n ∷ []) same_number
 
-  entry_letters : (firing : Option Firing) → letters_of (state.entries ++ entry_with arrival firing ∷ []) ≡ letters_with arrival
-  entry_letters firing = map-append (λ (entry : Entry). entry.message) state.entries (entry_with arrival firing ∷ [])
+  entry_messages : (firing : Option Firing) → recorded_messages (state.entries ++ entry_with arrival firing ∷ []) ≡ messages_with arrival
+  entry_messages firing = map-append (λ (entry : Entry). entry.message) state.entries (entry_with arrival firing ∷ [])
 
-  pub live_recorded : AreLive letters state.live → AreLive (letters_with arrival) (live_with arrival)
+  pub live_recorded : AreLive messages state.live → AreLive (messages_with arrival) (live_with arrival)
   live_recorded live k m =
-      let long = length-append letters (message ∷ []) in
+      let long = length-append messages (message ∷ []) in
       let c = count in
       elim (IsIn-append_cases k state.live ((length state.entries + 1) ∷ []) m) [
         | inl l ↦ let at = live k l in (at.0, omega (arith, at.1))
@@ -67,36 +67,36 @@ module _ (setting : Setting) (state : State) (source : Source) (message : Messag
       ]
 
   -- the best match of the trees is the choice
-  pub choice_is : IsSteady setting state trees → (reserved : List Tree) → AreTreesOf 1 (definitions_of setting.rules) reserved → HoldAll letters state.live reserved → AreReservedFor letters message reserved
-      → best_of reserved ≡ choice (letters_with arrival) (live_with arrival) (definitions_of setting.rules)
+  pub choice_is : IsSteady setting state trees → (reserved : List Tree) → AreTreesOf 1 (definitions_of setting.rules) reserved → HoldAll messages state.live reserved → AreReservedFor messages message reserved
+      → best_of reserved ≡ choice (messages_with arrival) (live_with arrival) (definitions_of setting.rules)
   choice_is h reserved of_rules hold are =
-      best_is_choice letters message state.live h.live (definitions_of setting.rules) reserved of_rules hold are
-      ∙ ap (λ (live : List ℕ). choice (letters_with arrival) live (definitions_of setting.rules)) same_live
+      best_is_choice messages message state.live h.live (definitions_of setting.rules) reserved of_rules hold are
+      ∙ ap (λ (live : List ℕ). choice (messages_with arrival) live (definitions_of setting.rules)) same_live
 
   -- so the fair step of a running actor that takes the message goes by it
   pub step_is : IsSteady setting state trees → is_running state.ending ≡ true → is_refused setting state message stamp ≡ false
-      → (reserved : List Tree) → AreTreesOf 1 (definitions_of setting.rules) reserved → HoldAll letters state.live reserved → AreReservedFor letters message reserved
+      → (reserved : List Tree) → AreTreesOf 1 (definitions_of setting.rules) reserved → HoldAll messages state.live reserved → AreReservedFor messages message reserved
       → fair_step setting state source message stamp ≡ by_choice setting arrival (best_of reserved)
   step_is h running takes reserved of_rules hold are = rw (running, takes) (ap (by_choice setting arrival) (sym (choice_is h reserved of_rules hold are)))
 
   -- trees that keep the message are steady, and count the partial matches
-  pub kept_steady : IsSteady setting state trees → (reserved after : List Tree) → AreTreesOf 1 (definitions_of setting.rules) reserved → HoldAll letters state.live reserved → AreReservedFor letters message reserved
-      → best_of reserved ≡ None → AreKept letters message reserved after → AreSettled after → IsSteady setting (recorded arrival None (live_with arrival) ending.Running) after
+  pub kept_steady : IsSteady setting state trees → (reserved after : List Tree) → AreTreesOf 1 (definitions_of setting.rules) reserved → HoldAll messages state.live reserved → AreReservedFor messages message reserved
+      → best_of reserved ≡ None → AreKept messages message reserved after → AreSettled after → IsSteady setting (recorded arrival None (live_with arrival) ending.Running) after
   kept_steady h reserved after of_rules hold are none kept settled = record {
-    live = subst (λ (ls : List Message). AreLive ls (live_with arrival)) (sym (entry_letters None)) (live_recorded h.live);
-    of_rules = kept_of letters message 1 (definitions_of setting.rules) reserved after of_rules kept;
+    live = subst (λ (ls : List Message). AreLive ls (live_with arrival)) (sym (entry_messages None)) (live_recorded h.live);
+    of_rules = kept_of messages message 1 (definitions_of setting.rules) reserved after of_rules kept;
     hold =
-        subst (λ (ls : List Message). HoldAll ls (live_with arrival) after) (sym (entry_letters None))
-        (subst (λ (live : List ℕ). HoldAll (letters_with arrival) live after) same_live (all_kept letters message state.live h.live reserved after hold are none kept));
+        subst (λ (ls : List Message). HoldAll ls (live_with arrival) after) (sym (entry_messages None))
+        (subst (λ (live : List ℕ). HoldAll (messages_with arrival) live after) same_live (all_kept messages message state.live h.live reserved after hold are none kept));
     settled = settled;
   }
 
-  pub kept_count : IsSteady setting state trees → (reserved after : List Tree) → AreTreesOf 1 (definitions_of setting.rules) reserved → HoldAll letters state.live reserved → AreReservedFor letters message reserved
-      → best_of reserved ≡ None → AreKept letters message reserved after → IsStrictlyIncreasing (live_with arrival) → AllByRecursion (λ tree. AreOnce tree.paths) after
-      → path_count after ≡ partial_count (letters_with arrival) (live_with arrival) (definitions_of setting.rules)
+  pub kept_count : IsSteady setting state trees → (reserved after : List Tree) → AreTreesOf 1 (definitions_of setting.rules) reserved → HoldAll messages state.live reserved → AreReservedFor messages message reserved
+      → best_of reserved ≡ None → AreKept messages message reserved after → IsStrictlyIncreasing (live_with arrival) → AllByRecursion (λ tree. AreOnce tree.paths) after
+      → path_count after ≡ partial_count (messages_with arrival) (live_with arrival) (definitions_of setting.rules)
   kept_count h reserved after of_rules hold are none kept rising once =
-      paths_counted (letters_with arrival) (live_with arrival) rising 1 (definitions_of setting.rules) after (kept_of letters message 1 (definitions_of setting.rules) reserved after of_rules kept)
-      (subst (λ (live : List ℕ). HoldAll (letters_with arrival) live after) same_live (all_kept letters message state.live h.live reserved after hold are none kept)) once
+      paths_counted (messages_with arrival) (live_with arrival) rising 1 (definitions_of setting.rules) after (kept_of messages message 1 (definitions_of setting.rules) reserved after of_rules kept)
+      (subst (λ (live : List ℕ). HoldAll (messages_with arrival) live after) same_live (all_kept messages message state.live h.live reserved after hold are none kept)) once
 
   -- cleared trees are steady where the message was recorded and no number is live
   pub ended_steady : (firing : Option Firing) (end : Ending) (others : List Tree) (before : List Message) (live : List ℕ) → AreTreesOf 1 (definitions_of setting.rules) others → HoldAll before live others
@@ -104,22 +104,22 @@ module _ (setting : Setting) (state : State) (source : Source) (message : Messag
   ended_steady firing end others before live of_rules hold = record {
     live = λ k m. absurd m;
     of_rules = cleared_of 1 (definitions_of setting.rules) others of_rules;
-    hold = all_cleared before (letters_of (state.entries ++ entry_with arrival firing ∷ [])) live others hold;
+    hold = all_cleared before (recorded_messages (state.entries ++ entry_with arrival firing ∷ [])) live others hold;
     settled = cleared_settled others;
   }
 
   -- trees without the numbers of a firing are steady
-  pub fired_steady : IsSteady setting state trees → (reserved : List Tree) (chosen : Candidate) (firing : Option Firing) → AreTreesOf 1 (definitions_of setting.rules) reserved → HoldAll letters state.live reserved → AreReservedFor letters message reserved
-      → best_of reserved ≡ Some chosen → IsSteady setting (recorded arrival firing (without (live_with arrival) chosen.taken) ending.Running) (map (fired_tree letters message chosen.taken) reserved)
+  pub fired_steady : IsSteady setting state trees → (reserved : List Tree) (chosen : Candidate) (firing : Option Firing) → AreTreesOf 1 (definitions_of setting.rules) reserved → HoldAll messages state.live reserved → AreReservedFor messages message reserved
+      → best_of reserved ≡ Some chosen → IsSteady setting (recorded arrival firing (without (live_with arrival) chosen.taken) ending.Running) (map (fired_tree messages message chosen.taken) reserved)
   fired_steady h reserved chosen firing of_rules hold are best =
-      let takes = best_takes letters message reserved chosen are best in
-      let all = all_fired letters message state.live h.live chosen.taken takes reserved hold in
+      let takes = best_takes messages message reserved chosen are best in
+      let all = all_fired messages message state.live h.live chosen.taken takes reserved hold in
       record {
-        live = subst (λ (ls : List Message). AreLive ls (without (live_with arrival) chosen.taken)) (sym (entry_letters firing))
+        live = subst (λ (ls : List Message). AreLive ls (without (live_with arrival) chosen.taken)) (sym (entry_messages firing))
             (λ k m. live_recorded h.live k (IsIn-filter_from (λ n. not (contains_number chosen.taken n)) k (live_with arrival) m).0);
-        of_rules = fired_of letters message chosen.taken 1 (definitions_of setting.rules) reserved of_rules;
+        of_rules = fired_of messages message chosen.taken 1 (definitions_of setting.rules) reserved of_rules;
         hold =
-            subst (λ (ls : List Message). HoldAll ls (without (live_with arrival) chosen.taken) (map (fired_tree letters message chosen.taken) reserved)) (sym (entry_letters firing))
-            (subst (λ (live : List ℕ). HoldAll (letters_with arrival) (left_of live chosen.taken) (map (fired_tree letters message chosen.taken) reserved)) same_live all);
-        settled = fired_settled letters message chosen.taken reserved;
+            subst (λ (ls : List Message). HoldAll ls (without (live_with arrival) chosen.taken) (map (fired_tree messages message chosen.taken) reserved)) (sym (entry_messages firing))
+            (subst (λ (live : List ℕ). HoldAll (messages_with arrival) (left_of live chosen.taken) (map (fired_tree messages message chosen.taken) reserved)) same_live all);
+        settled = fired_settled messages message chosen.taken reserved;
       }

@@ -33,64 +33,64 @@ use Rattle.actor_turn.specs.Ready.{BodyReady, StatementReady}
 use Rattle.actor_turn.specs.Steady.{HasPatterns}
 
 -- what is asked to fire a match
-pub record MayFire (letters : List Message) (actors : ℕ) (rules : List Rule) (chosen : Candidate) : Type 0 where
+pub record MayFire (messages : List Message) (actors : ℕ) (rules : List Rule) (chosen : Candidate) : Type 0 where
   pub numbered : 1 ≤ chosen.rule
   pub exists : chosen.rule ≤ length rules
-  pub ready : BodyReady actors letters chosen.taken (body_at rules chosen.rule)
-  pub recorded : AllByRecursion (IsRecorded letters) chosen.taken
+  pub ready : BodyReady actors messages chosen.taken (body_at rules chosen.rule)
+  pub recorded : AllByRecursion (IsRecorded messages) chosen.taken
 
-module _ (sorts : Sorts) (letters : List Message) (fitting : AllByRecursion (λ m. fits sorts m ≡ true) letters) where
-  definition_suits : (actors : ℕ) (rule : Rule) → IsTypedRule actors sorts rule → DefinitionSuits letters rule.definition
+module _ (sorts : Sorts) (messages : List Message) (fitting : AllByRecursion (λ m. fits sorts m ≡ true) messages) where
+  definition_suits : (actors : ℕ) (rule : Rule) → IsTypedRule actors sorts rule → DefinitionSuits messages rule.definition
   definition_suits actors rule typed = record {
     some = typed.some_patterns;
     few = typed.few_patterns;
-    needs = each_from (IsTypedCondition sorts rule.definition.patterns) (λ (c : Condition). AllByRecursion (NeedSuits letters rule.definition.patterns) (needs_of c))
-        (λ c t. needs_suit sorts letters fitting rule.definition.patterns (needs_of c) (condition_typed sorts rule.definition.patterns c t))
+    needs = each_from (IsTypedCondition sorts rule.definition.patterns) (λ (c : Condition). AllByRecursion (NeedSuits messages rule.definition.patterns) (needs_of c))
+        (λ c t. needs_suit sorts messages fitting rule.definition.patterns (needs_of c) (condition_typed sorts rule.definition.patterns c t))
         rule.definition.conjuncts typed.guard;
   }
 
   -- the definitions may be tested
-  pub definitions_suit : (actors : ℕ) (rules : List Rule) → AllByRecursion (IsTypedRule actors sorts) rules → AllByRecursion (DefinitionSuits letters) (definitions_of rules)
-  definitions_suit actors rules typed = each_map (IsTypedRule actors sorts) (DefinitionSuits letters) (λ (rule : Rule). rule.definition) (definition_suits actors) rules typed
+  pub definitions_suit : (actors : ℕ) (rules : List Rule) → AllByRecursion (IsTypedRule actors sorts) rules → AllByRecursion (DefinitionSuits messages) (definitions_of rules)
+  definitions_suit actors rules typed = each_map (IsTypedRule actors sorts) (DefinitionSuits messages) (λ (rule : Rule). rule.definition) (definition_suits actors) rules typed
 
-  operands_ready : (kinds taken : List ℕ) (os : List Operand) → SlotsSuit letters kinds (slots_of taken) → AllByRecursion (IsTypedOperand sorts kinds) os → AllByRecursion (OperandReady letters (slots_of taken)) os
-  operands_ready kinds taken os suits typed = each_from (IsTypedOperand sorts kinds) (OperandReady letters (slots_of taken)) (λ o t. operand_ready sorts letters fitting kinds taken o suits t) os typed
+  operands_ready : (kinds taken : List ℕ) (os : List Operand) → SlotsSuit messages kinds (slots_of taken) → AllByRecursion (IsTypedOperand sorts kinds) os → AllByRecursion (OperandReady messages (slots_of taken)) os
+  operands_ready kinds taken os suits typed = each_from (IsTypedOperand sorts kinds) (OperandReady messages (slots_of taken)) (λ o t. operand_ready sorts messages fitting kinds taken o suits t) os typed
 
   module _ (few_fields : AllByRecursion HasFewFields sorts) where
-    statement_ready : (actors : ℕ) (kinds taken : List ℕ) → SlotsSuit letters kinds (slots_of taken) → (s : Statement) → IsTypedStatement actors sorts kinds s → StatementReady actors letters taken s
-    statement_ready actors kinds taken suits (statement.Print items) typed = (items_ready sorts letters fitting kinds taken items suits typed.each, typed.few)
+    statement_ready : (actors : ℕ) (kinds taken : List ℕ) → SlotsSuit messages kinds (slots_of taken) → (s : Statement) → IsTypedStatement actors sorts kinds s → StatementReady actors messages taken s
+    statement_ready actors kinds taken suits (statement.Print items) typed = (items_ready sorts messages fitting kinds taken items suits typed.each, typed.few)
     statement_ready actors kinds taken suits (statement.Post target kind operands) typed =
         let fields : length (map type_of operands) ≤ 8 = each_at HasFewFields sorts kind (map type_of operands) typed.of_kind few_fields in
         let count = length-map operands type_of in
         (typed.to_actor, operands_ready kinds taken operands suits typed.each, omega arith)
     statement_ready actors kinds taken suits statement.Stop typed = tt
     statement_ready actors kinds taken suits (statement.Reply pattern operand) typed =
-        let count = length-SlotsSuit letters kinds (slots_of taken) suits in
+        let count = length-SlotsSuit messages kinds (slots_of taken) suits in
         let numbers = length-map taken (λ (n : ℕ). Some n) in
-        (omega (arith, typed.0), operand_ready sorts letters fitting kinds taken operand suits typed.1)
+        (omega (arith, typed.0), operand_ready sorts messages fitting kinds taken operand suits typed.1)
 
-    taken_recorded : (kinds taken : List ℕ) → SlotsSuit letters kinds (slots_of taken) → AllByRecursion (IsRecorded letters) taken
+    taken_recorded : (kinds taken : List ℕ) → SlotsSuit messages kinds (slots_of taken) → AllByRecursion (IsRecorded messages) taken
     taken_recorded kinds [] h = tt
     taken_recorded [] (n ∷ taken) h = absurd h
     taken_recorded (k ∷ kinds) (n ∷ taken) h = (h.0, taken_recorded kinds taken h.3)
 
-    module _ (live : List ℕ) (recorded : All (IsRecorded letters) live) (actors : ℕ) where
-      chosen_may : (rules : List Rule) → AllByRecursion (IsTypedRule actors sorts) rules → (c : Candidate) → IsChosen letters live (definitions_of rules) (Some c) → MayFire letters actors rules c
+    module _ (live : List ℕ) (recorded : All (IsRecorded messages) live) (actors : ℕ) where
+      chosen_may : (rules : List Rule) → AllByRecursion (IsTypedRule actors sorts) rules → (c : Candidate) → IsChosen messages live (definitions_of rules) (Some c) → MayFire messages actors rules c
       chosen_may rules typed c h =
           let placed = place_of 1 (definitions_of rules) c.rule h.0.definition h.0.numbered in
           let found = mapped_at (λ (r : Rule). r.definition) rules (c.rule - 1) h.0.definition placed.found in
           let rule : Rule = found.0 in
           let own = each_at (IsTypedRule actors sorts) rules (c.rule - 1) rule found.1 typed in
           let d : Definition = h.0.definition in
-          let seen : List ℕ = seen_of d (length letters) live in
-          let seen_recorded = All-filter (is_seen d.window (length letters)) (IsRecorded letters) live recorded in
-          let assigns = subst (λ (x : Definition). Assigns letters seen x.patterns (slots_of c.taken)) (sym found.2) h.0.assigns in
-          let suits = suits_from_assigns letters seen rule.definition.patterns (slots_of c.taken) seen_recorded assigns in
-          let body : BodyReady actors letters c.taken rule.body = record {
+          let seen : List ℕ = seen_of d (length messages) live in
+          let seen_recorded = All-filter (is_seen d.window (length messages)) (IsRecorded messages) live recorded in
+          let assigns = subst (λ (x : Definition). Assigns messages seen x.patterns (slots_of c.taken)) (sym found.2) h.0.assigns in
+          let suits = suits_from_assigns messages seen rule.definition.patterns (slots_of c.taken) seen_recorded assigns in
+          let body : BodyReady actors messages c.taken rule.body = record {
             few = own.few_statements;
-            each = each_from (IsTypedStatement actors sorts rule.definition.patterns) (StatementReady actors letters c.taken) (statement_ready actors rule.definition.patterns c.taken suits) rule.body own.body;
+            each = each_from (IsTypedStatement actors sorts rule.definition.patterns) (StatementReady actors messages c.taken) (statement_ready actors rule.definition.patterns c.taken suits) rule.body own.body;
           } in
-          let P : Option Rule → Type 0 = λ o. BodyReady actors letters c.taken (body_of o) in
+          let P : Option Rule → Type 0 = λ o. BodyReady actors messages c.taken (body_of o) in
           let above = placed.above in
           let below = placed.below in
           let count = length-map rules (λ (r : Rule). r.definition) in
@@ -102,8 +102,8 @@ module _ (sorts : Sorts) (letters : List Message) (fitting : AllByRecursion (λ 
           }
 
       -- the choice may fire
-      pub choice_may : (rules : List Rule) → AllByRecursion (IsTypedRule actors sorts) rules → (c : Candidate) → choice letters live (definitions_of rules) ≡ Some c → MayFire letters actors rules c
-      choice_may rules typed c e = chosen_may rules typed c (subst (IsChosen letters live (definitions_of rules)) e (choice_is_chosen letters live (definitions_of rules)))
+      pub choice_may : (rules : List Rule) → AllByRecursion (IsTypedRule actors sorts) rules → (c : Candidate) → choice messages live (definitions_of rules) ≡ Some c → MayFire messages actors rules c
+      choice_may rules typed c e = chosen_may rules typed c (subst (IsChosen messages live (definitions_of rules)) e (choice_is_chosen messages live (definitions_of rules)))
 
 -- few patterns, and windows that see the latest
 pub rules_patterns : (actors : ℕ) (sorts : Sorts) (rules : List Rule) → AllByRecursion (IsTypedRule actors sorts) rules → AllByRecursion HasPatterns (definitions_of rules)

@@ -15,7 +15,7 @@ use Rattle.fair_semantics.specs.declared.run.Limits.{Limits}
 use Rattle.fair_semantics.specs.Fair.{Sent, setting_of}
 use Rattle.fair_semantics.specs.Fits.{IsFrom1To}
 use Rattle.fair_semantics.specs.Linked.{entry_posts, firing_effects}
-use Rattle.fair_semantics.specs.Step.{Setting, State, letters_of, definitions_of, opening, is_running, is_refused}
+use Rattle.fair_semantics.specs.Step.{Setting, State, recorded_messages, definitions_of, opening, is_running, is_refused}
 
 -- what was recorded, in order: each message with its source and the stamp that it carried
 abbrev pub History : Type 0
@@ -84,7 +84,7 @@ with_first held target post = record held { outbox = slice_set held.outbox targe
 
 -- how often a message may be tried at the partial matches of all definitions of an actor
 abbrev pub tries_for : List Rule → State → Message → ℕ
-tries_for rules state message = tries_from (letters_of state.entries) message state.live 1 (definitions_of rules)
+tries_for rules state message = tries_from (recorded_messages state.entries) message state.live 1 (definitions_of rules)
 
 -- whether the actor runs and takes the message
 abbrev pub is_taken : Setting → State → Message → ℕ → Bool

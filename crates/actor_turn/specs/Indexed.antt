@@ -2,7 +2,7 @@
 use Rattle.std.specs.Prelude.{◌≡◌, ℕ, List, false}
 use Rattle.join_base.specs.Taken.{contains_number}
 use Rattle.join_base.specs.declared.message.Message.{Message}
-use Rattle.mailbox_core.specs.Mail.{Mail, letters_of}
+use Rattle.mailbox_core.specs.Mail.{Mail, recorded_messages}
 use Rattle.pattern_core.specs.Members.{IsIn}
 use Rattle.pattern_core.specs.Suits.{IsRecorded}
 use Rattle.value_index.specs.declared.entry.Entry.{Entry}
@@ -10,11 +10,11 @@ use Rattle.value_index.specs.Index.{Index, Has, Lacks}
 
 -- each number that is not consumed is in the index, with the values of its message
 abbrev pub HasLive : Index → Mail → Type 0
-HasLive index mail = (number : ℕ) → IsIn number mail.live → Has index (letters_of mail.arrivals) number
+HasLive index mail = (number : ℕ) → IsIn number mail.live → Has index (recorded_messages mail.arrivals) number
 
 -- no other recorded number is
 abbrev pub LacksConsumed : Index → Mail → Type 0
-LacksConsumed index mail = (number : ℕ) → IsRecorded (letters_of mail.arrivals) number → ¬ IsIn number mail.live → Lacks index (letters_of mail.arrivals) number
+LacksConsumed index mail = (number : ℕ) → IsRecorded (recorded_messages mail.arrivals) number → ¬ IsIn number mail.live → Lacks index (recorded_messages mail.arrivals) number
 
 -- the index has the numbers that are not consumed, with the values of their messages, and no other recorded one
 pub record IsIndexOf (index : Index) (mail : Mail) : Type 0 where
@@ -23,7 +23,7 @@ pub record IsIndexOf (index : Index) (mail : Mail) : Type 0 where
 
 -- each of the numbers that are taken has left
 abbrev pub LacksTaken : List ℕ → Index → List Message → Type 0
-LacksTaken taken index letters = (number : ℕ) → IsIn number taken → Lacks index letters number
+LacksTaken taken index messages = (number : ℕ) → IsIn number taken → Lacks index messages number
 
 -- the entries of numbers that are not taken are still there
 abbrev pub KeepsUntaken : List ℕ → List Entry → List Entry → Type 0

@@ -10,7 +10,7 @@ use Rattle.script_types.specs.Typed.{IsTypedRule}
 use Rattle.fair_semantics.specs.declared.run.Ending.{Ending}
 use Rattle.fair_semantics.specs.declared.run.Firing.{Firing}
 use Rattle.fair_semantics.specs.Step.{Setting, fits, is_running}
-use Rattle.run_fits.specs.RestLaw.{TakesNewest}
+use Rattle.run_fit_law.specs.RestLaw.{TakesNewest}
 use Rattle.actor_turn.specs.declared.actor.Actor.TheInside.{Inside}
 use Rattle.actor_turn.specs.Held.{Held, AreLimits}
 use Rattle.actor_turn.specs.Indexed.{IsIndexOf}
@@ -46,7 +46,7 @@ pub record IsTold (actors : ℕ) (setting : Setting) : Type 0 where
 pub record IsAtRest (setting : Setting) (m : Mail) (firings : List (Option Firing)) (end : Ending) (trees : List Tree) : Type 0 where
   pub fired : AreFired m firings
   pub newest : AllByRecursion TakesNewest (state_of m firings end).entries
-  pub fitting : AllByRecursion (λ message. fits setting.sorts message ≡ true) (mail.letters_of m.arrivals)
+  pub fitting : AllByRecursion (λ message. fits setting.sorts message ≡ true) (mail.recorded_messages m.arrivals)
   pub steady : IsSteady setting (state_of m firings end) trees
   pub once : AllByRecursion HasOnce trees
   pub few : path_count trees ≤ 1000000

@@ -10,12 +10,12 @@ use Rattle.fair_semantics.specs.Ready.{ItemReady, OperandReady}
 -- a print of at most 16 such items, a post of at most 8 such operands to one of so many actors, or a reply to one of
 -- the numbers that are taken
 abbrev pub StatementReady : ℕ → List Message → List ℕ → Statement → Type 0
-StatementReady actors letters taken (statement.Print items) = AllByRecursion (ItemReady letters (slots_of taken)) items × (length items ≤ 16)
-StatementReady actors letters taken (statement.Post target kind operands) = (target < actors) × AllByRecursion (OperandReady letters (slots_of taken)) operands × (length operands ≤ 8)
-StatementReady actors letters taken statement.Stop = Unit {0}
-StatementReady actors letters taken (statement.Reply pattern operand) = (pattern < length taken) × OperandReady letters (slots_of taken) operand
+StatementReady actors messages taken (statement.Print items) = AllByRecursion (ItemReady messages (slots_of taken)) items × (length items ≤ 16)
+StatementReady actors messages taken (statement.Post target kind operands) = (target < actors) × AllByRecursion (OperandReady messages (slots_of taken)) operands × (length operands ≤ 8)
+StatementReady actors messages taken statement.Stop = Unit {0}
+StatementReady actors messages taken (statement.Reply pattern operand) = (pattern < length taken) × OperandReady messages (slots_of taken) operand
 
 -- at most 16 such statements
-pub record BodyReady (actors : ℕ) (letters : List Message) (taken : List ℕ) (body : List Statement) : Type 0 where
+pub record BodyReady (actors : ℕ) (messages : List Message) (taken : List ℕ) (body : List Statement) : Type 0 where
   pub few : length body ≤ 16
-  pub each : AllByRecursion (StatementReady actors letters taken) body
+  pub each : AllByRecursion (StatementReady actors messages taken) body

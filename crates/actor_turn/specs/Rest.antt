@@ -4,14 +4,14 @@ use Rattle.std.specs.List.{AllByRecursion}
 use Rattle.match_tree.specs.Tree.{Tree, empty_of}
 use Rattle.tree_law.specs.Partials.{ArePartial}
 use Rattle.tree_law.specs.Trees.{AreSettled, AreTreesOf, HasOnce}
-use Rattle.fair_semantics.specs.Step.{State, definitions_of, is_running, letters_of}
-use Rattle.run_fits.specs.RestLaw.{HasNoMatch, TakesNewest}
+use Rattle.fair_semantics.specs.Step.{State, definitions_of, is_running, recorded_messages}
+use Rattle.run_fit_law.specs.RestLaw.{HasNoMatch, TakesNewest}
 use Rattle.actor_turn.specs.Held.{Held}
 
 -- the paths of the tree are the partial matches of its definition over the recorded messages and the numbers that are
 -- not consumed
 abbrev pub IsPartialIn : State → Tree → Type 0
-IsPartialIn state tree = ArePartial (letters_of state.entries) state.live tree.definition tree.paths
+IsPartialIn state tree = ArePartial (recorded_messages state.entries) state.live tree.definition tree.paths
 
 -- no number is left, and each tree has the empty path alone
 pub record IsEmptied (held : Held) : Type 0 where

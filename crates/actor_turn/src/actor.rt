@@ -125,7 +125,7 @@ impl Actor {
         if !runs(self.ending) {
             return false;
         }
-        if self.mail.letters().len() >= self.limits.arrivals as usize {
+        if self.mail.messages().len() >= self.limits.arrivals as usize {
             return false;
         }
         if !fits(&self.sorts, message) {
@@ -138,8 +138,10 @@ impl Actor {
     fn turn_away(&mut self, source: Source) -> Outcome
         requires exists { HasCount self.old.state.late source }
 
-        ensures step { (message : Message) (stamp : ℕ) → is_taken self.old.setting self.old.state message stamp ≡ false → fair_step self.old.setting self.old.state source message stamp ≡ (self.new.state, result) }
-        ensures history { (message : Message) (stamp : ℕ) → is_taken self.old.setting self.old.state message stamp ≡ false → self.new.history ≡ history_with self.old source message stamp }
+        ensures step { (message : Message) (stamp : ℕ) → is_taken self.old.setting self.old.state message stamp ≡ false
+            → fair_step self.old.setting self.old.state source message stamp ≡ (self.new.state, result) }
+        ensures history { (message : Message) (stamp : ℕ) → is_taken self.old.setting self.old.state message stamp
+            ≡ false → self.new.history ≡ history_with self.old source message stamp }
         ensures setting { self.new.setting ≡ self.old.setting }
         ensures outbox { self.new.outbox ≡ posts_behind 0 (new_entries self.old.state self.new.state) self.old.outbox }
         ensures lent { self.new.lent ≡ self.old.lent }
@@ -170,17 +172,20 @@ impl Actor {
     ) -> Result<Outcome, NoMemory>
         requires exists { HasCount self.old.state.late source }
 
-        ensures step { IfOk result (λ o. fair_step self.old.setting self.old.state source message.now stamp ≡ (self.new.state, o)) }
+        ensures step { IfOk result (λ o. fair_step self.old.setting self.old.state source message.now stamp
+            ≡ (self.new.state, o)) }
         ensures history { OnOk result (self.new.history ≡ history_with self.old source message.now stamp) }
         ensures setting { self.new.setting ≡ self.old.setting }
-        ensures outbox { OnOk result (self.new.outbox ≡ posts_behind 0 (new_entries self.old.state self.new.state) self.old.outbox) }
+        ensures outbox { OnOk result (self.new.outbox ≡ posts_behind 0 (new_entries self.old.state self.new.state)
+            self.old.outbox) }
         ensures lent { self.new.lent ≡ self.old.lent }
         ensures partial { HoldsPartialMatches self.new }
         ensures waits { NoMatchWaits self.new }
         ensures unchanged { OnErr result (self.new ≡ self.old) }
         ensures taken { OnErr result (is_taken self.old.setting self.old.state message.now stamp ≡ true) }
         ensures steps { steps.new ≤ steps.old + tries_for self.old.setting.rules self.old.state message.now }
-        ensures sources { OnOk result ((other : Source) → HasCount self.old.state.late other → HasCount self.new.state.late other) }
+        ensures sources { OnOk result ((other : Source) → HasCount self.old.state.late other
+            → HasCount self.new.state.late other) }
     {
         if !self.takes(message, stamp) {
             return Ok(self.turn_away(source));
@@ -206,10 +211,12 @@ impl Actor {
     ) -> Result<Outcome, Refused>
         requires exists { HasCount self.old.state.late source }
 
-        ensures step { IfOk result (λ o. fair_step self.old.setting self.old.state source message stamp ≡ (self.new.state, o)) }
+        ensures step { IfOk result (λ o. fair_step self.old.setting self.old.state source message stamp
+            ≡ (self.new.state, o)) }
         ensures history { OnOk result (self.new.history ≡ history_with self.old source message stamp) }
         ensures setting { self.new.setting ≡ self.old.setting }
-        ensures outbox { OnOk result (self.new.outbox ≡ posts_behind 0 (new_entries self.old.state self.new.state) self.old.outbox) }
+        ensures outbox { OnOk result (self.new.outbox ≡ posts_behind 0 (new_entries self.old.state self.new.state)
+            self.old.outbox) }
         ensures lent { self.new.lent ≡ self.old.lent }
         ensures partial { HoldsPartialMatches self.new }
         ensures waits { NoMatchWaits self.new }
@@ -217,7 +224,8 @@ impl Actor {
         ensures taken { OnErr result (is_taken self.old.setting self.old.state message stamp ≡ true) }
         ensures back { IfErr result (λ r. r.message ≡ message) }
         ensures steps { steps.new ≤ steps.old + tries_for self.old.setting.rules self.old.state message }
-        ensures sources { OnOk result ((other : Source) → HasCount self.old.state.late other → HasCount self.new.state.late other) }
+        ensures sources { OnOk result ((other : Source) → HasCount self.old.state.late other
+            → HasCount self.new.state.late other) }
     {
         if !self.takes(&message, stamp) {
             return Ok(self.turn_away(source));
@@ -236,10 +244,12 @@ impl Actor {
     ) -> Result<Outcome, Refused>
         requires taken { is_taken self.old.setting self.old.state message stamp ≡ true }
 
-        ensures step { IfOk result (λ o. fair_step self.old.setting self.old.state source message stamp ≡ (self.new.state, o)) }
+        ensures step { IfOk result (λ o. fair_step self.old.setting self.old.state source message stamp
+            ≡ (self.new.state, o)) }
         ensures history { OnOk result (self.new.history ≡ history_with self.old source message stamp) }
         ensures setting { self.new.setting ≡ self.old.setting }
-        ensures outbox { OnOk result (self.new.outbox ≡ posts_behind 0 (new_entries self.old.state self.new.state) self.old.outbox) }
+        ensures outbox { OnOk result (self.new.outbox ≡ posts_behind 0 (new_entries self.old.state self.new.state)
+            self.old.outbox) }
         ensures lent { self.new.lent ≡ self.old.lent }
         ensures partial { HoldsPartialMatches self.new }
         ensures waits { NoMatchWaits self.new }
@@ -247,7 +257,7 @@ impl Actor {
         ensures back { IfErr result (λ r. r.message ≡ message) }
         ensures steps { steps.new ≤ steps.old + tries_for self.old.setting.rules self.old.state message }
     {
-        let arrivals = self.mail.letters().len();
+        let arrivals = self.mail.messages().len();
         let Ok(()) = reserve_entry(alloc, &mut self.firings, &mut self.entries, arrivals) else {
             return Err(Refused { message });
         };
@@ -261,7 +271,7 @@ impl Actor {
             steps,
         )?;
         let Some(chosen) = best_of(&self.trees) else {
-            let Ok(()) = self.index.insert(self.mail.letters(), number) else {
+            let Ok(()) = self.index.insert(self.mail.messages(), number) else {
                 return Err(give_up(&mut self.mail, &mut self.trees));
             };
             self.firings.push(Fired::none()).unwrap();
@@ -289,7 +299,7 @@ impl Actor {
         ) {
             Ok(firing) => {
                 let taken = firing.taken.as_slice();
-                remove_taken(&mut self.index, self.mail.letters(), taken);
+                remove_taken(&mut self.index, self.mail.messages(), taken);
                 empty_ended(&mut self.index, self.ending);
                 self.firings.push(Fired::from_box(firing)).unwrap();
                 Ok(Outcome::Fired)
@@ -313,7 +323,7 @@ impl Actor {
         ensures count { result ≡ partials_of self.now.setting.rules self.now.state }
     {
         // The mailbox tells that its numbers rise.
-        let _ = self.mail.letters();
+        let _ = self.mail.messages();
         count_paths(&self.trees)
     }
 
@@ -327,7 +337,7 @@ impl Actor {
     pub fn arrivals(&self) -> u32
         ensures count { result ≡ length self.now.state.entries }
     {
-        self.mail.letters().len() as u32
+        self.mail.messages().len() as u32
     }
 
     /// What each recorded arrival fired, if it did.
@@ -401,7 +411,7 @@ impl Actor {
         drop(outboxes);
         let parts = mail.into_parts();
         ActorRun {
-            entries: into_entries(parts.letters, parts.marks, firings, entries),
+            entries: into_entries(parts.messages, parts.marks, firings, entries),
             late: parts.late,
             ending,
             left: parts.left,

@@ -117,15 +117,15 @@ pub fn index_of(alloc: Global, rules: &Items<Rule>) -> Result<ValueIndex, NoMemo
 }
 
 /// The numbers that a firing takes leave the index.
-pub fn remove_taken(index: &mut ValueIndex, letters: &[Message], taken: &[u32])
-    requires recorded { All (IsRecorded letters.now) taken.now }
+pub fn remove_taken(index: &mut ValueIndex, messages: &[Message], taken: &[u32])
+    requires recorded { All (IsRecorded messages.now) taken.now }
     ensures fields { index.new.fields ≡ index.old.fields }
     ensures others { KeepsUntaken taken.now index.old.entries index.new.entries }
     ensures adds_none { AddsNone index.old.entries index.new.entries }
-    ensures gone { LacksTaken taken.now index.new letters.now }
+    ensures gone { LacksTaken taken.now index.new messages.now }
 {
     for number in taken {
-        index.remove(letters, *number);
+        index.remove(messages, *number);
     }
 }
 

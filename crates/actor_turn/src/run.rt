@@ -6,7 +6,7 @@ ghost use Rattle.actor_turn.specs.Parts.{entries_of};
 use crate::room::give_room_back;
 use fair_semantics::{Entry, Fired};
 use join_base::{Items, Message, NoMemory};
-use mailbox_core::Mark;
+use mailbox_core::Postmark;
 use std::alloc::Global;
 
 // From so many arrivals on, room for entries is grown. Less is made anew, since an empty vector has nothing to move. A
@@ -43,30 +43,30 @@ pub fn reserve_entry(
     Ok(())
 }
 
-/// The entries of letters, their marks and what they fired, put into the room that was made for them. It takes no
+/// The entries of messages, their marks and what they fired, put into the room that was made for them. It takes no
 /// memory, and gives back the room of the three lists as they grow shorter.
 pub fn into_entries(
-    letters: Items<Message>,
-    marks: Items<Mark>,
+    messages: Items<Message>,
+    marks: Items<Postmark>,
     firings: Vec<Fired>,
     room: Vec<Entry>,
 ) -> Items<Entry>
-    requires marked { length marks ≡ length letters }
-    requires fired { length firings.items ≡ length letters }
-    requires few { length letters ≤ 1000000 }
+    requires marked { length marks ≡ length messages }
+    requires fired { length firings.items ≡ length messages }
+    requires few { length messages ≤ 1000000 }
     requires empty { room.items ≡ [] }
-    requires room { length letters ≤ vec_capacity room }
+    requires room { length messages ≤ vec_capacity room }
 
-    ensures { result ≡ entries_of 1 (received_of letters marks) firings.items }
+    ensures { result ≡ entries_of 1 (received_of messages marks) firings.items }
 {
-    let mut letters = letters.into_vec();
+    let mut messages = messages.into_vec();
     let mut marks = marks.into_vec();
     let mut firings = firings;
     let mut entries = room;
-    while let Some(message) = letters.pop() {
+    while let Some(message) = messages.pop() {
         let mark = marks.pop().unwrap();
         let firing = firings.pop().unwrap();
-        let number = letters.len() as u32 + 1;
+        let number = messages.len() as u32 + 1;
         let entry = Entry {
             number,
             source: mark.source,
@@ -75,7 +75,7 @@ pub fn into_entries(
             firing,
         };
         entries.push(entry).unwrap();
-        give_room_back(&mut letters);
+        give_room_back(&mut messages);
         give_room_back(&mut marks);
         give_room_back(&mut firings);
     }

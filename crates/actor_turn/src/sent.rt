@@ -18,7 +18,8 @@ pub fn send(
 ) -> Result<(), NoMemory>
     requires targets { AllByRecursion (IsFor (length outboxes.old)) (sent_by stamp effects.now) }
 
-    ensures posts { OnOk result (map (λ o. o.posts) outboxes.new ≡ delivered (sent_by stamp effects.now) (map (λ o. o.posts) outboxes.old)) }
+    ensures posts { OnOk result (map (λ o. o.posts) outboxes.new ≡ delivered (sent_by stamp effects.now)
+        (map (λ o. o.posts) outboxes.old)) }
     ensures same { OnErr result (map (λ o. o.posts) outboxes.new ≡ map (λ o. o.posts) outboxes.old) }
     ensures lent { map (λ o. o.lent) outboxes.new ≡ map (λ o. o.lent) outboxes.old }
 {

@@ -5,7 +5,7 @@ ghost use Rattle.std.specs.List.Sorted.{IsStrictlyIncreasing};
 ghost use Rattle.join_base.specs.Late.{HasCount, late_more};
 ghost use Rattle.join_base.specs.Stamps.{greatest_stamp};
 ghost use Rattle.join_base.specs.Taken.{contains_number, without};
-ghost use Rattle.mailbox_core.specs.Mail.{IsRecorded, latest, letters_of, with_arrival, with_late, with_live, without_last};
+ghost use Rattle.mailbox_core.specs.Mail.{IsRecorded, latest, recorded_messages, with_arrival, with_late, with_live, without_last};
 ghost use Rattle.tree_law.specs.Trees.{AreSettled, CanOfferTo, HasPaths, HasReserve, IsReservedAt, best_of, cleared_tree, settled_tree, tries_at};
 ghost use Rattle.fair_semantics.specs.Step.{body_at, firing_of};
 ghost use Rattle.fair_semantics.specs.Body.{effects_of, stops};
@@ -42,8 +42,8 @@ pub fn spend(mail: &mut Mailbox, trees: &mut [MatchTree], ending: &mut Ending, s
     *ending = Ending::Spent;
 }
 
-/// Records a message with the stamp that it carried, offers its number to the trees, whose numbers are in the index, and
-/// gives the number. Where there is no memory, all is as it was, and the message comes back.
+/// Records a message with the stamp that it carried, offers its number to the trees, whose numbers are in the index,
+/// and gives the number. Where there is no memory, all is as it was, and the message comes back.
 pub fn record<L: Ledger>(
     mail: &mut Mailbox,
     trees: &mut [MatchTree],
@@ -57,24 +57,28 @@ pub fn record<L: Ledger>(
     requires came { came < greatest_stamp }
     requires latest { latest mail.old.mail.arrivals < greatest_stamp }
     requires settled { AreSettled trees.old }
-    requires can { AllByRecursion (CanOfferTo (letters_of mail.old.mail.arrivals ++ message ∷ []) (length mail.old.mail.arrivals + 1)) trees.old }
-    requires indexed { AllByRecursion (HasPaths index.now (letters_of mail.old.mail.arrivals ++ message ∷ [])) trees.old }
+    requires can { AllByRecursion (CanOfferTo (recorded_messages mail.old.mail.arrivals ++ message ∷ [])
+        (length mail.old.mail.arrivals + 1)) trees.old }
+    requires indexed { AllByRecursion (HasPaths index.now (recorded_messages mail.old.mail.arrivals ++ message
+        ∷ [])) trees.old }
 
     ensures number { IfOk result (λ n. n ≡ length mail.old.mail.arrivals + 1) }
     ensures recorded { OnOk result (mail.new.mail ≡ with_arrival mail.old.mail source message came) }
     ensures ascending { OnOk result (IsStrictlyIncreasing mail.new.mail.live) }
     ensures same { OnOk result (map settled_tree trees.new ≡ trees.old) }
-    ensures reserved { OnOk result (AllByRecursion (IsReservedAt (letters_of mail.old.mail.arrivals ++ message ∷ []) (length mail.old.mail.arrivals + 1)) trees.new) }
+    ensures reserved { OnOk result (AllByRecursion (IsReservedAt (recorded_messages mail.old.mail.arrivals ++ message
+        ∷ []) (length mail.old.mail.arrivals + 1)) trees.new) }
     ensures mail { OnErr result (mail.new.mail ≡ mail.old.mail) }
     ensures trees { OnErr result (trees.new ≡ trees.old) }
     ensures back { IfErr result (λ r. r.message ≡ message) }
-    ensures steps { steps.new ≤ steps.old + tries_at (letters_of mail.old.mail.arrivals ++ message ∷ []) (length mail.old.mail.arrivals + 1) trees.old }
+    ensures steps { steps.new ≤ steps.old + tries_at (recorded_messages mail.old.mail.arrivals ++ message ∷ [])
+        (length mail.old.mail.arrivals + 1) trees.old }
 {
     let Ok(()) = mail.reserve_one() else {
         return Err(Refused { message });
     };
     let number = mail.append(source, message, came);
-    match reserve_all(trees, mail.letters(), index, number, steps) {
+    match reserve_all(trees, mail.messages(), index, number, steps) {
         Ok(()) => Ok(number),
         Err(NoMemory) => Err(Refused {
             message: mail.retract_last(),
@@ -88,7 +92,8 @@ pub fn give_up(mail: &mut Mailbox, trees: &mut [MatchTree]) -> Refused
 
     ensures trees { trees.new ≡ map settled_tree trees.old }
     ensures retracted { mail.new.mail ≡ without_last mail.old.mail }
-    ensures message { letters_of mail.old.mail.arrivals ≡ letters_of mail.new.mail.arrivals ++ result.message ∷ [] }
+    ensures message { recorded_messages mail.old.mail.arrivals ≡ recorded_messages mail.new.mail.arrivals
+        ++ result.message ∷ [] }
 {
     forget_all(trees);
     Refused {
@@ -135,11 +140,13 @@ fn let_go(
     requires few { number < 2 ^ 32 - 1 }
     requires recorded { All (IsRecorded mail.old.mail.arrivals) taken.now }
     requires reserved { AllByRecursion (HasReserve number) trees.old }
-    requires can { AllByRecursion (CanOfferTo (letters_of mail.old.mail.arrivals) number) trees.old }
-    requires indexed { AllByRecursion (HasPaths index.now (letters_of mail.old.mail.arrivals)) trees.old }
+    requires can { AllByRecursion (CanOfferTo (recorded_messages mail.old.mail.arrivals) number) trees.old }
+    requires indexed { AllByRecursion (HasPaths index.now (recorded_messages mail.old.mail.arrivals)) trees.old }
 
-    ensures mail { mail.new.mail ≡ with_live mail.old.mail (if stops then [] else without mail.old.mail.live taken.now) }
-    ensures trees { trees.new ≡ (if stops then map cleared_tree trees.old else map (fired_at number taken.now) trees.old) }
+    ensures mail { mail.new.mail ≡ with_live mail.old.mail (if stops then [] else without
+        mail.old.mail.live taken.now) }
+    ensures trees { trees.new ≡ (if stops then map cleared_tree trees.old else map
+        (fired_at number taken.now) trees.old) }
     ensures ending { ending.new ≡ (if stops then Ending.Stopped else ending.old) }
 {
     if stops {
@@ -151,12 +158,12 @@ fn let_go(
     mail.consume(taken);
     expire_all(trees, number);
     forget_all(trees);
-    prune_all(trees, mail.letters(), index, number, taken);
+    prune_all(trees, mail.messages(), index, number, taken);
 }
 
 /// The match that was chosen fires at the recorded message with the number: its numbers leave, the body runs, and its
-/// posts wait in the outboxes. The index has the numbers of the trees' paths. Where there is no memory, all is as it was,
-/// but for room.
+/// posts wait in the outboxes. The index has the numbers of the trees' paths. Where there is no memory, all is as it
+/// was, but for room.
 pub fn fire(
     alloc: Global,
     rules: &Items<Rule>,
@@ -171,17 +178,24 @@ pub fn fire(
     requires few { number < 2 ^ 32 - 1 }
     requires numbered { 1 ≤ chosen.rule }
     requires exists { chosen.rule ≤ length rules.now }
-    requires ready { BodyReady (length outboxes.old) (letters_of mail.old.mail.arrivals) chosen.taken (body_at rules.now chosen.rule) }
+    requires ready { BodyReady (length outboxes.old) (recorded_messages mail.old.mail.arrivals) chosen.taken
+        (body_at rules.now chosen.rule) }
     requires recorded { All (IsRecorded mail.old.mail.arrivals) chosen.taken }
     requires reserved { AllByRecursion (HasReserve number) trees.old }
-    requires can { AllByRecursion (CanOfferTo (letters_of mail.old.mail.arrivals) number) trees.old }
-    requires indexed { AllByRecursion (HasPaths index.now (letters_of mail.old.mail.arrivals)) trees.old }
+    requires can { AllByRecursion (CanOfferTo (recorded_messages mail.old.mail.arrivals) number) trees.old }
+    requires indexed { AllByRecursion (HasPaths index.now (recorded_messages mail.old.mail.arrivals)) trees.old }
 
-    ensures firing { IfOk result (λ f. Some f.value ≡ firing_of rules.now (letters_of mail.old.mail.arrivals) (Some chosen)) }
-    ensures mail { OnOk result (mail.new.mail ≡ with_live mail.old.mail (if stops (body_at rules.now chosen.rule) then [] else without mail.old.mail.live chosen.taken)) }
-    ensures trees { OnOk result (trees.new ≡ (if stops (body_at rules.now chosen.rule) then map cleared_tree trees.old else map (fired_at number chosen.taken) trees.old)) }
-    ensures ending { OnOk result (ending.new ≡ (if stops (body_at rules.now chosen.rule) then Ending.Stopped else ending.old)) }
-    ensures posts { OnOk result (map (λ o. o.posts) outboxes.new ≡ delivered (sent_by (latest mail.old.mail.arrivals) (effects_of (letters_of mail.old.mail.arrivals) chosen.taken (body_at rules.now chosen.rule))) (map (λ o. o.posts) outboxes.old)) }
+    ensures firing { IfOk result (λ f. Some f.value ≡ firing_of rules.now (recorded_messages mail.old.mail.arrivals)
+        (Some chosen)) }
+    ensures mail { OnOk result (mail.new.mail ≡ with_live mail.old.mail (if stops (body_at rules.now chosen.rule) then
+        [] else without mail.old.mail.live chosen.taken)) }
+    ensures trees { OnOk result (trees.new ≡ (if stops (body_at rules.now chosen.rule) then map cleared_tree trees.old
+        else map (fired_at number chosen.taken) trees.old)) }
+    ensures ending { OnOk result (ending.new ≡ (if stops (body_at rules.now chosen.rule) then Ending.Stopped else
+        ending.old)) }
+    ensures posts { OnOk result (map (λ o. o.posts) outboxes.new ≡ delivered (sent_by (latest mail.old.mail.arrivals)
+        (effects_of (recorded_messages mail.old.mail.arrivals) chosen.taken (body_at rules.now chosen.rule)))
+        (map (λ o. o.posts) outboxes.old)) }
     ensures lent { map (λ o. o.lent) outboxes.new ≡ map (λ o. o.lent) outboxes.old }
     ensures same_mail { OnErr result (mail.new.mail ≡ mail.old.mail) }
     ensures same_trees { OnErr result (trees.new ≡ trees.old) }
@@ -194,7 +208,7 @@ pub fn fire(
         &rule.body,
         outboxes.len(),
         &chosen.taken,
-        mail.letters(),
+        mail.messages(),
     )?;
     let firing = Box::new(
         alloc,

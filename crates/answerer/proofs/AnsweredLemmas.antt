@@ -19,7 +19,7 @@ use Rattle.ask_board.specs.Board.{HasAsk, KnowsAnother, StaysKnown}
 use Rattle.ask_board.proofs.RowsLemmas.{same_ask}
 use Rattle.answerer.specs.declared.answering.Answers.{Answers}
 use Rattle.answerer.specs.Asks.{ask_at}
-use Rattle.answerer.specs.Answered.{Answered, AreTried, AreTriedBack, Gives, IsAnswer, IsOfBoard, IsTried, known}
+use Rattle.answerer.specs.Answered.{Answered, AreTried, AreTriedBack, AnswersOne, IsAnswer, IsOfBoard, IsTried, known}
 use Rattle.answerer.proofs.AskLemmas.{get_front, get_last}
 
 -- ---- what stays known
@@ -64,7 +64,7 @@ answered_same asks effects a of = record {
 }
 
 -- one ask was answered by a reply to its arrival
-pub answered_by : (asks : List (Option Ask)) (number : ℕ) (value : Value) (ask : Ask) (a b : Answers) → ask_at asks number ≡ Some ask → Gives ask value a b → Answered asks (Reply number value ∷ []) a b
+pub answered_by : (asks : List (Option Ask)) (number : ℕ) (value : Value) (ask : Ask) (a b : Answers) → ask_at asks number ≡ Some ask → AnswersOne ask value a b → Answered asks (Reply number value ∷ []) a b
 answered_by asks number value ask a b here gives = record {
   board = gives.board;
   of_board = gives.of_board;

@@ -38,7 +38,7 @@ AreTriedBack asks entries answers = (place : ℕ) (entry : Entry) (number : ℕ)
     → ask_at asks number ≡ Some ask → HasAsk answers.board.now ask → IsTried answers ask value
 
 -- one ask was answered with a value, and is listed only where it has this value
-pub record Gives (ask : Ask) (value : Value) (old now : Answers) : Type 0 where
+pub record AnswersOne (ask : Ask) (value : Value) (old now : Answers) : Type 0 where
   pub board : now.board.now ≡ old.board.now
   pub of_board : IsOfBoard now
   pub stays : StaysKnown (known old ask) (known now ask)

@@ -8,7 +8,7 @@ ghost use Rattle.fair_semantics.specs.declared.run.Effect.TheVariants.{Reply};
 ghost use Rattle.fair_semantics.specs.Linked.{firing_effects};
 ghost use Rattle.feed_answers.specs.Answers.{effects_in};
 ghost use Rattle.answerer.specs.Asks.{ask_at};
-ghost use Rattle.answerer.specs.Answered.{Answered, AreTried, AreTriedBack, Gives, IsOfBoard, IsTried, Joins};
+ghost use Rattle.answerer.specs.Answered.{Answered, AreTried, AreTriedBack, AnswersOne, IsOfBoard, IsTried, Joins};
 
 use crate::noting::{Progress, ask_at};
 use ask_board::{AnswerFault, Ask, AskBoard, AskView};
@@ -41,7 +41,7 @@ impl<'a> Answers<'a> {
     fn give(&mut self, ask: Ask, value: Value) -> Result<(), NoMemory>
         requires of_board { IsOfBoard self.old }
         requires exists { HasAsk self.old.board.now ask }
-        ensures gives { Gives ask value self.old self.new }
+        ensures gives { AnswersOne ask value self.old self.new }
         ensures tried { OnOk result (IsTried self.new ask value) }
     {
         match self.board.answer(&mut self.view, ask, value) {

@@ -94,11 +94,13 @@ impl<'a> Answerer<'a> {
         requires of_board { IsOfBoard self.old.answers }
         requires others { IsOfBoard other.answers }
         requires known { AreKnown other.answers }
-        ensures fits { (actor : ℕ) (entries : List OneEntry) → Fits self.old actor entries → Fits other.entry actor entries → Fits self.new actor entries }
+        ensures fits { (actor : ℕ) (entries : List OneEntry) → Fits self.old actor entries
+            → Fits other.entry actor entries → Fits self.new actor entries }
         ensures board { self.new.answers.board.now ≡ self.old.answers.board.now }
         ensures of_board { IsOfBoard self.new.answers }
         ensures kept { (ask : OneAsk) → IsIn ask self.old.answers.asks → IsIn ask self.new.answers.asks }
-        ensures joined { OnOk result ((ask : OneAsk) → IsIn ask other.entry.answers.asks → IsIn ask self.new.answers.asks) }
+        ensures joined { OnOk result ((ask : OneAsk) → IsIn ask other.entry.answers.asks
+            → IsIn ask self.new.answers.asks) }
     {
         let Answerer { answers, .. } = other;
         let Answers { view, asks, .. } = answers;

@@ -68,7 +68,8 @@ fn answer_by(
     requires fits { FitsIn actor state.now.state.entries progress.old answers.old }
     ensures fits { FitsIn actor state.now.state.entries progress.new answers.new }
     ensures others { (other : ℕ) → other ≢ actor → IsAlike other answers.old answers.new }
-    ensures tried { OnOk result (AreTriedBack (asks_of actor state.now.state.entries) state.now.state.entries answers.new) }
+    ensures tried { OnOk result (AreTriedBack (asks_of actor state.now.state.entries) state.now.state.entries
+        answers.new) }
 {
     note_shown(progress, actor, state)?;
     answer_shown(alloc, answers, progress, state)
@@ -81,8 +82,9 @@ impl<'a, R> Beside<R> for Answerer<'a> {
 
     ghost wants = { Unit {0} };
 
-    /// Answers what the actor replied to arrivals from feeds. At `Ok` each reply to an arrival up to its own whose ask the
-    /// board has was tried: the ask is on the list, or has another value. A further call goes on where one wanted memory.
+    /// Answers what the actor replied to arrivals from feeds. At `Ok` each reply to an arrival up to its own whose ask
+    /// the board has was tried: the ask is on the list, or has another value. A further call goes on where one wanted
+    /// memory.
     fn seen(&mut self, _rt: &R, alloc: Global, actor: u32, state: &Actor) -> Result<(), NoMemory>
         requires below { actor < 32 }
         requires reached { IsReached state.now.setting state.now.state }

@@ -98,7 +98,8 @@ pub(crate) fn put_text(room: &mut [u8; ROOM], end: usize, text: &[u8]) -> Option
 pub(crate) fn put_value(room: &mut [u8; ROOM], end: usize, value: ValueRef<'_>) -> Option<usize>
     requires within { end ≤ 512 }
     ensures start { IfSome result (λ start. (235 ≤ start) × (start ≤ 512)) }
-    ensures written { IfSome result (λ start. drop start room.new ≡ value_text (value_seen value.entry) ++ drop end room.old) }
+    ensures written { IfSome result (λ start. drop start room.new ≡ value_text (value_seen value.entry)
+        ++ drop end room.old) }
 {
     match value {
         ValueRef::Int(number) => {
@@ -115,7 +116,8 @@ pub(crate) fn put_value(room: &mut [u8; ROOM], end: usize, value: ValueRef<'_>) 
 pub(crate) fn put_values(room: &mut [u8; ROOM], end: usize, values: &Fields) -> Option<usize>
     requires within { (235 ≤ end) × (end ≤ 512) }
     ensures start { IfSome result (λ start. (235 ≤ start) × (start ≤ 512)) }
-    ensures written { IfSome result (λ start. drop start room.new ≡ comma_joined (map value_text values.now) ++ drop end room.old) }
+    ensures written { IfSome result (λ start. drop start room.new ≡ comma_joined (map value_text values.now)
+        ++ drop end room.old) }
 {
     if values.len() == 0 {
         return Some(end);

@@ -69,7 +69,8 @@ pub(crate) fn put_front(
 ) -> usize
     requires within { (121 ≤ end) × (end ≤ 512) }
     ensures start { result ≤ 512 }
-    ensures written { drop result room.new ≡ arrival_front plan.now version (stamped entry.now stamp) ++ drop end room.old }
+    ensures written { drop result room.new ≡ arrival_front plan.now version (stamped entry.now stamp)
+        ++ drop end room.old }
 {
     let end = put_source(room, end, plan, entry.source);
     let end = put_stamp(room, end, version, stamp);
@@ -80,7 +81,8 @@ pub(crate) fn put_front(
 fn put_message(room: &mut [u8; ROOM], end: usize, plan: &Plan, message: &Message) -> Option<usize>
     requires within { (256 ≤ end) × (end ≤ 512) }
     ensures start { IfSome result (λ start. (170 ≤ start) × (start ≤ 512)) }
-    ensures written { IfSome result (λ start. drop start room.new ≡ message_text plan.now message.now ++ 10 ∷ drop end room.old) }
+    ensures written { IfSome result (λ start. drop start room.new ≡ message_text plan.now message.now ++ 10
+        ∷ drop end room.old) }
 {
     let end = put_words(room, end, b")\n");
     let end = put_values(room, end, &message.fields)?;
@@ -99,7 +101,8 @@ pub(crate) fn put_arrival(
 ) -> Option<usize>
     requires within { end ≤ 512 }
     ensures start { IfSome result (λ start. start ≤ 512) }
-    ensures written { IfSome result (λ start. drop start room.new ≡ arrival_line plan.now version (stamped entry.now stamp) ++ drop end room.old) }
+    ensures written { IfSome result (λ start. drop start room.new ≡ arrival_line plan.now version
+        (stamped entry.now stamp) ++ drop end room.old) }
 {
     if end < FRONT {
         return None;
@@ -124,7 +127,8 @@ pub(crate) fn put_fire(room: &mut [u8; ROOM], end: usize, firing: &Firing) -> us
 fn put_print(room: &mut [u8; ROOM], end: usize, printed: &[u8]) -> Option<usize>
     requires within { (256 ≤ end) × (end ≤ 512) }
     ensures start { IfSome result (λ start. start ≤ 512) }
-    ensures written { IfSome result (λ start. drop start room.new ≡ line (codes "print" ∷ quoted printed.now ∷ []) ++ drop end room.old) }
+    ensures written { IfSome result (λ start. drop start room.new ≡ line (codes "print" ∷ quoted printed.now ∷ [])
+        ++ drop end room.old) }
 {
     let end = put_words(room, end, b"\n");
     let end = put_text(room, end, printed)?;
@@ -140,7 +144,8 @@ fn put_post(
 ) -> Option<usize>
     requires within { (256 ≤ end) × (end ≤ 512) }
     ensures start { IfSome result (λ start. start ≤ 512) }
-    ensures written { IfSome result (λ start. drop start room.new ≡ line (codes "post" ∷ name_of_actor plan.now target ∷ message_text plan.now message.now ∷ []) ++ drop end room.old) }
+    ensures written { IfSome result (λ start. drop start room.new ≡ line (codes "post" ∷ name_of_actor plan.now target
+        ∷ message_text plan.now message.now ∷ []) ++ drop end room.old) }
 {
     let end = put_message(room, end, plan, message)?;
     let end = put_words(room, end, b" ");
@@ -151,7 +156,8 @@ fn put_post(
 fn put_reply(room: &mut [u8; ROOM], end: usize, number: u32, value: &Value) -> Option<usize>
     requires within { (256 ≤ end) × (end ≤ 512) }
     ensures start { IfSome result (λ start. start ≤ 512) }
-    ensures written { IfSome result (λ start. drop start room.new ≡ line (codes "reply" ∷ decimal number ∷ value_text value.now ∷ []) ++ drop end room.old) }
+    ensures written { IfSome result (λ start. drop start room.new ≡ line (codes "reply" ∷ decimal number
+        ∷ value_text value.now ∷ []) ++ drop end room.old) }
 {
     let end = put_words(room, end, b"\n");
     let end = put_value(room, end, value.seen())?;
@@ -169,7 +175,8 @@ pub(crate) fn put_effect(
 ) -> Option<usize>
     requires within { (256 ≤ end) × (end ≤ 512) }
     ensures start { IfSome result (λ start. start ≤ 512) }
-    ensures written { IfSome result (λ start. drop start room.new ≡ effect_line plan.now effect.now ++ drop end room.old) }
+    ensures written { IfSome result (λ start. drop start room.new ≡ effect_line plan.now effect.now
+        ++ drop end room.old) }
 {
     match effect {
         Effect::Print(printed) => put_print(room, end, printed.bytes()),
@@ -222,7 +229,8 @@ pub(crate) fn put_entry(
     stamp: u64,
 ) -> Option<usize>
     ensures start { IfSome result (λ start. start ≤ 512) }
-    ensures written { IfSome result (λ start. drop start room.new ≡ entry_lines plan.now version (stamped entry.now stamp)) }
+    ensures written { IfSome result (λ start. drop start room.new ≡ entry_lines plan.now version
+        (stamped entry.now stamp)) }
 {
     let end = put_fired(room, plan, &entry.firing)?;
     put_arrival(room, end, plan, version, entry, stamp)

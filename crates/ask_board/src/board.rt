@@ -150,7 +150,8 @@ impl AskBoard {
         Ok(AskView { notes: feeds })
     }
 
-    /// The value of an ask, where it has one. The view knows it from then on. `None` comes only where the view knew none.
+    /// The value of an ask, where it has one. The view knows it from then on. `None` comes only where the view knew
+    /// none.
     pub fn look<'a>(&'a self, view: &mut AskView, ask: Ask) -> Option<&'a Value>
         requires of_board { IsViewOf self.now view.old }
         requires exists { HasAsk self.now ask }
@@ -187,8 +188,8 @@ impl AskBoard {
         cell.set_as(value, note)
     }
 
-    /// Answers an ask with a value. `Ok` where the ask has this value, set here or found. `Differs` exactly where the view
-    /// then knows another value for it. After `NoMemory` the view knows what it knew.
+    /// Answers an ask with a value. `Ok` where the ask has this value, set here or found. `Differs` exactly where the
+    /// view then knows another value for it. After `NoMemory` the view knows what it knew.
     pub fn answer(&self, view: &mut AskView, ask: Ask, value: Value) -> Result<(), AnswerFault>
         requires of_board { IsViewOf self.now view.old }
         requires exists { HasAsk self.now ask }

@@ -76,7 +76,9 @@ pub(crate) fn join_tellers<'a, K: OneBoard>(
     requires joinable { All (IsJoinable K.cells) tellers.items }
     ensures board { IfOk result (λ joined. joined.answers.board.now ≡ board.now) }
     ensures of_board { IfOk result (λ joined. IsOfBoard joined.answers) }
-    ensures fits { IfOk result (λ joined. (actor : ℕ) (setting : Setting) (history : History) → All (λ teller. FitsOn K.cells teller actor setting history) tellers.entry.items → FitsHistory joined actor setting history) }
+    ensures fits { IfOk result (λ joined. (actor : ℕ) (setting : Setting) (history : History)
+        → All (λ teller. FitsOn K.cells teller actor setting history) tellers.entry.items
+        → FitsHistory joined actor setting history) }
 {
     let mut joined = Answerer::new(alloc, board)?;
     while let Some(teller) = tellers.pop() {

@@ -9,7 +9,7 @@ use Rattle.post_ring.specs.declared.identity.LinkIdentity.{LinkIdentity}
 use Rattle.cell_links.specs.declared.ends.Inward.{Inward}
 use Rattle.cell_links.specs.declared.ends.Outward.{Outward}
 use Rattle.cell_links.specs.declared.ends.ActorLinks.{ActorLinks}
-use Rattle.cell_links.specs.declared.poster.Poster.{Poster}
+use Rattle.cell_links.specs.declared.feed_links.FeedLinks.{FeedLinks}
 use Rattle.cell_links.specs.Ends.{PosterTag, inward_tag, link_tags, outward_tag, poster_links, poster_tag}
 use Rattle.cell_links.specs.Wiring.{AreLinked, IsWired, Joins, Key, feed_keys, inward_key, inward_keys, outward_key, outward_keys, sending_keys}
 use Rattle.cell_links.specs.InOrder.{AreCounted, AreInOrder}
@@ -39,7 +39,7 @@ feeds-before k n (t ∷ tags) below =
     feed-injective a b e = cc
 
 -- the links of one feed more
-pub feed-more : (i : ℕ) (posters : List Poster) (p : Poster) (ws : List Outward) (old now : List (List Inward)) → poster_links p ≡ ws → length posters ≡ i → AreLinked (feed_keys 1 (map poster_tag posters)) (keys_from 0 old) → Connects (Feed (i + 1)) ws old now
+pub feed-more : (i : ℕ) (posters : List FeedLinks) (p : FeedLinks) (ws : List Outward) (old now : List (List Inward)) → poster_links p ≡ ws → length posters ≡ i → AreLinked (feed_keys 1 (map poster_tag posters)) (keys_from 0 old) → Connects (Feed (i + 1)) ws old now
     → AreLinked (feed_keys 1 (map poster_tag (posters ++ p ∷ []))) (keys_from 0 now)
 feed-more i posters p ws old now own count linked connects =
     let tags = map poster_tag posters in
@@ -110,7 +110,7 @@ keys-outward : (i : ℕ) (links : List ActorLinks) → outward_keys i (map link_
 keys-outward i [] = refl
 keys-outward i (l ∷ links) = λ t. map-outward (Actor i) l.outward.items t ++ keys-outward (i + 1) links t
 
-pub links-wired : (links : List ActorLinks) (posters : List Poster) (inwards : List (List Inward)) (outwards : List (List Outward)) → map (λ (l : ActorLinks). l.inward.items) links ≡ inwards → map (λ (l : ActorLinks). l.outward.items) links ≡ outwards
+pub links-wired : (links : List ActorLinks) (posters : List FeedLinks) (inwards : List (List Inward)) (outwards : List (List Outward)) → map (λ (l : ActorLinks). l.inward.items) links ≡ inwards → map (λ (l : ActorLinks). l.outward.items) links ≡ outwards
     → AreLinked (feed_keys 1 (map poster_tag posters) ++ sending_from 0 outwards) (keys_from 0 inwards) → IsWired (map link_tags links) (map poster_tag posters)
 links-wired links posters inwards outwards ins outs linked =
     let receiving : inward_keys 0 (map link_tags links) ≡ keys_from 0 inwards = keys-inward 0 links ∙ ap (keys_from 0) ins in

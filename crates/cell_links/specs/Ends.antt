@@ -8,7 +8,7 @@ use Rattle.cell_links.specs.declared.ends.Inward.{Inward}
 use Rattle.cell_links.specs.declared.ends.Outward.{Outward}
 use Rattle.cell_links.specs.declared.ends.ActorLinks.{ActorLinks}
 use Rattle.cell_links.specs.declared.ends.LinkTags.{LinkTags}
-use Rattle.cell_links.specs.declared.poster.Poster.{Poster}
+use Rattle.cell_links.specs.declared.feed_links.FeedLinks.{FeedLinks}
 
 -- the identity of a link, with its source or target
 abbrev pub inward_tag : Inward → Source × LinkIdentity
@@ -24,17 +24,17 @@ tags_of inward outward = record { inward = map inward_tag inward; outward = map 
 abbrev pub link_tags : ActorLinks → LinkTags
 link_tags links = tags_of links.inward.items links.outward.items
 
-abbrev pub poster_links : Poster → List Outward
+abbrev pub poster_links : FeedLinks → List Outward
 poster_links p = p.outward.items
 
 -- and of a poster
 abbrev pub PosterTag : Type 0
 PosterTag = List (ℕ × LinkIdentity)
 
-abbrev pub poster_tag : Poster → PosterTag
+abbrev pub poster_tag : FeedLinks → PosterTag
 poster_tag p = map outward_tag (poster_links p)
 
-abbrev pub link_count : Poster → ℕ
+abbrev pub link_count : FeedLinks → ℕ
 link_count p = length (poster_links p)
 
 -- what was sent over the link to a target, or nothing where there is none

@@ -6,8 +6,8 @@ ghost use Rattle.cell_links.specs.Wiring.{AreLinked, IsWired, feed_keys};
 ghost use Rattle.cell_links.specs.Making.{AllNew, AreNew, IsNewOut, TargetsApart, keys_from, sending_from};
 
 use crate::ends::{ActorLinks, Inward, Outward};
+use crate::feed_links::FeedLinks;
 use crate::making::connect_source;
-use crate::poster::Poster;
 use join_base::{Items, NoMemory, Source};
 use std::alloc::Global;
 
@@ -43,7 +43,7 @@ fn connect_feeds(
     ring: u32,
     targets: &[u32],
     inwards: &mut Vec<Items<Inward>>,
-) -> Result<Vec<Poster>, NoMemory>
+) -> Result<Vec<FeedLinks>, NoMemory>
     requires feeds { feeds ≤ 16 }
     requires ring { (1 ≤ ring) × (ring ≤ 4096) }
     requires exist { All (λ t. t < length inwards.old.items) targets.now }
@@ -53,14 +53,16 @@ fn connect_feeds(
     requires fresh { AllNew inwards.old.items }
     ensures count { length inwards.new.items ≡ length inwards.old.items }
     ensures posters { IfOk result (λ posters. length posters.items ≡ feeds) }
-    ensures each { IfOk result (λ posters. All (λ p. (link_count p ≡ length targets.now) × All (IsNewOut ring) (poster_links p)) posters.items) }
-    ensures linked { IfOk result (λ posters. AreLinked (feed_keys 1 (map poster_tag posters.items)) (keys_from 0 inwards.new.items)) }
+    ensures each { IfOk result (λ posters. All (λ p. (link_count p ≡ length targets.now)
+        × All (IsNewOut ring) (poster_links p)) posters.items) }
+    ensures linked { IfOk result (λ posters. AreLinked (feed_keys 1 (map poster_tag posters.items))
+        (keys_from 0 inwards.new.items)) }
     ensures fresh { IfOk result (λ _. AllNew inwards.new.items) }
 {
     let mut posters = Vec::new(alloc);
     for i in 0..feeds {
         let outward = connect_source(alloc, Source::Feed(i + 1), targets, ring, inwards)?;
-        posters.push(Poster::of(outward))?;
+        posters.push(FeedLinks::of(outward))?;
     }
     Ok(posters)
 }
@@ -78,7 +80,8 @@ fn connect_actors(
     requires apart { All (λ ts. TargetsApart ts.items) targets.now }
     ensures count { length inwards.new.items ≡ length inwards.old.items }
     ensures outwards { IfOk result (λ outwards. length outwards.items ≡ length targets.now) }
-    ensures targets { IfOk result (λ outwards. map (λ ws. map (λ w. w.target) ws) outwards.items ≡ map (λ ts. ts.items) targets.now) }
+    ensures targets { IfOk result (λ outwards. map (λ ws. map (λ w. w.target) ws) outwards.items
+        ≡ map (λ ts. ts.items) targets.now) }
     ensures sends { IfOk result (λ outwards. All (All (IsNewOut ring)) outwards.items) }
     ensures linked { IfOk result (λ outwards. (tags : List PosterTag) → AreLinked (feed_keys 1 tags) (keys_from 0 inwards.old.items)
         → AreLinked (feed_keys 1 tags ++ sending_from 0 outwards.items) (keys_from 0 inwards.new.items)) }
@@ -123,23 +126,25 @@ fn into_links(
     Ok(links)
 }
 
-/// All links of so many feeds and of actors with these targets: from each feed to each actor, and from each actor to each of its
-/// targets. Each link has room for `ring` messages.
+/// All links of so many feeds and of actors with these targets: from each feed to each actor, and from each actor to
+/// each of its targets. Each link has room for `ring` messages.
 pub fn connect(
     alloc: Global,
     feeds: u32,
     targets: &[Vec<u32>],
     ring: u32,
-) -> Result<(Vec<ActorLinks>, Vec<Poster>), NoMemory>
+) -> Result<(Vec<ActorLinks>, Vec<FeedLinks>), NoMemory>
     requires feeds { feeds ≤ 16 }
     requires few { length targets.now ≤ 32 }
     requires ring { (1 ≤ ring) × (ring ≤ 4096) }
     requires exist { All (λ ts. All (λ t. t < length targets.now) ts.items) targets.now }
     requires apart { All (λ ts. TargetsApart ts.items) targets.now }
     ensures actors { IfOk result (λ r. length r.0.items ≡ length targets.now) }
-    ensures targets { IfOk result (λ r. map (λ l. map (λ w. w.target) l.outward.items) r.0.items ≡ map (λ ts. ts.items) targets.now) }
+    ensures targets { IfOk result (λ r. map (λ l. map (λ w. w.target) l.outward.items) r.0.items
+        ≡ map (λ ts. ts.items) targets.now) }
     ensures posters { IfOk result (λ r. length r.1.items ≡ feeds) }
-    ensures each { IfOk result (λ r. All (λ p. (link_count p ≡ length targets.now) × All (IsNewOut ring) (poster_links p)) r.1.items) }
+    ensures each { IfOk result (λ r. All (λ p. (link_count p ≡ length targets.now)
+        × All (IsNewOut ring) (poster_links p)) r.1.items) }
     ensures wired { IfOk result (λ r. IsWired (map link_tags r.0.items) (map poster_tag r.1.items)) }
     ensures fresh { IfOk result (λ r. All (AreNew ring) r.0.items) }
 {

@@ -25,8 +25,8 @@ pub struct ActorLinks {
     pub outward: Vec<Outward>,
 }
 
-/// What stays of the links of an actor: the identity of each inward link with its source, and of each outward link with its
-/// target. Contracts read it, and no value of it is ever made.
+/// What stays of the links of an actor: the identity of each inward link with its source, and of each outward link with
+/// its target. Contracts read it, and no value of it is ever made.
 pub struct LinkTags {
     pub inward: LinkedList<(Source, LinkIdentity)>,
     pub outward: LinkedList<(u32, LinkIdentity)>,

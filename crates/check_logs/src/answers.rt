@@ -1,7 +1,7 @@
 //! Logs of two actors that answer each other, of both versions.
 
 use crate::answer::Answer;
-use crate::table::{DIGITS, Expected, LEADING, Line, Log, Mark, Wanted};
+use crate::table::{DIGITS, Expected, LEADING, Line, Log, MarkedByte, Wanted};
 
 // Two actors that answer each other.
 const SCRIPT: &str =
@@ -148,7 +148,7 @@ const LINES_2: &[Line] = &[
     SECOND_ENDS,
 ];
 
-const MARKS: &[Mark] = &[
+const MARKS: &[MarkedByte] = &[
     // The arrivals of version 2 have another form.
     (b'v', b"2", Wanted::Bad(3)),
     // So do those of version 1.

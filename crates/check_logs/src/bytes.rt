@@ -2,7 +2,7 @@
 ghost use Rattle.script_types.specs.Typed.{IsTyped};
 
 use crate::answer::Answer;
-use crate::table::{Line, Log, Mark, Wanted};
+use crate::table::{Line, Log, MarkedByte, Wanted};
 use crate::tally::Tally;
 use join_base::NoMemory;
 use script_types::Plan;
@@ -20,7 +20,7 @@ fn answer_of(wanted: Wanted, line: u64) -> Answer {
 }
 
 // The answer that is wanted where this byte stands at a place with this mark. Where no row has both, the line is none.
-fn wanted(marks: &[Mark], mark: u8, byte: u8, line: u64) -> Answer {
+fn wanted(marks: &[MarkedByte], mark: u8, byte: u8, line: u64) -> Answer {
     for (own, bytes, wanted) in marks {
         if *own == mark && bytes.contains(&byte) {
             return answer_of(*wanted, line);

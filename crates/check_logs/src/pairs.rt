@@ -1,7 +1,7 @@
 //! Logs of an actor that prints pairs, of both versions.
 
 use crate::answer::Answer;
-use crate::table::{DIGITS, Expected, LEADING, Line, Log, Mark, PLAIN, Replaced, Wanted};
+use crate::table::{DIGITS, Expected, LEADING, Line, Log, MarkedByte, PLAIN, Replaced, Wanted};
 
 // One actor that prints pairs.
 const SCRIPT: &str =
@@ -98,7 +98,7 @@ const LINES_2: &[Line] = &[
     ENDS,
 ];
 
-const MARKS: &[Mark] = &[
+const MARKS: &[MarkedByte] = &[
     // The arrivals of version 2 have another form.
     (b'v', b"2", Wanted::Bad(3)),
     // So do those of version 1.

@@ -1,7 +1,7 @@
 //! A log of an actor that replies.
 
 use crate::answer::Answer;
-use crate::table::{DIGITS, Expected, LEADING, Line, Log, Mark, PLAIN, Wanted};
+use crate::table::{DIGITS, Expected, LEADING, Line, Log, MarkedByte, PLAIN, Wanted};
 
 // One actor that replies to the first message and prints a part of it.
 const SCRIPT: &str =
@@ -67,7 +67,7 @@ const LINES: &[Line] = &[
     },
 ];
 
-const MARKS: &[Mark] = &[
+const MARKS: &[MarkedByte] = &[
     // A limit is another number, and the run the same.
     (b'f', LEADING, Wanted::Accepted(1)),
     (b'd', DIGITS, Wanted::Accepted(1)),

@@ -21,7 +21,7 @@ pub enum Wanted {
 }
 
 /// In place of a byte with this mark, these bytes come to this.
-pub type Mark = (u8, &'static [u8], Wanted);
+pub type MarkedByte = (u8, &'static [u8], Wanted);
 
 /// A line with its marks, and what comes of the log where the line is dropped, stands twice, or stands behind the next
 /// one.
@@ -50,7 +50,7 @@ pub struct Log {
     pub script: &'static str,
     pub arrivals: u64,
     pub lines: &'static [Line],
-    pub marks: &'static [Mark],
+    pub marks: &'static [MarkedByte],
     pub replaced: &'static [Replaced],
     pub expected: &'static [Expected],
 }

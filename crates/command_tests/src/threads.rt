@@ -29,8 +29,8 @@ struct Both {
 }
 
 impl Gate for Both {
-    fn enter(&self, thread: u32, _actor: u32) {
-        let (own, other) = if thread == 1 {
+    fn enter(&self, worker: u32, _actor: u32) {
+        let (own, other) = if worker == 1 {
             (&self.first, &self.second)
         } else {
             (&self.second, &self.first)
@@ -105,7 +105,7 @@ struct Later {
 }
 
 impl Gate for Later {
-    fn enter(&self, _thread: u32, actor: u32) {
+    fn enter(&self, _worker: u32, actor: u32) {
         if actor == self.awaited {
             self.seen.fetch_add(1, Ordering::SeqCst);
         }

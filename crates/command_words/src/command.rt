@@ -36,7 +36,8 @@ pub enum Request<'a> {
 
 // Appends the word of an item that stands for itself.
 fn push_word<'a>(words: &mut Vec<&'a Word>, item: &Item<'a>) -> Result<(), NoMemory>
-    ensures { OnOk result (words_in words.new.items ≡ words_in words.old.items ++ cons_option (positional_word (item_in item.now)) []) }
+    ensures { OnOk result (words_in words.new.items ≡ words_in words.old.items
+        ++ cons_option (positional_word (item_in item.now)) []) }
 {
     match item {
         Item::Positional(word) => {
@@ -78,7 +79,8 @@ fn two_words<'a>(words: &[&'a Word]) -> Option<(&'a Word, &'a Word)>
 
 // A script, and 1 to 16 feeds.
 fn script_and_feeds<'a>(mut words: Vec<&'a Word>) -> Option<(&'a Word, Vec<&'a Word>)>
-    ensures { option_map (λ files. (files.0.now, words_in files.1.items)) result ≡ script_and_feeds (words_in words.entry.items) }
+    ensures { option_map (λ files. (files.0.now, words_in files.1.items)) result
+        ≡ script_and_feeds (words_in words.entry.items) }
 {
     if words.len() < 2 || words.len() > 17 {
         return None;
@@ -148,7 +150,8 @@ fn request_of<'a>(
     settings: &[Setting],
     words: &'a WordList,
 ) -> Result<Option<Request<'a>>, NoMemory>
-    ensures command { IfOk result (λ request. option_map command_in request ≡ command_of verbs.now settings.now words.now) }
+    ensures command { IfOk result (λ request. option_map command_in request
+        ≡ command_of verbs.now settings.now words.now) }
 {
     let [name, words @ ..] = words.as_slice() else {
         return Ok(None);
@@ -163,19 +166,21 @@ fn request_of<'a>(
     }
 }
 
-/// The command that the words are, or none. The first word is its name, one of `verbs`. Behind it `--NAME VALUE` and `--NAME=VALUE`
-/// give an option of the command its value, each at most once, in any order with the other words; behind `--` each word stands for
-/// itself. Any other word that begins with `-` and is not `-` alone is refused, and so is a number with a sign or out of its range.
+/// The command that the words are, or none. The first word is its name, one of `verbs`. Behind it `--NAME VALUE` and
+/// `--NAME=VALUE` give an option of the command its value, each at most once, in any order with the other words; behind
+/// `--` each word stands for itself. Any other word that begins with `-` and is not `-` alone is refused, and so is a
+/// number with a sign or out of its range.
 ///
-/// `verbs` and `settings` are the commands and the options that the program takes, and this crate knows more of them: words
-/// of any other are no command, and an option that the program does not take has its usual value.
+/// `verbs` and `settings` are the commands and the options that the program takes, and this crate knows more of them:
+/// words of any other are no command, and an option that the program does not take has its usual value.
 pub fn command_of<'a>(
     alloc: Global,
     verbs: &[Verb],
     settings: &[Setting],
     words: &'a WordList,
 ) -> Result<Option<Request<'a>>, NoMemory>
-    ensures command { IfOk result (λ request. option_map command_in request ≡ command_of verbs.now settings.now words.now) }
+    ensures command { IfOk result (λ request. option_map command_in request
+        ≡ command_of verbs.now settings.now words.now) }
     ensures in_range { IfOk result (λ request. IfSome request (λ r. IsInRange (command_in r))) }
 {
     request_of(alloc, verbs, settings, words)

@@ -61,8 +61,8 @@ fn post_at(feeds: &FeedList, feed: u32, row: Option<u64>) -> Option<&(u32, Messa
     }
 }
 
-/// What stands in a log at its first difference from some feeds, and what should have come there: a line `log LINE` with
-/// that line of the log, and a line `row ACTOR KIND(VALUES)` with the row of the feed, where one is left.
+/// What stands in a log at its first difference from some feeds, and what should have come there: a line `log LINE`
+/// with that line of the log, and a line `row ACTOR KIND(VALUES)` with the row of the feed, where one is left.
 pub fn print_difference(
     alloc: Global,
     plan: &Plan,

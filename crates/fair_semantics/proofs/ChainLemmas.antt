@@ -10,7 +10,7 @@ use Rattle.fair_semantics.specs.declared.run.Outcome.TheVariants as outcome
 use Rattle.fair_semantics.specs.declared.run.Entry.{Entry}
 use Rattle.fair_semantics.specs.declared.run.Firing.{Firing}
 use Rattle.join_base.specs.Taken.{without}
-use Rattle.fair_semantics.specs.Step.{Arrival, Setting, State, Stepped, arrival_step, body_at, by_choice, definitions_of, entry_with, fair_step, firing_of, is_refused, is_running, late_step, latest_stamp, letters_with, live_with, recorded, running_step, spent_step, step_by}
+use Rattle.fair_semantics.specs.Step.{Arrival, Setting, State, Stepped, arrival_step, body_at, by_choice, definitions_of, entry_with, fair_step, firing_of, is_refused, is_running, late_step, latest_stamp, messages_with, live_with, recorded, running_step, spent_step, step_by}
 use Rattle.fair_semantics.specs.Body.{stops}
 use Rattle.fair_semantics.specs.Fair.{Sent, after_all}
 use Rattle.fair_semantics.proofs.FairLemmas.{latest_stamp-more}
@@ -52,16 +52,16 @@ module _ (setting : Setting) where
   HasEntry arrival after = (firing : Option Firing) × (after.entries ≡ arrival.state.entries ++ entry_with arrival firing ∷ [])
 
   pub recorded_by : (arrival : Arrival) (o : Option Candidate) → HasEntry arrival (by_choice setting arrival o).0
-  recorded_by arrival None = by (nat_lt setting.limits.partials (partial_count (letters_with arrival) (live_with arrival) (definitions_of setting.rules)))
+  recorded_by arrival None = by (nat_lt setting.limits.partials (partial_count (messages_with arrival) (live_with arrival) (definitions_of setting.rules)))
     where
       by : (b : Bool) → let stepped : Stepped = if b then (recorded arrival None [] ending.Jammed, outcome.Jammed) else (recorded arrival None (live_with arrival) ending.Running, outcome.Kept) in HasEntry arrival stepped.0
       by true = (None, refl)
       by false = (None, refl)
   recorded_by arrival (Some c) = by (stops (body_at setting.rules c.rule))
     where
-      by : (b : Bool) → HasEntry arrival (if b then recorded arrival (firing_of setting.rules (letters_with arrival) (Some c)) [] ending.Stopped else recorded arrival (firing_of setting.rules (letters_with arrival) (Some c)) (without (live_with arrival) c.taken) ending.Running)
-      by true = (firing_of setting.rules (letters_with arrival) (Some c), refl)
-      by false = (firing_of setting.rules (letters_with arrival) (Some c), refl)
+      by : (b : Bool) → HasEntry arrival (if b then recorded arrival (firing_of setting.rules (messages_with arrival) (Some c)) [] ending.Stopped else recorded arrival (firing_of setting.rules (messages_with arrival) (Some c)) (without (live_with arrival) c.taken) ending.Running)
+      by true = (firing_of setting.rules (messages_with arrival) (Some c), refl)
+      by false = (firing_of setting.rules (messages_with arrival) (Some c), refl)
 
   adds_one : (s : Sent) (sent : List Sent) (state : State) → ((next : State) → Adds next sent (after_all setting next sent)) → Adds state (s ∷ sent) (after_all setting (fair_step setting state s.0 s.1.message s.1.stamp).0 sent)
   adds_one s sent state later = by (is_running state.ending) refl
@@ -71,7 +71,7 @@ module _ (setting : Setting) where
       running false =
           let arrival : Arrival = arrival_of state s in
           let next : State = (arrival_step setting arrival).0 in
-          let r = recorded_by arrival (choice (letters_with arrival) (live_with arrival) (definitions_of setting.rules)) in
+          let r = recorded_by arrival (choice (messages_with arrival) (live_with arrival) (definitions_of setting.rules)) in
           let entry : Entry = entry_with arrival r.0 in
           let a = later next in
           record {

@@ -55,26 +55,26 @@ small_sum : (n : ℕ) (z : ℤ) → n ≤ 64 → neg_ℤ (pos (2 ^ 63 * n)) ≤�
 small_sum n (pos m) few low high = omega (arith, ints)
 small_sum n (negsuc m) few low high = omega (arith, ints)
 
-pub length-Assigns : (letters : List Message) (live kinds taken : List ℕ) → Assigns letters live kinds (slots_of taken) → length taken ≡ length kinds
-length-Assigns letters live [] [] a = refl
-length-Assigns letters live [] (n ∷ taken) a = absurd a
-length-Assigns letters live (kind ∷ kinds) [] a = absurd a
-length-Assigns letters live (kind ∷ kinds) (n ∷ taken) a = ap suc (length-Assigns letters live kinds taken a.1)
+pub length-Assigns : (messages : List Message) (live kinds taken : List ℕ) → Assigns messages live kinds (slots_of taken) → length taken ≡ length kinds
+length-Assigns messages live [] [] a = refl
+length-Assigns messages live [] (n ∷ taken) a = absurd a
+length-Assigns messages live (kind ∷ kinds) [] a = absurd a
+length-Assigns messages live (kind ∷ kinds) (n ∷ taken) a = ap suc (length-Assigns messages live kinds taken a.1)
 
-pub numbers_small : (letters : List Message) (live kinds taken : List ℕ) → All (IsRecorded letters) live → length letters < 2 ^ 32 → Assigns letters live kinds (slots_of taken) → AllByRecursion (λ n. n < 2 ^ 32) taken
-numbers_small letters live [] [] r s a = tt
-numbers_small letters live [] (n ∷ taken) r s a = absurd a
-numbers_small letters live (kind ∷ kinds) [] r s a = absurd a
-numbers_small letters live (kind ∷ kinds) (n ∷ taken) r s a = let here = recorded_of letters live n r a.0.is_live in (omega (arith, here.1), numbers_small letters live kinds taken r s a.1)
+pub numbers_small : (messages : List Message) (live kinds taken : List ℕ) → All (IsRecorded messages) live → length messages < 2 ^ 32 → Assigns messages live kinds (slots_of taken) → AllByRecursion (λ n. n < 2 ^ 32) taken
+numbers_small messages live [] [] r s a = tt
+numbers_small messages live [] (n ∷ taken) r s a = absurd a
+numbers_small messages live (kind ∷ kinds) [] r s a = absurd a
+numbers_small messages live (kind ∷ kinds) (n ∷ taken) r s a = let here = recorded_of messages live n r a.0.is_live in (omega (arith, here.1), numbers_small messages live kinds taken r s a.1)
 
-module _ (plan : Plan) (letters : List Message) (fitting : AllByRecursion (MessageFits plan) letters) where
-  value_fits : (slots : Assignment) (place : Place) (type : Sort) (ready : IsReady letters slots place type) → ValueFits ready.value
+module _ (plan : Plan) (messages : List Message) (fitting : AllByRecursion (MessageFits plan) messages) where
+  value_fits : (slots : Assignment) (place : Place) (type : Sort) (ready : IsReady messages slots place type) → ValueFits ready.value
   value_fits slots place type ready =
-      let message = each_at (MessageFits plan) letters (ready.number - 1) ready.message ready.recorded fitting in
+      let message = each_at (MessageFits plan) messages (ready.number - 1) ready.message ready.recorded fitting in
       each_at ValueFits ready.message.fields place.field ready.value ready.has message.values
 
-  value_is : (slots : Assignment) (place : Place) (type : Sort) (ready : IsReady letters slots place type) → value_at letters slots place ≡ Some ready.value
-  value_is slots place type ready = value_at_parts letters slots place ready.number ready.message ready.value ready.filled ready.above_zero ready.recorded ready.has
+  value_is : (slots : Assignment) (place : Place) (type : Sort) (ready : IsReady messages slots place type) → value_at messages slots place ≡ Some ready.value
+  value_is slots place type ready = value_at_parts messages slots place ready.number ready.message ready.value ready.filled ready.above_zero ready.recorded ready.has
 
   int_of_fits : (v : Value) → ValueFits v → is_of_sort sort.Int v ≡ true → FitsSigned w64 (int_of (Some v))
   int_of_fits (Int n) fit typed = fit
@@ -84,16 +84,16 @@ module _ (plan : Plan) (letters : List Message) (fitting : AllByRecursion (Messa
   words_of_fit (Words bytes) fit typed = fit
   words_of_fit (Int n) fit typed = absurd cc
 
-  int_fits : (slots : Assignment) (place : Place) → IsIntReady letters slots place → FitsSigned w64 (int_of (value_at letters slots place))
+  int_fits : (slots : Assignment) (place : Place) → IsIntReady messages slots place → FitsSigned w64 (int_of (value_at messages slots place))
   int_fits slots place ready =
       subst (λ (o : Option Value). FitsSigned w64 (int_of o)) (sym (value_is slots place sort.Int ready)) (int_of_fits ready.value (value_fits slots place sort.Int ready) ready.of_type)
 
-  words_fit : (slots : Assignment) (w : WordsLeaf) → AreReady letters slots (words_needs w) → WordsFit w → IsText 120 (words_value letters slots w)
+  words_fit : (slots : Assignment) (w : WordsLeaf) → AreReady messages slots (words_needs w) → WordsFit w → IsText 120 (words_value messages slots w)
   words_fit slots (words.Fixed bytes) ready fit = fit
   words_fit slots (words.Field place) ready fit =
       subst (λ (o : Option Value). IsText 120 (words_of o)) (sym (value_is slots place sort.Words ready.0)) (words_of_fit ready.0.value (value_fits slots place sort.Words ready.0) ready.0.of_type)
 
-  leaf_fits : (slots : Assignment) (l : Leaf) → AreReady letters slots (leaf_needs l) → LeafFits l → FitsSigned w64 (leaf_value letters slots l)
+  leaf_fits : (slots : Assignment) (l : Leaf) → AreReady messages slots (leaf_needs l) → LeafFits l → FitsSigned w64 (leaf_value messages slots l)
   leaf_fits slots (leaf.Number n) ready fit = fit
   leaf_fits slots (leaf.Field place) ready fit = int_fits slots place ready.0
 
@@ -101,37 +101,37 @@ module _ (plan : Plan) (letters : List Message) (fitting : AllByRecursion (Messa
   signed_between true z fit = (omega (arith, ints), omega (arith, ints))
   signed_between false z fit = (omega (arith, ints), omega (arith, ints))
 
-  sum_between : (slots : Assignment) (leaves : List Signed) → AreReady letters slots (term_needs leaves) → AllByRecursion (λ (s : Signed). LeafFits s.leaf) leaves
-      → (neg_ℤ (pos (2 ^ 63 * length leaves)) ≤ℤ term_value letters slots leaves) × (term_value letters slots leaves ≤ℤ pos (2 ^ 63 * length leaves))
+  sum_between : (slots : Assignment) (leaves : List Signed) → AreReady messages slots (term_needs leaves) → AllByRecursion (λ (s : Signed). LeafFits s.leaf) leaves
+      → (neg_ℤ (pos (2 ^ 63 * length leaves)) ≤ℤ term_value messages slots leaves) × (term_value messages slots leaves ≤ℤ pos (2 ^ 63 * length leaves))
   sum_between slots [] ready fit = (omega (arith, ints), omega (arith, ints))
   sum_between slots (s ∷ more) ready fit =
-      let IsReadyNeed : Need → Type 0 = λ n. IsReady letters slots n.0 n.1 in
-      let here = signed_between s.minus (leaf_value letters slots s.leaf) (leaf_fits slots s.leaf (all_left IsReadyNeed (leaf_needs s.leaf) (term_needs more) ready) fit.0) in
+      let IsReadyNeed : Need → Type 0 = λ n. IsReady messages slots n.0 n.1 in
+      let here = signed_between s.minus (leaf_value messages slots s.leaf) (leaf_fits slots s.leaf (all_left IsReadyNeed (leaf_needs s.leaf) (term_needs more) ready) fit.0) in
       let later = sum_between slots more (all_right IsReadyNeed (leaf_needs s.leaf) (term_needs more) ready) fit.1 in
       (omega (arith, ints, here.0, later.0), omega (arith, ints, here.1, later.1))
 
-  item_fits : (slots : Assignment) (i : Item) → ItemReady letters slots i → ItemFits i → IsText 120 (item_text letters slots i)
+  item_fits : (slots : Assignment) (i : Item) → ItemReady messages slots i → ItemFits i → IsText 120 (item_text messages slots i)
   item_fits slots (item.Words w) ready fit = words_fit slots w ready fit
-  item_fits slots (item.Plain place) ready fit = let small = int_fits slots place ready.0 in decimal_fits (int_of (value_at letters slots place)) (omega (arith, ints))
+  item_fits slots (item.Plain place) ready fit = let small = int_fits slots place ready.0 in decimal_fits (int_of (value_at messages slots place)) (omega (arith, ints))
   item_fits slots (item.Sum leaves) ready fit =
       let between = sum_between slots leaves ready fit.each in
-      decimal_fits (term_value letters slots leaves) (small_sum (length leaves) (term_value letters slots leaves) fit.few between.0 between.1)
+      decimal_fits (term_value messages slots leaves) (small_sum (length leaves) (term_value messages slots leaves) fit.few between.0 between.1)
 
-  pub line_parts : (taken : List ℕ) (items : List Item) → AllByRecursion (ItemReady letters (slots_of taken)) items → AllByRecursion ItemFits items → IsUtf8 (line_of letters (slots_of taken) items) × (length (line_of letters (slots_of taken) items) ≤ 120 * length items)
+  pub line_parts : (taken : List ℕ) (items : List Item) → AllByRecursion (ItemReady messages (slots_of taken)) items → AllByRecursion ItemFits items → IsUtf8 (line_of messages (slots_of taken) items) × (length (line_of messages (slots_of taken) items) ≤ 120 * length items)
   line_parts taken [] ready fit = (IsUtf8-nil, omega arith)
   line_parts taken (i ∷ items) ready fit =
       let text = item_fits (slots_of taken) i ready.0 fit.0 in
       let rest = line_parts taken items ready.1 fit.1 in
       let short = text.short in
-      let joined = length-append (item_text letters (slots_of taken) i) (line_of letters (slots_of taken) items) in
-      (IsUtf8-append (item_text letters (slots_of taken) i) (line_of letters (slots_of taken) items) text.utf8 rest.0, omega (arith, rest.1))
+      let joined = length-append (item_text messages (slots_of taken) i) (line_of messages (slots_of taken) items) in
+      (IsUtf8-append (item_text messages (slots_of taken) i) (line_of messages (slots_of taken) items) text.utf8 rest.0, omega (arith, rest.1))
 
   clamped_fits : (z : ℤ) → FitsSigned w64 (clamped z)
   clamped_fits (pos n) = omega (arith, ints)
   clamped_fits (negsuc n) = omega (arith, ints)
 
-  pub sent_fits : (slots : Assignment) (o : Operand) → OperandReady letters slots o → OperandFits o → ValueFits (posted_value letters slots o)
-  sent_fits slots (operand.Sum leaves) ready fit = clamped_fits (term_value letters slots leaves)
+  pub sent_fits : (slots : Assignment) (o : Operand) → OperandReady messages slots o → OperandFits o → ValueFits (posted_value messages slots o)
+  sent_fits slots (operand.Sum leaves) ready fit = clamped_fits (term_value messages slots leaves)
   sent_fits slots (operand.Words w) ready fit = words_fit slots w ready fit
 
   pub number_small : (taken : List ℕ) (i : ℕ) → i < length taken → AllByRecursion (λ n. n < 2 ^ 32) taken → slice_index taken i < 2 ^ 32

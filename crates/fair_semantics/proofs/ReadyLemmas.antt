@@ -39,30 +39,30 @@ steps_of : {X Y : Type 0} (f : X → Option Y) (o : Option X) (y : Y) → option
 steps_of f None y e = absurd cc
 steps_of f (Some x) y e = (x, refl, e)
 
-module _ (sorts : Sorts) (letters : List Message) (fitting : AllByRecursion (λ m. fits sorts m ≡ true) letters) where
+module _ (sorts : Sorts) (messages : List Message) (fitting : AllByRecursion (λ m. fits sorts m ≡ true) messages) where
   -- messages of a kind have values of its types
-  kind_has : (kind field : ℕ) (types : List Sort) (type : Sort) → slice_get sorts kind ≡ Some types → slice_get types field ≡ Some type → KindHas letters kind field type
+  kind_has : (kind field : ℕ) (types : List Sort) (type : Sort) → slice_get sorts kind ≡ Some types → slice_get types field ≡ Some type → KindHas messages kind field type
   kind_has kind field types type known typed =
       each_from (λ (m : Message). fits sorts m ≡ true) (λ (m : Message). m.kind ≡ kind → has_sort type (slice_get m.fields field) ≡ true)
       (λ m fit e. value_of_type types m.fields field type (fits_of (slice_get sorts m.kind) types m.fields (ap (slice_get sorts) e ∙ known) fit) typed)
-      letters fitting
+      messages fitting
 
-  need_suits : (kinds : List ℕ) (need : Need) → HasType sorts kinds need.1 need.0 → NeedSuits letters kinds need
+  need_suits : (kinds : List ℕ) (need : Need) → HasType sorts kinds need.1 need.0 → NeedSuits messages kinds need
   need_suits kinds need typed =
       let outer = steps_of (λ (types : List Sort). slice_get types need.0.field) (option_and_then (slice_get sorts) (slice_get kinds need.0.pattern)) need.1 typed in
       let inner = steps_of (slice_get sorts) (slice_get kinds need.0.pattern) outer.0 outer.1 in
       let kind : slice_index kinds need.0.pattern ≡ inner.0 = get_or_from_slice_get kinds need.0.pattern inner.0 0 inner.1 in
       (slice_get_within kinds need.0.pattern inner.0 inner.1, kind_has (slice_index kinds need.0.pattern) need.0.field outer.0 need.1 (ap (slice_get sorts) kind ∙ inner.2) outer.2)
 
-  pub needs_suit : (kinds : List ℕ) (needs : List Need) → AreTypedNeeds sorts kinds needs → AllByRecursion (NeedSuits letters kinds) needs
-  needs_suit kinds needs typed = each_from (λ (n : Need). HasType sorts kinds n.1 n.0) (NeedSuits letters kinds) (need_suits kinds) needs typed
+  pub needs_suit : (kinds : List ℕ) (needs : List Need) → AreTypedNeeds sorts kinds needs → AllByRecursion (NeedSuits messages kinds) needs
+  needs_suit kinds needs typed = each_from (λ (n : Need). HasType sorts kinds n.1 n.0) (NeedSuits messages kinds) (need_suits kinds) needs typed
 
-  pub items_ready : (kinds taken : List ℕ) (items : List Item) → SlotsSuit letters kinds (slots_of taken) → AllByRecursion (IsTypedItem sorts kinds) items → AllByRecursion (ItemReady letters (slots_of taken)) items
+  pub items_ready : (kinds taken : List ℕ) (items : List Item) → SlotsSuit messages kinds (slots_of taken) → AllByRecursion (IsTypedItem sorts kinds) items → AllByRecursion (ItemReady messages (slots_of taken)) items
   items_ready kinds taken items suits typed =
-      each_from (IsTypedItem sorts kinds) (ItemReady letters (slots_of taken))
-      (λ i t. ready_where_full letters kinds (slots_of taken) (item_needs i) suits (needs_suit kinds (item_needs i) (item_typed sorts kinds i t)) (is_full-slots_of taken))
+      each_from (IsTypedItem sorts kinds) (ItemReady messages (slots_of taken))
+      (λ i t. ready_where_full messages kinds (slots_of taken) (item_needs i) suits (needs_suit kinds (item_needs i) (item_typed sorts kinds i t)) (is_full-slots_of taken))
       items typed
 
-  pub operand_ready : (kinds taken : List ℕ) (o : Operand) → SlotsSuit letters kinds (slots_of taken) → IsTypedOperand sorts kinds o → OperandReady letters (slots_of taken) o
+  pub operand_ready : (kinds taken : List ℕ) (o : Operand) → SlotsSuit messages kinds (slots_of taken) → IsTypedOperand sorts kinds o → OperandReady messages (slots_of taken) o
   operand_ready kinds taken o suits typed =
-      ready_where_full letters kinds (slots_of taken) (operand_needs o) suits (needs_suit kinds (operand_needs o) (operand_typed sorts kinds o typed)) (is_full-slots_of taken)
+      ready_where_full messages kinds (slots_of taken) (operand_needs o) suits (needs_suit kinds (operand_needs o) (operand_typed sorts kinds o typed)) (is_full-slots_of taken)

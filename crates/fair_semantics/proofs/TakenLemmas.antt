@@ -10,7 +10,7 @@ use Rattle.fair_semantics.specs.declared.run.Outcome.TheVariants as outcome
 use Rattle.fair_semantics.specs.declared.run.Entry.{Entry}
 use Rattle.fair_semantics.specs.declared.run.Firing.{Firing}
 use Rattle.join_base.specs.Taken.{without}
-use Rattle.fair_semantics.specs.Step.{Arrival, Setting, State, Stepped, arrival_step, body_at, by_choice, definitions_of, entry_with, fair_step, firing_of, is_refused, is_running, late_step, letters_with, live_with, recorded, running_step, spent_step, step_by}
+use Rattle.fair_semantics.specs.Step.{Arrival, Setting, State, Stepped, arrival_step, body_at, by_choice, definitions_of, entry_with, fair_step, firing_of, is_refused, is_running, late_step, messages_with, live_with, recorded, running_step, spent_step, step_by}
 use Rattle.fair_semantics.specs.Body.{stops}
 use Rattle.fair_semantics.specs.Fair.{Sent, after_all}
 pub use Rattle.fair_semantics.proofs.ChainLemmas.{arrival_of}
@@ -56,19 +56,19 @@ module _ (setting : Setting) where
   HasEntry arrival after = (firing : Option Firing) × ((after.entries ≡ arrival.state.entries ++ entry_with arrival firing ∷ []) × (after.late ≡ arrival.state.late))
 
   pub recorded_by : (arrival : Arrival) (o : Option Candidate) → HasEntry arrival (by_choice setting arrival o).0
-  recorded_by arrival None = by (nat_lt setting.limits.partials (partial_count (letters_with arrival) (live_with arrival) (definitions_of setting.rules)))
+  recorded_by arrival None = by (nat_lt setting.limits.partials (partial_count (messages_with arrival) (live_with arrival) (definitions_of setting.rules)))
     where
       by : (b : Bool) → let stepped : Stepped = if b then (recorded arrival None [] ending.Jammed, outcome.Jammed) else (recorded arrival None (live_with arrival) ending.Running, outcome.Kept) in HasEntry arrival stepped.0
       by true = (None, (refl, refl))
       by false = (None, (refl, refl))
   recorded_by arrival (Some c) = by (stops (body_at setting.rules c.rule))
     where
-      by : (b : Bool) → HasEntry arrival (if b then recorded arrival (firing_of setting.rules (letters_with arrival) (Some c)) [] ending.Stopped else recorded arrival (firing_of setting.rules (letters_with arrival) (Some c)) (without (live_with arrival) c.taken) ending.Running)
-      by true = (firing_of setting.rules (letters_with arrival) (Some c), (refl, refl))
-      by false = (firing_of setting.rules (letters_with arrival) (Some c), (refl, refl))
+      by : (b : Bool) → HasEntry arrival (if b then recorded arrival (firing_of setting.rules (messages_with arrival) (Some c)) [] ending.Stopped else recorded arrival (firing_of setting.rules (messages_with arrival) (Some c)) (without (live_with arrival) c.taken) ending.Running)
+      by true = (firing_of setting.rules (messages_with arrival) (Some c), (refl, refl))
+      by false = (firing_of setting.rules (messages_with arrival) (Some c), (refl, refl))
 
   pub records : (state : State) (s : Sent) → is_running state.ending ≡ true → is_refused setting state s.1.message s.1.stamp ≡ false → HasEntry (arrival_of state s) (next_of setting state s)
-  records state s e r = subst (HasEntry (arrival_of state s)) (sym (arrival_is state s e r)) (recorded_by (arrival_of state s) (choice (letters_with (arrival_of state s)) (live_with (arrival_of state s)) (definitions_of setting.rules)))
+  records state s e r = subst (HasEntry (arrival_of state s)) (sym (arrival_is state s e r)) (recorded_by (arrival_of state s) (choice (messages_with (arrival_of state s)) (live_with (arrival_of state s)) (definitions_of setting.rules)))
 
   pub one_more : (state after : State) (e : Entry) → after.entries ≡ state.entries ++ e ∷ [] → length after.entries ≡ length state.entries + 1
   one_more state after e is = ap length is ∙ length-append state.entries (e ∷ [])

@@ -19,12 +19,12 @@ use Rattle.fair_semantics.specs.declared.run.Effect.TheVariants as effect
 
 -- words as they are, and an integer in decimal, exactly
 abbrev pub item_text : List Message → Assignment → Item → List ℕ
-item_text letters slots (item.Words words) = words_value letters slots words
-item_text letters slots (item.Plain place) = signed_decimal (int_of (value_at letters slots place))
-item_text letters slots (item.Sum term) = signed_decimal (term_value letters slots term)
+item_text messages slots (item.Words words) = words_value messages slots words
+item_text messages slots (item.Plain place) = signed_decimal (int_of (value_at messages slots place))
+item_text messages slots (item.Sum term) = signed_decimal (term_value messages slots term)
 
 abbrev pub line_of : List Message → Assignment → List Item → List ℕ
-line_of letters slots items = flat_map (item_text letters slots) items
+line_of messages slots items = flat_map (item_text messages slots) items
 
 -- the nearest value of a field
 abbrev pub clamped : ℤ → ℤ
@@ -32,22 +32,22 @@ clamped z = saturate_signed w64 z
 
 -- what an operand sends, in a post or a reply
 abbrev pub posted_value : List Message → Assignment → Operand → Value
-posted_value letters slots (operand.Sum term) = value.Int (clamped (term_value letters slots term))
-posted_value letters slots (operand.Words words) = value.Words (words_value letters slots words)
+posted_value messages slots (operand.Sum term) = value.Int (clamped (term_value messages slots term))
+posted_value messages slots (operand.Words words) = value.Words (words_value messages slots words)
 
 abbrev pub posted : List Message → Assignment → ℕ → List Operand → Message
-posted letters slots kind operands = record { kind = kind; fields = map (posted_value letters slots) operands }
+posted messages slots kind operands = record { kind = kind; fields = map (posted_value messages slots) operands }
 
 -- a reply has the number that the match has at its pattern
 abbrev pub statement_effects : List Message → List ℕ → Statement → List Effect
-statement_effects letters taken (statement.Print items) = effect.Print (line_of letters (slots_of taken) items) ∷ []
-statement_effects letters taken (statement.Post target kind operands) = effect.Post target (posted letters (slots_of taken) kind operands) ∷ []
-statement_effects letters taken statement.Stop = []
-statement_effects letters taken (statement.Reply pattern operand) = effect.Reply (slice_index taken pattern) (posted_value letters (slots_of taken) operand) ∷ []
+statement_effects messages taken (statement.Print items) = effect.Print (line_of messages (slots_of taken) items) ∷ []
+statement_effects messages taken (statement.Post target kind operands) = effect.Post target (posted messages (slots_of taken) kind operands) ∷ []
+statement_effects messages taken statement.Stop = []
+statement_effects messages taken (statement.Reply pattern operand) = effect.Reply (slice_index taken pattern) (posted_value messages (slots_of taken) operand) ∷ []
 
 -- the effects of a body at the numbers that its match takes, in pattern order
 abbrev pub effects_of : List Message → List ℕ → List Statement → List Effect
-effects_of letters taken body = flat_map (statement_effects letters taken) body
+effects_of messages taken body = flat_map (statement_effects messages taken) body
 
 abbrev pub is_stop : Statement → Bool
 is_stop (statement.Print items) = false

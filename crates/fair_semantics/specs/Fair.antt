@@ -10,7 +10,7 @@ use Rattle.script_types.specs.Typed.{kind_types}
 use Rattle.fair_semantics.specs.declared.run.Limits.{Limits}
 use Rattle.fair_semantics.specs.declared.run.ActorRun.{ActorRun}
 use Rattle.pattern_core.specs.Matches.{partial_count}
-use Rattle.fair_semantics.specs.Step.{State, Setting, opening, fair_step, letters_of, definitions_of}
+use Rattle.fair_semantics.specs.Step.{State, Setting, opening, fair_step, recorded_messages, definitions_of}
 
 -- a message with the stamp that it carries, and the source that it comes from
 abbrev pub Sent : Type 0
@@ -33,7 +33,7 @@ fair plan index limits feeds sent = after_all (setting_of plan index limits) (op
 
 -- the number of partial matches over all definitions
 abbrev pub partials_of : List Rule → State → ℕ
-partials_of rules state = partial_count (letters_of state.entries) state.live (definitions_of rules)
+partials_of rules state = partial_count (recorded_messages state.entries) state.live (definitions_of rules)
 
 -- the run that a state shows; its live numbers stand in ascending order, since each new one is the greatest so far
 abbrev pub run_of : List Rule → State → ActorRun

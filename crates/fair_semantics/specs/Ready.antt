@@ -16,7 +16,7 @@ item_needs (item.Plain place) = (place, sort.Int) ∷ []
 item_needs (item.Sum term) = term_needs term
 
 abbrev pub ItemReady : List Message → Assignment → Item → Type 0
-ItemReady letters slots i = AreReady letters slots (item_needs i)
+ItemReady messages slots i = AreReady messages slots (item_needs i)
 
 abbrev pub OperandReady : List Message → Assignment → Operand → Type 0
-OperandReady letters slots o = AreReady letters slots (operand_needs o)
+OperandReady messages slots o = AreReady messages slots (operand_needs o)

@@ -59,8 +59,8 @@ fits_sorts (Some sorts) values = are_of_sorts sorts values
 abbrev pub fits : List (List Sort) → Message → Bool
 fits sorts message = fits_sorts (slice_get sorts message.kind) message.fields
 
-abbrev pub letters_of : List Entry → List Message
-letters_of entries = map (λ entry. entry.message) entries
+abbrev pub recorded_messages : List Entry → List Message
+recorded_messages entries = map (λ entry. entry.message) entries
 
 abbrev pub definitions_of : List Rule → List Definition
 definitions_of rules = map (λ rule. rule.definition) rules
@@ -110,8 +110,8 @@ pub record Arrival : Type 0 where
 abbrev pub number_of : Arrival → ℕ
 number_of arrival = length arrival.state.entries + 1
 
-abbrev pub letters_with : Arrival → List Message
-letters_with arrival = letters_of arrival.state.entries ++ arrival.message ∷ []
+abbrev pub messages_with : Arrival → List Message
+messages_with arrival = recorded_messages arrival.state.entries ++ arrival.message ∷ []
 
 abbrev pub live_with : Arrival → List ℕ
 live_with arrival = arrival.state.live ++ number_of arrival ∷ []
@@ -134,20 +134,20 @@ recorded arrival firing live end = record {
 
 -- what a choice fires, what it leaves, and how it is called
 abbrev pub firing_of : List Rule → List Message → Option Candidate → Option Firing
-firing_of rules letters None = None
-firing_of rules letters (Some chosen) =
-    Some record { rule = chosen.rule; taken = chosen.taken; effects = effects_of letters chosen.taken (body_at rules chosen.rule) }
+firing_of rules messages None = None
+firing_of rules messages (Some chosen) =
+    Some record { rule = chosen.rule; taken = chosen.taken; effects = effects_of messages chosen.taken (body_at rules chosen.rule) }
 
 -- the choice fires: its numbers leave, and the body runs
 abbrev pub fired_step : Setting → Arrival → Candidate → Stepped
 fired_step setting arrival chosen =
-    let firing : Option Firing = firing_of setting.rules (letters_with arrival) (Some chosen) in
+    let firing : Option Firing = firing_of setting.rules (messages_with arrival) (Some chosen) in
     (if stops (body_at setting.rules chosen.rule) then recorded arrival firing [] ending.Stopped else recorded arrival firing (without (live_with arrival) chosen.taken) ending.Running, outcome.Fired)
 
 -- no match: the actor jams where it would keep too many partial matches
 abbrev pub kept_step : Setting → Arrival → Stepped
 kept_step setting arrival =
-    if nat_lt setting.limits.partials (partial_count (letters_with arrival) (live_with arrival) (definitions_of setting.rules))
+    if nat_lt setting.limits.partials (partial_count (messages_with arrival) (live_with arrival) (definitions_of setting.rules))
     then (recorded arrival None [] ending.Jammed, outcome.Jammed)
     else (recorded arrival None (live_with arrival) ending.Running, outcome.Kept)
 
@@ -156,7 +156,7 @@ by_choice setting arrival None = kept_step setting arrival
 by_choice setting arrival (Some chosen) = fired_step setting arrival chosen
 
 abbrev pub arrival_step : Setting → Arrival → Stepped
-arrival_step setting arrival = by_choice setting arrival (choice (letters_with arrival) (live_with arrival) (definitions_of setting.rules))
+arrival_step setting arrival = by_choice setting arrival (choice (messages_with arrival) (live_with arrival) (definitions_of setting.rules))
 
 -- whether a running actor takes no further message: it is full, or the message does not fit, or no stamp is left
 abbrev pub is_refused : Setting → State → Message → ℕ → Bool

@@ -295,8 +295,8 @@ impl EndWatch {
         Ok(())
     }
 
-    /// Looks at the next bytes of the log. Lines are read where they stand, and those of an actor only where it ended at
-    /// a limit.
+    /// Looks at the next bytes of the log. Lines are read where they stand, and those of an actor only where it ended
+    /// at a limit.
     pub fn see(&mut self, bytes: &[u8]) -> Result<(), NoMemory> {
         if self.open.is_empty() {
             let rest = self.see_sections(bytes, 0)?;

@@ -2,9 +2,10 @@
 //!
 //! - `place_of` gives line and column of a byte, `line_around` what its line has in front of it and from it on, and
 //!   `line_start` where the line of a number begins.
-//! - `refusal_note` is the message on the script, the feed or the log that a written line refuses. `refusal_note_by` has
-//!   more of a feed, where the script is at hand. `differing_note` has more of a log that differs (`differing_line`),
-//!   where the line that should stand there is at hand. `unseen_note` is for a file that can't be read again.
+//! - `refusal_note` is the message on the script, the feed or the log that a written line refuses. `refusal_note_by`
+//!   has more of a feed, where the script is at hand. `differing_note` has more of a log that differs
+//!   (`differing_line`), where the line that should stand there is at hand. `unseen_note` is for a file that can't be
+//!   read again.
 //! - `words_note` names the word of the command line that is at fault, and has the commands (`USAGE`).
 //! - `EndWatch` looks at a log while it is written, and names the actors that ended at a limit.
 //! - `push_tie` and `feed_remark` are notes on what is no fault: patterns that keep each other's messages, and a quote

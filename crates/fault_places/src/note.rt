@@ -209,7 +209,8 @@ fn line_note(
     shown_note(alloc, &part, cause, sentence, line, behind)
 }
 
-// What is told of a line of a log that begins at this place, and of the line that should stand there, where that is known.
+// What is told of a line of a log that begins at this place, and of the line that should stand there, where that is
+// known.
 fn expected_note(
     alloc: Global,
     name: &str,

@@ -12,7 +12,7 @@ use Rattle.fair_semantics.specs.declared.run.Entry.{Entry}
 use Rattle.fair_semantics.specs.declared.run.ActorRun.{ActorRun}
 use Rattle.fair_semantics.specs.declared.run.Run.{Run}
 use Rattle.pattern_core.specs.Choice.{choice}
-use Rattle.fair_semantics.specs.Step.{Arrival, Setting, State, definitions_of, fair_step, is_refused, is_running, letters_with, live_with, running_step, step_by}
+use Rattle.fair_semantics.specs.Step.{Arrival, Setting, State, definitions_of, fair_step, is_refused, is_running, messages_with, live_with, running_step, step_by}
 use Rattle.fair_semantics.specs.Fair.{Sent, after_all, fair_run}
 use Rattle.fair_semantics.specs.Linked.{IsLinked, given, in_version, numbers_from, unstamped, unstamped_entry}
 use Rattle.fair_semantics.proofs.FairLemmas.{numbers_from-more}
@@ -36,7 +36,7 @@ module _ (setting : Setting) where
       by_refused true = h
       by_refused false =
           let arrival : Arrival = arrival_of state sent in
-          let (firing, (entries, _)) = recorded_by setting arrival (choice (letters_with arrival) (live_with arrival) (definitions_of setting.rules)) in
+          let (firing, (entries, _)) = recorded_by setting arrival (choice (messages_with arrival) (live_with arrival) (definitions_of setting.rules)) in
           rw entries (numbered_more state.entries _ h refl)
 
       by_running : (b : Bool) → AreNumbered (step_by b setting state sent.0 sent.1.message sent.1.stamp).0.entries

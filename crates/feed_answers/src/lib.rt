@@ -5,8 +5,8 @@
 //! (`answers_text`).
 //!
 //! - `all_targets` keeps of the feeds what is needed once they have been run: the actor of each row.
-//! - `numbered_law`: the arrivals of a right run have the numbers that `print_answers` asks for. `answers_law`: an answer
-//!   stays as more arrives.
+//! - `numbered_law`: the arrivals of a right run have the numbers that `print_answers` asks for. `answers_law`: an
+//!   answer stays as more arrives.
 //!
 //! Only tested: that it answers `Ok` where memory is ample.
 #![tactic(auto)]

@@ -76,7 +76,8 @@ pub fn replies_to_all(
     alloc: Global,
     runs: &[ActorRun],
 ) -> Result<Vec<Vec<Option<&Value>>>, NoMemory>
-    ensures each { IfOk result (λ replies. map (λ own. seen own.items) replies.items ≡ map (λ own. replies_of own.entries) runs.now) }
+    ensures each { IfOk result (λ replies. map (λ own. seen own.items) replies.items
+        ≡ map (λ own. replies_of own.entries) runs.now) }
 {
     let mut replies = Vec::new(alloc);
     for own in runs {

@@ -1,8 +1,8 @@
 //! What led to the reactions of a run: the rows of feeds, back through posts.
 //!
 //! - `arrivals_of` gives the arrivals of a run, actor by actor. An arrival is named by its place there.
-//! - `reactions` gives the arrivals whose firing printed or posted something, of one actor or of all, each with the rows
-//!   that led to it: the first nine, and how many more there are.
+//! - `reactions` gives the arrivals whose firing printed or posted something, of one actor or of all, each with the
+//!   rows that led to it: the first nine, and how many more there are.
 //! - `origin_law` says that in a linked run each arrival from an actor has an origin, whose firing posted it.
 //!
 //! A contract says by `LedTo` (specs/Causes) what led to a firing. The firing took it, or a firing took it which posted

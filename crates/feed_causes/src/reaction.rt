@@ -101,8 +101,8 @@ fn reactions_by(
     Ok(reactions)
 }
 
-/// The reactions among all arrivals of a run, in order: those of one actor, or of each where none is named. Each has the
-/// rows that led to it.
+/// The reactions among all arrivals of a run, in order: those of one actor, or of each where none is named. Each has
+/// the rows that led to it.
 pub fn reactions(
     alloc: Global,
     all: &[Arrival],

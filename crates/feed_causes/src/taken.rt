@@ -49,7 +49,8 @@ fn mark_numbers(
 ) -> Result<(), NoMemory>
     requires small { place < 2 ^ 63 }
     ensures marks { OnOk result (marks.new.items ≡ all_marked marks.old.items (map (place_of place own) numbers.now)) }
-    ensures waiting { OnOk result (waiting.new ≡ all_awaited marks.old.items (map (place_of place own) numbers.now) waiting.old) }
+    ensures waiting { OnOk result (waiting.new ≡ all_awaited marks.old.items (map (place_of place own) numbers.now)
+        waiting.old) }
 {
     for number in numbers {
         mark_one(marks, waiting, place_of(place, own, *number))?;

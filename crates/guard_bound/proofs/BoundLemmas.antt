@@ -41,41 +41,41 @@ shift GreaterEqual a b x v e = le_shift b a v x (omega (arith, ints))
 module _ (left right : Split) (own : Own) (r : Relation) (v : ℤ) (has : left.own ≡ Some own) (lacks : right.own ≡ None) where
   -- the row's leaf is added on the left
   pub plus_leaf : own.minus ≡ false → left.known +ℤ v ≡ right.known → BoundsSplits left r right (record { field = own.field; relation = r; value = v })
-  plus_leaf plus e letters number =
-      let x = int_at letters number own.field in
-      let l : split_value letters left number ≡ left.known +ℤ x = (λ i. left.known +ℤ own_value letters (has i) number) ∙ (λ i. left.known +ℤ (if plus i then neg_ℤ x else x)) in
-      let k : split_value letters right number ≡ right.known +ℤ pos 0 = λ i. right.known +ℤ own_value letters (lacks i) number in
-      shift r (split_value letters left number) (split_value letters right number) x v (omega (arith, ints))
+  plus_leaf plus e messages number =
+      let x = int_at messages number own.field in
+      let l : split_value messages left number ≡ left.known +ℤ x = (λ i. left.known +ℤ own_value messages (has i) number) ∙ (λ i. left.known +ℤ (if plus i then neg_ℤ x else x)) in
+      let k : split_value messages right number ≡ right.known +ℤ pos 0 = λ i. right.known +ℤ own_value messages (lacks i) number in
+      shift r (split_value messages left number) (split_value messages right number) x v (omega (arith, ints))
 
   -- and taken away there
   pub minus_leaf : own.minus ≡ true → right.known +ℤ v ≡ left.known → BoundsSplits left r right (record { field = own.field; relation = turned r; value = v })
-  minus_leaf minus e letters number =
-      let x = int_at letters number own.field in
-      let l : split_value letters left number ≡ left.known +ℤ neg_ℤ x = (λ i. left.known +ℤ own_value letters (has i) number) ∙ (λ i. left.known +ℤ (if minus i then neg_ℤ x else x)) in
-      let k : split_value letters right number ≡ right.known +ℤ pos 0 = λ i. right.known +ℤ own_value letters (lacks i) number in
-      shift r (split_value letters left number) (split_value letters right number) v x (omega (arith, ints)) ∙ sym (turn r x v)
+  minus_leaf minus e messages number =
+      let x = int_at messages number own.field in
+      let l : split_value messages left number ≡ left.known +ℤ neg_ℤ x = (λ i. left.known +ℤ own_value messages (has i) number) ∙ (λ i. left.known +ℤ (if minus i then neg_ℤ x else x)) in
+      let k : split_value messages right number ≡ right.known +ℤ pos 0 = λ i. right.known +ℤ own_value messages (lacks i) number in
+      shift r (split_value messages left number) (split_value messages right number) v x (omega (arith, ints)) ∙ sym (turn r x v)
 
 -- the sides exchanged
 pub other_side : (left right : Split) (r : Relation) (bound : Bound) → BoundsSplits right (turned r) left bound → BoundsSplits left r right bound
-other_side left right r bound h letters number = sym (turn r (split_value letters right number) (split_value letters left number)) ∙ h letters number
+other_side left right r bound h messages number = sym (turn r (split_value messages right number) (split_value messages left number)) ∙ h messages number
 
 -- what is left of a sum beside the split of the others
 abbrev pub Leaves : List Message → ℕ → ℕ → ℕ → List Signed → List Signed → Split → Type 0
-Leaves letters known pattern wanted leaves left split =
-    (number : ℕ) (whole : Assignment) → IsPair known pattern wanted number whole → split_value letters split number +ℤ term_value letters whole left ≡ term_value letters whole leaves
+Leaves messages known pattern wanted leaves left split =
+    (number : ℕ) (whole : Assignment) → IsPair known pattern wanted number whole → split_value messages split number +ℤ term_value messages whole left ≡ term_value messages whole leaves
 
-pub leaves_all : (letters : List Message) (known pattern wanted : ℕ) (leaves : List Signed) → Leaves letters known pattern wanted leaves leaves (record { known = pos 0; own = None })
-leaves_all letters known pattern wanted leaves number whole pair = omega (arith, ints)
+pub leaves_all : (messages : List Message) (known pattern wanted : ℕ) (leaves : List Signed) → Leaves messages known pattern wanted leaves leaves (record { known = pos 0; own = None })
+leaves_all messages known pattern wanted leaves number whole pair = omega (arith, ints)
 
-pub leaves_less : (letters : List Message) (known pattern wanted : ℕ) (leaves left more : List Signed) (x : Signed) (split longer : Split) → left ≡ x ∷ more → AddsLeaf letters known pattern wanted split x longer → Leaves letters known pattern wanted leaves left split → Leaves letters known pattern wanted leaves more longer
-leaves_less letters known pattern wanted leaves left more x split longer e adds before number whole pair =
+pub leaves_less : (messages : List Message) (known pattern wanted : ℕ) (leaves left more : List Signed) (x : Signed) (split longer : Split) → left ≡ x ∷ more → AddsLeaf messages known pattern wanted split x longer → Leaves messages known pattern wanted leaves left split → Leaves messages known pattern wanted leaves more longer
+leaves_less messages known pattern wanted leaves left more x split longer e adds before number whole pair =
     let one = adds number whole pair in
     let told = before number whole pair in
-    let rest : term_value letters whole left ≡ signed_value letters whole x +ℤ term_value letters whole more = ap (term_value letters whole) e in
+    let rest : term_value messages whole left ≡ signed_value messages whole x +ℤ term_value messages whole more = ap (term_value messages whole) e in
     omega (arith, ints)
 
-pub leaves_none : (letters : List Message) (known pattern wanted : ℕ) (leaves left : List Signed) (split : Split) → left ≡ [] → Leaves letters known pattern wanted leaves left split → IsSplit letters known pattern wanted leaves split
-leaves_none letters known pattern wanted leaves left split e before number whole pair =
+pub leaves_none : (messages : List Message) (known pattern wanted : ℕ) (leaves left : List Signed) (split : Split) → left ≡ [] → Leaves messages known pattern wanted leaves left split → IsSplit messages known pattern wanted leaves split
+leaves_none messages known pattern wanted leaves left split e before number whole pair =
     let told = before number whole pair in
-    let rest : term_value letters whole left ≡ pos 0 = ap (term_value letters whole) e in
+    let rest : term_value messages whole left ≡ pos 0 = ap (term_value messages whole) e in
     omega (arith, ints)

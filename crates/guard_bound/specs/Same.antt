@@ -8,12 +8,12 @@ use Rattle.guard_eval.specs.declared.term.Operand.{Operand}
 use Rattle.guard_eval.specs.declared.term.Operand.TheVariants as operand
 use Rattle.guard_eval.specs.declared.term.WordsLeaf.TheVariants as words_leaf
 use Rattle.guard_eval.specs.Condition.{Condition, Never, Compares, Either}
-use Rattle.guard_eval.specs.Meaning.{letter_at, field_of, words_of}
+use Rattle.guard_eval.specs.Meaning.{recorded_message, field_of, words_of}
 use Rattle.guard_bound.specs.declared.same.Same.{Same}
 
 -- the text at a field of a recorded message, and the empty one where there is none
 abbrev pub words_at : List Message → ℕ → ℕ → List ℕ
-words_at letters number field = words_of (field_of (letter_at letters number) field)
+words_at messages number field = words_of (field_of (recorded_message messages number) field)
 
 -- a text field alone
 abbrev pub words_operand : Place → Operand
@@ -25,8 +25,8 @@ are_same a b = Either (Compares (words_operand a) Equal (words_operand b)) Never
 
 -- the number's text is that of the known number
 abbrev pub is_same : List Message → ℕ → Option Same → ℕ → Bool
-is_same letters known None number = true
-is_same letters known (Some same) number = bytes_eq (words_at letters number same.field) (words_at letters known same.other)
+is_same messages known None number = true
+is_same messages known (Some same) number = bytes_eq (words_at messages number same.field) (words_at messages known same.other)
 
 -- the conjunct says that the texts of the pattern and the wanted one are equal
 pub record SaysSame (pattern wanted : ℕ) (conjunct : Condition) (same : Same) : Type 0 where

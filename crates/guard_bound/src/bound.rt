@@ -86,13 +86,13 @@ impl Bounds {
 
 /// The integer at a field of a recorded message, and 0 where there is none.
 #[inline(always)]
-pub fn int_at(letters: &[Message], number: u32, field: u32) -> i64
-    ensures { result ≡ int_at letters.now number field }
+pub fn int_at(messages: &[Message], number: u32, field: u32) -> i64
+    ensures { result ≡ int_at messages.now number field }
 {
     let Some(place) = number.checked_sub(1) else {
         return 0;
     };
-    let Some(message) = letters.get(place as usize) else {
+    let Some(message) = messages.get(place as usize) else {
         return 0;
     };
     match message.fields.get(field as usize) {
@@ -119,20 +119,20 @@ fn with_known(split: Split, minus: bool, value: i64) -> Option<Split>
 
 // The split with a leaf more, where at most one is the pattern's and the others are known.
 fn with_leaf(
-    letters: &[Message],
+    messages: &[Message],
     known: u32,
     pattern: u32,
     wanted: u32,
     split: Split,
     signed: Signed,
 ) -> Option<Split>
-    ensures { IfSome result (AddsLeaf letters.now known pattern wanted split signed) }
+    ensures { IfSome result (AddsLeaf messages.now known pattern wanted split signed) }
 {
     match signed.leaf {
         Leaf::Number(value) => with_known(split, signed.minus, value),
         Leaf::Field(place) => {
             if place.pattern == wanted {
-                let value = int_at(letters, known, place.field);
+                let value = int_at(messages, known, place.field);
                 return with_known(split, signed.minus, value);
             }
             if place.pattern != pattern || split.own.is_some() {
@@ -151,20 +151,20 @@ fn with_leaf(
 
 // The known leaves of a sum and the pattern's, where it has no others.
 fn split_of(
-    letters: &[Message],
+    messages: &[Message],
     known: u32,
     pattern: u32,
     wanted: u32,
     term: &Term,
 ) -> Option<Split>
-    ensures { IfSome result (IsSplit letters.now known pattern wanted term.now) }
+    ensures { IfSome result (IsSplit messages.now known pattern wanted term.now) }
 {
     let mut split = Split {
         known: 0,
         own: None,
     };
     for signed in term.leaves() {
-        split = with_leaf(letters, known, pattern, wanted, split, *signed)?;
+        split = with_leaf(messages, known, pattern, wanted, split, *signed)?;
     }
     Some(split)
 }
@@ -202,17 +202,17 @@ fn solved(left: Split, relation: Relation, right: Split) -> Option<Bound>
     }
 }
 
-/// How a field of the pattern's message compares by the conjunct, where that compares sums of integers, and of these one is a
-/// field of the pattern and the others are constants or fields of the wanted pattern, which has the known number. No bound where
-/// the conjunct is any other, or a sum leaves 128 bits.
+/// How a field of the pattern's message compares by the conjunct, where that compares sums of integers, and of these
+/// one is a field of the pattern and the others are constants or fields of the wanted pattern, which has the known
+/// number. No bound where the conjunct is any other, or a sum leaves 128 bits.
 pub fn bound_of(
-    letters: &[Message],
+    messages: &[Message],
     known: u32,
     pattern: u32,
     wanted: u32,
     conjunct: &Conjunct,
 ) -> Option<Bound>
-    ensures { IfSome result (Says letters.now known pattern wanted (conjunct_condition conjunct.now)) }
+    ensures { IfSome result (Says messages.now known pattern wanted (conjunct_condition conjunct.now)) }
 {
     match conjunct.atoms.as_slice() {
         [
@@ -222,8 +222,8 @@ pub fn bound_of(
                 right: Operand::Sum(right),
             },
         ] => {
-            let left = split_of(letters, known, pattern, wanted, left)?;
-            let right = split_of(letters, known, pattern, wanted, right)?;
+            let left = split_of(messages, known, pattern, wanted, left)?;
+            let right = split_of(messages, known, pattern, wanted, right)?;
             solved(left, *relation, right)
         }
         _ => None,
@@ -231,22 +231,22 @@ pub fn bound_of(
 }
 
 // Whether the number meets the bound.
-fn meets(letters: &[Message], bound: Bound, number: u32) -> bool
-    ensures { result ≡ meets letters.now bound number }
+fn meets(messages: &[Message], bound: Bound, number: u32) -> bool
+    ensures { result ≡ meets messages.now bound number }
 {
     int_relation(
         bound.relation,
-        int_at(letters, number, bound.field) as i128,
+        int_at(messages, number, bound.field) as i128,
         bound.value,
     )
 }
 
 /// Whether the number meets the bounds.
-pub fn meets_all(letters: &[Message], bounds: &Bounds, number: u32) -> bool
-    ensures { result ≡ list_all (λ bound. meets letters.now bound number) bounds.now }
+pub fn meets_all(messages: &[Message], bounds: &Bounds, number: u32) -> bool
+    ensures { result ≡ list_all (λ bound. meets messages.now bound number) bounds.now }
 {
     for bound in bounds.as_slice() {
-        if !meets(letters, *bound, number) {
+        if !meets(messages, *bound, number) {
             return false;
         }
     }

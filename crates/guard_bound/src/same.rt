@@ -14,13 +14,13 @@ pub struct Same {
 }
 
 // The text at a field of a recorded message, and the empty one where there is none.
-fn words_at(letters: &[Message], number: u32, field: u32) -> &[u8]
-    ensures { result.now ≡ words_at letters.now number field }
+fn words_at(messages: &[Message], number: u32, field: u32) -> &[u8]
+    ensures { result.now ≡ words_at messages.now number field }
 {
     let Some(place) = number.checked_sub(1) else {
         return &[];
     };
-    let Some(message) = letters.get(place as usize) else {
+    let Some(message) = messages.get(place as usize) else {
         return &[];
     };
     match message.fields.get(field as usize) {
@@ -76,13 +76,13 @@ pub fn same_of(pattern: u32, wanted: u32, conjunct: &Conjunct) -> Option<Same>
 }
 
 /// Whether the number's text is that of the known number, and true where no texts are compared.
-pub fn is_same(letters: &[Message], known: u32, same: Option<Same>, number: u32) -> bool
-    ensures { result ≡ is_same letters.now known same number }
+pub fn is_same(messages: &[Message], known: u32, same: Option<Same>, number: u32) -> bool
+    ensures { result ≡ is_same messages.now known same number }
 {
     match same {
         None => true,
         Some(same) => {
-            words_at(letters, number, same.field) == words_at(letters, known, same.other)
+            words_at(messages, number, same.field) == words_at(messages, known, same.other)
         }
     }
 }

@@ -69,7 +69,8 @@ impl Conjunct {
     /// Appends an atom. Without memory the atom is dropped and the conjunct is as it was.
     #[tactic(auto, using(crate::proofs::Atoms::atoms))]
     pub fn push(&mut self, atom: Atom) -> Result<(), NoMemory>
-        ensures ok { OnOk result (conjunct_condition self.new ≡ with_atom (conjunct_condition self.old) (atom_condition atom)) }
+        ensures ok { OnOk result (conjunct_condition self.new ≡ with_atom (conjunct_condition self.old)
+            (atom_condition atom)) }
         ensures err { OnErr result (conjunct_condition self.new ≡ conjunct_condition self.old) }
     {
         match self.atoms.push(atom) {

@@ -11,7 +11,7 @@ use crate::conjunct::{Atom, Conjunct};
 use crate::relation::int_relation;
 use crate::sums::sum;
 use crate::term::{Operand, Place, WordsLeaf};
-use join_base::{Message, Relation, Slots, ValueRef, letter};
+use join_base::{Message, Relation, Slots, ValueRef, recorded_message};
 
 // Texts are compared for equality alone.
 fn words_relation(relation: Relation, text: &[u8], other: &[u8]) -> bool
@@ -36,14 +36,14 @@ fn words_of(value: ValueRef<'_>) -> &[u8]
 }
 
 // The text that a variable has.
-fn place_words<'a>(place: Place, slots: &Slots, letters: &'a [Message]) -> &'a [u8]
-    requires { IsWordsReady letters.now slots.now place }
-    ensures value { result.now ≡ words_of (value_at letters.now slots.now place) }
+fn place_words<'a>(place: Place, slots: &Slots, messages: &'a [Message]) -> &'a [u8]
+    requires { IsWordsReady messages.now slots.now place }
+    ensures value { result.now ≡ words_of (value_at messages.now slots.now place) }
     ensures text { IsText 120 result.now }
 {
     match slots.get(place.pattern) {
         Some(number) => {
-            let message = letter(letters, number);
+            let message = recorded_message(messages, number);
             words_of(message.fields.at(place.field as usize))
         }
         None => &[],
@@ -51,14 +51,14 @@ fn place_words<'a>(place: Place, slots: &Slots, letters: &'a [Message]) -> &'a [
 }
 
 /// The text of a leaf, of at most 120 bytes.
-pub fn words<'a>(leaf: &'a WordsLeaf, slots: &Slots, letters: &'a [Message]) -> &'a [u8]
-    requires { AreReady letters.now slots.now (words_needs leaf.now) }
-    ensures value { result.now ≡ words_value letters.now slots.now leaf.now }
+pub fn words<'a>(leaf: &'a WordsLeaf, slots: &Slots, messages: &'a [Message]) -> &'a [u8]
+    requires { AreReady messages.now slots.now (words_needs leaf.now) }
+    ensures value { result.now ≡ words_value messages.now slots.now leaf.now }
     ensures text { IsText 120 result.now }
 {
     match leaf {
         WordsLeaf::Fixed(text) => text.bytes(),
-        WordsLeaf::Field(place) => place_words(*place, slots, letters),
+        WordsLeaf::Field(place) => place_words(*place, slots, messages),
     }
 }
 
@@ -68,52 +68,52 @@ fn compares(
     relation: Relation,
     right: &Operand,
     slots: &Slots,
-    letters: &[Message],
+    messages: &[Message],
 ) -> bool
-    requires left { AreReady letters.now slots.now (operand_needs left.now) }
-    requires right { AreReady letters.now slots.now (operand_needs right.now) }
-    ensures { result ≡ compares letters.now slots.now left.now relation right.now }
+    requires left { AreReady messages.now slots.now (operand_needs left.now) }
+    requires right { AreReady messages.now slots.now (operand_needs right.now) }
+    ensures { result ≡ compares messages.now slots.now left.now relation right.now }
 {
     match (left, right) {
         (Operand::Sum(left), Operand::Sum(right)) => int_relation(
             relation,
-            sum(left, slots, letters),
-            sum(right, slots, letters),
+            sum(left, slots, messages),
+            sum(right, slots, messages),
         ),
         (Operand::Words(left), Operand::Words(right)) => words_relation(
             relation,
-            words(left, slots, letters),
-            words(right, slots, letters),
+            words(left, slots, messages),
+            words(right, slots, messages),
         ),
         _ => false,
     }
 }
 
 #[cycle(holds)]
-fn atom_holds(atom: &Atom, slots: &Slots, letters: &[Message]) -> bool
-    requires ready { AreReady letters.now slots.now (needs_of (atom_condition atom.now)) }
-    ensures { result ≡ is_true letters.now slots.now (atom_condition atom.now) }
+fn atom_holds(atom: &Atom, slots: &Slots, messages: &[Message]) -> bool
+    requires ready { AreReady messages.now slots.now (needs_of (atom_condition atom.now)) }
+    ensures { result ≡ is_true messages.now slots.now (atom_condition atom.now) }
 {
     match atom {
         Atom::Compare {
             left,
             relation,
             right,
-        } => compares(left, *relation, right, slots, letters),
-        Atom::Not(inner) => !atom_holds(inner, slots, letters),
-        Atom::Group(inner) => holds(inner, slots, letters),
+        } => compares(left, *relation, right, slots, messages),
+        Atom::Not(inner) => !atom_holds(inner, slots, messages),
+        Atom::Group(inner) => holds(inner, slots, messages),
     }
 }
 
 /// Whether a conjunct is true at an assignment: one of its atoms is. The patterns of its variables are filled with
 /// numbers of recorded messages, whose fields have the types that the conjunct needs.
 #[cycle(holds)]
-pub fn holds(conjunct: &Conjunct, slots: &Slots, letters: &[Message]) -> bool
-    requires ready { AreReady letters.now slots.now (needs_of (conjunct_condition conjunct.now)) }
-    ensures { result ≡ is_true letters.now slots.now (conjunct_condition conjunct.now) }
+pub fn holds(conjunct: &Conjunct, slots: &Slots, messages: &[Message]) -> bool
+    requires ready { AreReady messages.now slots.now (needs_of (conjunct_condition conjunct.now)) }
+    ensures { result ≡ is_true messages.now slots.now (conjunct_condition conjunct.now) }
 {
     for atom in &conjunct.atoms {
-        if atom_holds(atom, slots, letters) {
+        if atom_holds(atom, slots, messages) {
             return true;
         }
     }

@@ -11,7 +11,7 @@ use Rattle.fair_semantics.specs.declared.run.Outcome.TheVariants as outcome
 use Rattle.fair_semantics.specs.declared.run.Entry.{Entry}
 use Rattle.fair_semantics.specs.declared.run.Firing.{Firing}
 use Rattle.fair_semantics.specs.Body.{stops}
-use Rattle.fair_semantics.specs.Step.{Arrival, Setting, State, Stepped, body_at, by_choice, definitions_of, firing_of, is_refused, is_running, letters_with, live_with, opening, recorded, running_step, step_by}
+use Rattle.fair_semantics.specs.Step.{Arrival, Setting, State, Stepped, body_at, by_choice, definitions_of, firing_of, is_refused, is_running, messages_with, live_with, opening, recorded, running_step, step_by}
 use Rattle.fair_semantics.specs.Fair.{Sent, after_all}
 use Rattle.fair_semantics.proofs.ChainLemmas.{adds, arrival_of}
 use Rattle.fair_semantics.proofs.FairLemmas.{after_all-append}
@@ -26,7 +26,7 @@ module _ (setting : Setting) where
   -- ---- late counts
 
   choice_alone : (state : State) (sent : Sent) (o : Option Candidate) → without_late (by_choice setting (arrival_of (without_late state) sent) o).0 ≡ without_late (by_choice setting (arrival_of state sent) o).0
-  choice_alone state sent None = by (nat_lt setting.limits.partials (partial_count (letters_with (arrival_of state sent)) (live_with (arrival_of state sent)) (definitions_of setting.rules)))
+  choice_alone state sent None = by (nat_lt setting.limits.partials (partial_count (messages_with (arrival_of state sent)) (live_with (arrival_of state sent)) (definitions_of setting.rules)))
     where
       bare : Arrival
       bare = arrival_of (without_late state) sent
@@ -42,7 +42,7 @@ module _ (setting : Setting) where
   choice_alone state sent (Some c) = by (stops (body_at setting.rules c.rule))
     where
       firing : Option Firing
-      firing = firing_of setting.rules (letters_with (arrival_of state sent)) (Some c)
+      firing = firing_of setting.rules (messages_with (arrival_of state sent)) (Some c)
 
       bare : Arrival
       bare = arrival_of (without_late state) sent
@@ -60,7 +60,7 @@ module _ (setting : Setting) where
     where
       by_refused : (b : Bool) → without_late (running_step b setting (without_late state) sent.0 sent.1.message sent.1.stamp).0 ≡ without_late (running_step b setting state sent.0 sent.1.message sent.1.stamp).0
       by_refused true = refl
-      by_refused false = choice_alone state sent (choice (letters_with (arrival_of state sent)) (live_with (arrival_of state sent)) (definitions_of setting.rules))
+      by_refused false = choice_alone state sent (choice (messages_with (arrival_of state sent)) (live_with (arrival_of state sent)) (definitions_of setting.rules))
 
       by_running : (b : Bool) → without_late (step_by b setting (without_late state) sent.0 sent.1.message sent.1.stamp).0 ≡ without_late (step_by b setting state sent.0 sent.1.message sent.1.stamp).0
       by_running false = refl

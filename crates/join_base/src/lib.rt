@@ -4,10 +4,10 @@
 //! - **Texts**: `Bytes`, `BoundedText`, `Name` and `Word` are seen as their bytes. A `BoundedText` is UTF-8, of at most
 //!   120 bytes as `Text` and 1,920 as `Line`, and a `Name` is no keyword: that is part of the type, and `bytes` tells
 //!   it. A short text stands in place.
-//! - **Messages**: `Value`, `Fields` (at most 8 values, up to three integers or one text in place), `ValueRef`, `Message`,
-//!   `Stamped`, `Source`; `letter` is the message of an arrival number.
-//! - **Assignments**: `Slots` and `Numbers`, which take no memory, are seen as lists of at most 8. `Steps` counts without
-//!   memory.
+//! - **Messages**: `Value`, `Fields` (at most 8 values, up to three integers or one text in place), `ValueRef`,
+//!   `Message`, `Stamped`, `Source`; `recorded_message` is the message of an arrival number.
+//! - **Assignments**: `Slots` and `Numbers`, which take no memory, are seen as lists of at most 8. `Steps` counts
+//!   without memory.
 //! - **Quoting**: `write_quoted` and `read_quoted` are exact for the quoted form; by `quoted_law` none begins another.
 //! - **Integers**: `read_integer` and `write_number`, in decimal.
 //! - **The outside**: the traits `Inputs` and `Sink`, with `MemoryInputs` and `MemorySink` over memory.
@@ -32,7 +32,7 @@ pub use integer::{read_integer, write_number};
 pub use items::{Items, NoMemory};
 pub use memory::{MemoryInputs, MemorySink};
 pub use message::{
-    FeedList, Letters, Message, Posts, Relation, Sort, Source, Stamped, Value, letter,
+    FeedList, Message, MessageList, Posts, Relation, Sort, Source, Stamped, Value, recorded_message,
 };
 pub use outside::{Failed, FetchFault, Inputs, Sink};
 pub use quoted::{

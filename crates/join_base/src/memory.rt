@@ -18,7 +18,8 @@ fn is_among(calls: &[u64], call: u64) -> bool
 
 // The bytes of a name.
 fn find<'a>(files: &'a [(Word, Bytes)], name: &str) -> Option<&'a Bytes>
-    ensures { MatchOption result (content_of files.now name.now ≡ None) (λ b. content_of files.now name.now ≡ Some b.now) }
+    ensures { MatchOption result (content_of files.now name.now ≡ None) (λ b. content_of files.now name.now
+        ≡ Some b.now) }
 {
     for (other, bytes) in files {
         if other.as_str().as_bytes() == name.as_bytes() {
@@ -127,7 +128,8 @@ impl Inputs for MemoryInputs {
     }
 }
 
-/// A sink in memory with room for so many bytes. A write takes no memory. It fails where no room is left, and at each call that `fail` names.
+/// A sink in memory with room for so many bytes. A write takes no memory. It fails where no room is left, and at each
+/// call that `fail` names.
 #[derive(Drop)]
 pub struct MemorySink {
     taken: Vec<u8>,

@@ -90,15 +90,15 @@ pub enum Relation {
 }
 
 /// The recorded messages of an actor, as a list of their own. Arrival n is the message at place n - 1.
-pub type Letters = Items<Message>;
+pub type MessageList = Items<Message>;
 
 /// The message of an arrival.
-pub fn letter(letters: &[Message], number: u32) -> &Message
+pub fn recorded_message(messages: &[Message], number: u32) -> &Message
     requires some { 1 ≤ number }
-    requires within { number ≤ length letters.now }
-    ensures item { slice_get letters.now (number - 1) ≡ Some result.now }
+    requires within { number ≤ length messages.now }
+    ensures item { slice_get messages.now (number - 1) ≡ Some result.now }
 {
-    &letters[(number - 1) as usize]
+    &messages[(number - 1) as usize]
 }
 
 /// Messages, each with the actor that it is for.

@@ -39,8 +39,8 @@ pub trait Inputs {
     /// How many faults there were. It never falls, and stands still at the last 64-bit number.
     ghost faults: { Self → ℕ };
 
-    /// The bytes of a name, of which there are at most `max`. What it holds stays. The count of faults rises exactly where
-    /// the answer is `Failed`.
+    /// The bytes of a name, of which there are at most `max`. What it holds stays. The count of faults rises exactly
+    /// where the answer is `Failed`.
     fn fetch(&mut self, alloc: Global, name: &str, max: u64) -> Result<Bytes, FetchFault>
         ensures within { IfOk result (λ bytes. length bytes ≤ max) }
         ensures told { FetchTells (tells self.old) (tells self.new) name.now max result }
@@ -55,8 +55,8 @@ pub trait Sink {
     /// How many faults there were. It never falls, and stands still at the last 64-bit number.
     ghost faults: { Self → ℕ };
 
-    /// Takes some bytes at the front of the piece, at least one, and says how many. The count of faults rises exactly where
-    /// it fails.
+    /// Takes some bytes at the front of the piece, at least one, and says how many. The count of faults rises exactly
+    /// where it fails.
     fn write(&mut self, piece: &[u8]) -> Result<usize, Failed>
         requires some { 0 < length piece.now }
         ensures count { IfOk result (IsCount piece.now) }

@@ -170,7 +170,8 @@ fn read_forms(bytes: &[u8], at: usize, room: &mut [u8]) -> Option<(usize, usize)
     requires within { at ≤ length bytes.now }
     ensures room { IfSome result (λ p. p.0 ≤ length room.new) }
     ensures end { IfSome result (λ p. (at < p.1) × (p.1 ≤ length bytes.now)) }
-    ensures forms { IfSome result (λ p. drop at bytes.now ≡ flat_map byte_form (take p.0 room.new) ++ 34 ∷ drop p.1 bytes.now) }
+    ensures forms { IfSome result (λ p. drop at bytes.now ≡ flat_map byte_form (take p.0 room.new) ++ 34
+        ∷ drop p.1 bytes.now) }
     ensures none { IsNone result → (text rest : List ℕ) → length text ≤ length room.old
         → drop at bytes.now ≡ flat_map byte_form text ++ 34 ∷ rest → ⊥ }
 {
@@ -196,7 +197,8 @@ fn unquote(bytes: &[u8], at: usize, room: &mut [u8]) -> Option<(usize, usize)>
     requires within { at ≤ length bytes.now }
     ensures room { IfSome result (λ p. p.0 ≤ length room.new) }
     ensures end { IfSome result (λ p. (at < p.1) × (p.1 ≤ length bytes.now)) }
-    ensures text { IfSome result (λ p. Unquotes (length room.old) (drop at bytes.now) (take p.0 room.new) (drop p.1 bytes.now)) }
+    ensures text { IfSome result (λ p. Unquotes (length room.old) (drop at bytes.now) (take p.0 room.new)
+        (drop p.1 bytes.now)) }
     ensures none { IsNone result → BeginsNoQuoted (length room.old) (drop at bytes.now) }
 {
     if byte_at(bytes.split_at(at).1, 0) != b'"' {

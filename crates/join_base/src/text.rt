@@ -174,7 +174,7 @@ pub type Line = BoundedText<1920, 38>;
 
 const _: () = prove!(size_of::<Line>() == 40);
 
-/// The name of an actor, a kind, a field or a variable: 1 to 64 ASCII letters, digits and `_`, the first no digit. It
+/// The name of an actor, a kind, a field or a variable: 1 to 64 ASCII messages, digits and `_`, the first no digit. It
 /// is no keyword of a script, and not `_` alone.
 #[derive(Drop)]
 pub struct Name {

@@ -7,7 +7,7 @@ use Rattle.fair_semantics.specs.declared.run.Limits.{Limits}
 use Rattle.fair_semantics.specs.declared.run.Run.{Run}
 use Rattle.fair_semantics.specs.Fits.{PostFits}
 use Rattle.fair_semantics.specs.Linked.{IsLinked}
-use Rattle.run_order.specs.Order.{IsScheduled}
+use Rattle.run_order_law.specs.Order.{IsScheduled}
 use Rattle.schedule_law.specs.Reached.{FeedsFit, ValuesFit}
 use Rattle.command_words.specs.Command.{usual_options}
 use Rattle.command_words.specs.Ranges.{AreInRange}

@@ -9,7 +9,7 @@ use Rattle.fair_semantics.specs.declared.run.Run.{Run}
 use Rattle.fair_semantics.specs.declared.run.Ending.{Ending}
 use Rattle.fair_semantics.specs.declared.run.Ending.TheVariants as ending
 use Rattle.fair_semantics.specs.Linked.{IsLinked}
-use Rattle.run_order.specs.Order.{IsScheduled}
+use Rattle.run_order_law.specs.Order.{IsScheduled}
 use Rattle.arrival_log.specs.LogText.{log_text}
 use Rattle.feed_answers.specs.AnswersText.{answers_text}
 use Rattle.watch_run.specs.BoardText.{board_text}

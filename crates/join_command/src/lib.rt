@@ -7,15 +7,15 @@
 //!   contract says that no write is made behind one that failed, and at most one for each byte (specs/Counting).
 //! - `command_of` gives the command that the words are, `write_all` writes bytes piece by piece, and `MAX_FILE` and
 //!   `MAX_LOG` are the most bytes of a file, for what a program tells people besides.
-//! - `load_script` and `load_feeds` fetch and read files, and `refused_output` has the status and the line of a refusal,
-//!   for other programs over such files.
+//! - `load_script` and `load_feeds` fetch and read files, and `refused_output` has the status and the line of a
+//!   refusal, for other programs over such files.
 //!
 //! `join_main` runs a script on threads, past a `Gate`, and may wait for them.
 //!
 //! A contract sees the files and the bytes written where the inputs and the sink tell them (`Inputs`, `Sink` of
 //! `join_base`), and of the words their bytes. That `Counted` writes to its sink once a call is read off its code; no
-//! clause says so. Only tested: that the calls answer something else than `NoMemory` where memory is ample, and that the
-//! log of a run is that of what its threads did.
+//! clause says so. Only tested: that the calls answer something else than `NoMemory` where memory is ample, and that
+//! the log of a run is that of what its threads did.
 #![tactic(auto)]
 
 mod command;

@@ -38,7 +38,8 @@ fn read_plan(alloc: Global, bytes: &[u8]) -> Result<Plan, Stop>
 
 /// Fetches a script and reads its plan, which is well typed.
 pub fn load_script<I: Inputs>(alloc: Global, inputs: &mut I, name: &Word) -> Result<Plan, Stop>
-    ensures told { Tells (I.tells inputs.old) (I.tells inputs.new) (λ before now. LoadsScript before now name.now result) }
+    ensures told { Tells (I.tells inputs.old) (I.tells inputs.new) (λ before now. LoadsScript before now
+        name.now result) }
     ensures cause { LoadCause (I.faults inputs.old) (I.faults inputs.new) result }
     ensures typed { IfOk result IsTyped }
 {
@@ -74,7 +75,8 @@ fn load_feed<I: Inputs>(
 ) -> Result<Posts, Stop>
     requires typed { IsTyped plan.now }
     requires few { feed ≤ 16 }
-    ensures told { Tells (I.tells inputs.old) (I.tells inputs.new) (λ before now. LoadsFeed before now plan.now feed name.now result) }
+    ensures told { Tells (I.tells inputs.old) (I.tells inputs.new) (λ before now. LoadsFeed before now plan.now feed
+        name.now result) }
     ensures cause { LoadCause (I.faults inputs.old) (I.faults inputs.new) result }
     ensures fits { IfOk result (AllByRecursion (PostFits plan.now)) }
 {
@@ -93,7 +95,8 @@ pub fn load_feeds<I: Inputs>(
 ) -> Result<FeedList, Stop>
     requires typed { IsTyped plan.now }
     requires few { length names.now ≤ 16 }
-    ensures told { Tells (I.tells inputs.old) (I.tells inputs.new) (λ before now. LoadsFeeds before now plan.now (words_in names.now) result) }
+    ensures told { Tells (I.tells inputs.old) (I.tells inputs.new) (λ before now. LoadsFeeds before now plan.now
+        (words_in names.now) result) }
     ensures cause { LoadCause (I.faults inputs.old) (I.faults inputs.new) result }
     ensures fits { IfOk result (AllByRecursion (AllByRecursion (PostFits plan.now))) }
     ensures count { IfOk result (λ feeds. length feeds ≡ length names.now) }

@@ -345,7 +345,8 @@ pub fn write_all<S: CountingSink>(out: &mut S, bytes: &[u8]) -> Result<(), Faile
     ensures cause { WriteCause (S.faults out.old) (S.faults out.new) result }
     // At most one write for each byte, and where the sink tells, for each byte that it took and one that failed.
     ensures few { WritesFew (S.writes out.old) (S.writes out.new) (length bytes.now) }
-    ensures taken { WritesFewWhereTold (S.taken out.old) (S.taken out.new) (S.writes out.old) (S.writes out.new) (fault_count result) }
+    ensures taken { WritesFewWhereTold (S.taken out.old) (S.taken out.new) (S.writes out.old) (S.writes out.new)
+        (fault_count result) }
     ensures stops { StopsAtFault (S.writes out.old) (S.writes out.new) result }
 {
     let mut done = 0;

@@ -60,7 +60,8 @@ pub fn load_log<I: Inputs>(
     name: &Word,
 ) -> Result<u64, Stop>
     requires typed { IsTyped plan.now }
-    ensures told { Tells (I.tells inputs.old) (I.tells inputs.new) (λ before now. LoadsLog before now plan.now name.now result) }
+    ensures told { Tells (I.tells inputs.old) (I.tells inputs.new) (λ before now. LoadsLog before now plan.now
+        name.now result) }
     ensures cause { LoadCause (I.faults inputs.old) (I.faults inputs.new) result }
 {
     match inputs.fetch(alloc, name.as_str(), MAX_LOG) {

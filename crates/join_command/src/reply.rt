@@ -52,7 +52,8 @@ pub enum Reply {
 // What `run SCRIPT FEED..` comes to.
 fn run_reply<I: Inputs>(alloc: Global, inputs: &mut I, run: &RunWords<'_>) -> Result<Reply, Stop>
     requires in_range { RunIsInRange (run_in run.now) }
-    ensures told { Tells (I.tells inputs.old) (I.tells inputs.new) (λ before now. Replies (Run (run_in run.now)) before now result) }
+    ensures told { Tells (I.tells inputs.old) (I.tells inputs.new) (λ before now. Replies (Run (run_in run.now))
+        before now result) }
     ensures cause { LoadCause (I.faults inputs.old) (I.faults inputs.new) result }
     ensures runnable { IfOk result IsRunnable }
 {
@@ -72,7 +73,8 @@ fn run_reply<I: Inputs>(alloc: Global, inputs: &mut I, run: &RunWords<'_>) -> Re
 // What `ask SCRIPT FEED..` comes to.
 fn ask_reply<I: Inputs>(alloc: Global, inputs: &mut I, run: &RunWords<'_>) -> Result<Reply, Stop>
     requires in_range { RunIsInRange (run_in run.now) }
-    ensures told { Tells (I.tells inputs.old) (I.tells inputs.new) (λ before now. Replies (Ask (run_in run.now)) before now result) }
+    ensures told { Tells (I.tells inputs.old) (I.tells inputs.new) (λ before now. Replies (Ask (run_in run.now))
+        before now result) }
     ensures cause { LoadCause (I.faults inputs.old) (I.faults inputs.new) result }
     ensures runnable { IfOk result IsRunnable }
 {
@@ -98,7 +100,8 @@ fn watch_reply<I: Inputs>(
 ) -> Result<Reply, Stop>
     requires in_range { RunIsInRange (run_in run.now) }
     requires monitors { IsFrom1To 8 monitors }
-    ensures told { Tells (I.tells inputs.old) (I.tells inputs.new) (λ before now. Replies (Watch (run_in run.now) monitors) before now result) }
+    ensures told { Tells (I.tells inputs.old) (I.tells inputs.new) (λ before now. Replies (Watch (run_in run.now)
+        monitors) before now result) }
     ensures cause { LoadCause (I.faults inputs.old) (I.faults inputs.new) result }
     ensures runnable { IfOk result IsRunnable }
 {
@@ -118,7 +121,8 @@ fn watch_reply<I: Inputs>(
 
 // What `check SCRIPT` comes to.
 fn check_reply<I: Inputs>(alloc: Global, inputs: &mut I, script: &Word) -> Result<Reply, Stop>
-    ensures told { Tells (I.tells inputs.old) (I.tells inputs.new) (λ before now. Replies (Check script.now) before now result) }
+    ensures told { Tells (I.tells inputs.old) (I.tells inputs.new) (λ before now. Replies (Check script.now)
+        before now result) }
     ensures cause { LoadCause (I.faults inputs.old) (I.faults inputs.new) result }
     ensures runnable { IfOk result IsRunnable }
 {
@@ -130,7 +134,8 @@ fn check_reply<I: Inputs>(alloc: Global, inputs: &mut I, script: &Word) -> Resul
 
 // What `lint SCRIPT` comes to.
 fn lint_reply<I: Inputs>(alloc: Global, inputs: &mut I, script: &Word) -> Result<Reply, Stop>
-    ensures told { Tells (I.tells inputs.old) (I.tells inputs.new) (λ before now. Replies (Lint script.now) before now result) }
+    ensures told { Tells (I.tells inputs.old) (I.tells inputs.new) (λ before now. Replies (Lint script.now)
+        before now result) }
     ensures cause { LoadCause (I.faults inputs.old) (I.faults inputs.new) result }
     ensures runnable { IfOk result IsRunnable }
 {
@@ -147,7 +152,8 @@ fn replay_reply<I: Inputs>(
     script: &Word,
     log: &Word,
 ) -> Result<Reply, Stop>
-    ensures told { Tells (I.tells inputs.old) (I.tells inputs.new) (λ before now. Replies (Replay script.now log.now) before now result) }
+    ensures told { Tells (I.tells inputs.old) (I.tells inputs.new) (λ before now. Replies (Replay script.now log.now)
+        before now result) }
     ensures cause { LoadCause (I.faults inputs.old) (I.faults inputs.new) result }
     ensures runnable { IfOk result IsRunnable }
 {
@@ -168,7 +174,8 @@ pub fn reply_of<I: Inputs>(
     inputs: &mut I,
 ) -> Result<Reply, Stop>
     requires in_range { IsInRange (command_in command.now) }
-    ensures told { Tells (I.tells inputs.old) (I.tells inputs.new) (λ before now. Replies (command_in command.now) before now result) }
+    ensures told { Tells (I.tells inputs.old) (I.tells inputs.new) (λ before now. Replies (command_in command.now)
+        before now result) }
     ensures cause { LoadCause (I.faults inputs.old) (I.faults inputs.new) result }
     ensures runnable { IfOk result IsRunnable }
 {

@@ -1,7 +1,7 @@
 //! Running a plan on its feeds.
 ghost use Rattle.std.specs.Prelude.{◌≡◌, IfOk};
 ghost use Rattle.fair_semantics.specs.Linked.{IsLinked};
-ghost use Rattle.run_order.specs.Order.{IsScheduled};
+ghost use Rattle.run_order_law.specs.Order.{IsScheduled};
 ghost use Rattle.command_words.specs.Ranges.{AreInRange};
 ghost use Rattle.join_command.specs.Replying.{AreRunParts};
 ghost use Rattle.join_command.specs.Verdict.{limits_of};
@@ -27,9 +27,9 @@ pub(crate) fn limits_of(options: RunOptions) -> Limits
 }
 
 /// The run of the plan on its feeds, over all actors, within the limits of the options, by as many workers and over
-/// links with as much room as they say. By the option `pool` the workers have one queue of tickets, or a deque each, from
-/// which the others steal. The run is linked to the feeds, and it is that of one schedule of single steps: the logs of
-/// its actors may be read as those of a run on one thread, step after step. It may wait.
+/// links with as much room as they say. By the option `pool` the workers have one queue of tickets, or a deque each,
+/// from which the others steal. The run is linked to the feeds, and it is that of one schedule of single steps: the
+/// logs of its actors may be read as those of a run on one thread, step after step. It may wait.
 pub fn run_feeds<R: Threads + Wait + Sync, G: Gate>(
     rt: &R,
     alloc: Global,

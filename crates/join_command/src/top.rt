@@ -50,7 +50,8 @@ fn prepare_command<R: Threads + Wait + Sync, I: Inputs, G: Gate>(
     gate: &G,
 ) -> Result<(Status, Bytes), Unanswered>
     requires in_range { IsInRange (command_in command.now) }
-    ensures told { Tells (I.tells inputs.old) (I.tells inputs.new) (λ before now. PreparesCommand (command_in command.now) before now result) }
+    ensures told { Tells (I.tells inputs.old) (I.tells inputs.new) (λ before now. PreparesCommand
+        (command_in command.now) before now result) }
     ensures cause { PrepareCause (I.faults inputs.old) (I.faults inputs.new) result }
     ensures settled { IfOk result (λ p. IsSettled p.0) }
 {
@@ -76,7 +77,8 @@ fn prepare<R: Threads + Wait + Sync, I: Inputs, G: Gate>(
     inputs: &mut I,
     gate: &G,
 ) -> Result<(Status, Bytes), Unanswered>
-    ensures told { Tells (I.tells inputs.old) (I.tells inputs.new) (λ before now. Prepares words.now before now result) }
+    ensures told { Tells (I.tells inputs.old) (I.tells inputs.new) (λ before now. Prepares words.now
+        before now result) }
     ensures cause { PrepareCause (I.faults inputs.old) (I.faults inputs.new) result }
     ensures answered { IfOk result (λ p. IsAnswered p.0) }
     ensures words { IfOk result (λ p. TestsWords words.now p.0) }
@@ -128,15 +130,17 @@ pub fn join_main<R: Threads + Wait + Sync, I: Inputs, S: CountingSink, G: Gate>(
     gate: &G,
 ) -> Status
     // The status and the bytes written are those of the verdict on the words and the files. For a run they are the log
-    // of a run that is linked to the posts of the feeds and is that of one schedule of single steps, for `ask` such a log
-    // and the answers that its run gives to the rows of the feeds, for `watch` such a log and the totals of the actors of
-    // its run, for a check the text of the script's plan, for a lint that of its findings, for `load` the summary of such
-    // a run of the building, and for a replay the number of arrivals of the log, which is that of a run no line of which
-    // is in fault.
-    ensures answer { AnswersWhereTold words.now (I.tells inputs.old) (S.taken out.old) (I.tells inputs.new) (S.taken out.new) result }
+    // of a run that is linked to the posts of the feeds and is that of one schedule of single steps, for `ask` such a
+    // log and the answers that its run gives to the rows of the feeds, for `watch` such a log and the totals of the
+    // actors of its run, for a check the text of the script's plan, for a lint that of its findings, for `load` the
+    // summary of such a run of the building, and for a replay the number of arrivals of the log, which is that of a run
+    // no line of which is in fault.
+    ensures answer { AnswersWhereTold words.now (I.tells inputs.old) (S.taken out.old) (I.tells inputs.new)
+        (S.taken out.new) result }
 
     // Inputs that tell were asked only for names that the order fetches, whatever the sink tells.
-    ensures fetches { Tells (I.tells inputs.old) (I.tells inputs.new) (λ before now. FetchesInOrder words.now before now) }
+    ensures fetches { Tells (I.tells inputs.old) (I.tells inputs.new) (λ before now. FetchesInOrder
+        words.now before now) }
 
     // Each count of faults rises where its fault is answered, and is as before at every other answer.
     ensures reads { CountsFault Status.ReadFault result (I.faults inputs.old) (I.faults inputs.new) }
@@ -149,7 +153,8 @@ pub fn join_main<R: Threads + Wait + Sync, I: Inputs, S: CountingSink, G: Gate>(
 
     // Where no fault was counted, the status is that of the verdict that the words and the files have, or there was no
     // memory.
-    ensures complete { CompletesWhereTold words.now (I.tells inputs.old) (I.faults inputs.old) (I.faults inputs.new) (S.faults out.old) (S.faults out.new) result }
+    ensures complete { CompletesWhereTold words.now (I.tells inputs.old) (I.faults inputs.old) (I.faults inputs.new)
+        (S.faults out.old) (S.faults out.new) result }
 
     ensures words_refused { RefusesWords words.now result }
     ensures usage_only { result ≡ Status.Usage → command_of words.now ≡ None }

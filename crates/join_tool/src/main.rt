@@ -1,6 +1,6 @@
-//! Runs a script of actors with join patterns on feeds, and prints the log of the run. Other commands check a script and
-//! print its plan, list definitions that can never fire, check a log against its script, or run a building of its own
-//! and print a summary. What a person reads of a fault stands on standard error.
+//! Runs a script of actors with join patterns on feeds, and prints the log of the run. Other commands check a script
+//! and print its plan, list definitions that can never fire, check a log against its script, or run a building of its
+//! own and print a summary. What a person reads of a fault stands on standard error.
 #![tactic(auto)]
 
 mod note;

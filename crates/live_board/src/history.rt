@@ -35,7 +35,8 @@ impl Front {
     /// Whether this one begins the other. Else the other begins this one.
     pub(crate) fn begins(&self, other: &Front) -> bool
         requires book { front_book other.now ≡ front_book self.now }
-        ensures begins { MatchBool result (IsPrefix (front_records self.now) (front_records other.now)) (IsPrefix (front_records other.now) (front_records self.now)) }
+        ensures begins { MatchBool result (IsPrefix (front_records self.now) (front_records other.now))
+            (IsPrefix (front_records other.now) (front_records self.now)) }
     {
         // Both begin what they have seen together.
         let mut both = self.seen.again();
@@ -48,7 +49,8 @@ impl Front {
     pub(crate) fn add(&mut self, head: &Head, item: Record) -> bool
         requires head { head.now.word ≡ head_of (front_book self.old) }
         ensures book { front_book self.new ≡ front_book self.old }
-        ensures added { MatchBool result (front_records self.new ≡ front_records self.old ++ item ∷ []) (front_records self.new ≡ front_records self.old) }
+        ensures added { MatchBool result (front_records self.new ≡ front_records self.old ++ item ∷ [])
+            (front_records self.new ≡ front_records self.old) }
     {
         if self.count == u64::MAX {
             return false;

@@ -19,7 +19,8 @@ use core::mem::replace_with;
 
 // A copy of what is published, or none where the writer is gone.
 fn see(reader: BoardReader, _: ()) -> (BoardReader, Option<Snapshot>)
-    ensures tied { (b : Book) → HasSeenOf b (view reader.place) → HasSeenOf b (view result.0.place) × IfSome result.1 (λ x. front_book x.front ≡ b) }
+    ensures tied { (b : Book) → HasSeenOf b (view reader.place) → HasSeenOf b (view result.0.place)
+        × IfSome result.1 (λ x. front_book x.front ≡ b) }
 {
     match reader.enter_as::<Sees>() {
         Ok(reading) => {

@@ -41,8 +41,10 @@ impl<W: Glass> Monitor<W> {
         requires rows { length into.old ≡ W.rows (glass_of self.old) }
         ensures rows { W.rows (glass_of self.new) ≡ W.rows (glass_of self.old) }
         ensures stays { W.stays (glass_of self.old) (glass_of self.new) }
-        ensures shown { OnOk result (Shows (W.rows (glass_of self.old)) (W.known (glass_of self.old)) (W.known (glass_of self.new)) into.new) }
-        ensures unread { OnErr result (ShowsNothing (W.known (glass_of self.old)) (W.known (glass_of self.new)) into.old into.new) }
+        ensures shown { OnOk result (Shows (W.rows (glass_of self.old)) (W.known (glass_of self.old))
+            (W.known (glass_of self.new)) into.new) }
+        ensures unread { OnErr result (ShowsNothing (W.known (glass_of self.old)) (W.known (glass_of self.new))
+            into.old into.new) }
         ensures later { W.refusals (glass_of self.old) ≤ W.refusals (glass_of self.new) }
         ensures cause { OnErr result (Rose (W.refusals (glass_of self.old)) (W.refusals (glass_of self.new))) }
     {

@@ -82,7 +82,8 @@ fn monitors_of(alloc: Global, writer: &mut BoardWriter, count: u32) -> Result<Mo
     requires new { published writer.old ≡ [] }
     ensures same { Stays writer.old writer.new }
     ensures count { IfOk result (λ list. length list ≡ count) }
-    ensures each { IfOk result (λ list. All (λ m. IsNewGlass (writer_book writer.old) (row_count writer.old) (glass_of m)) list) }
+    ensures each { IfOk result (λ list. All (λ m. IsNewGlass (writer_book writer.old) (row_count writer.old)
+        (glass_of m)) list) }
 {
     let mut monitors = Items::new(alloc);
     for _ in 0..count {

@@ -24,9 +24,11 @@ pub(crate) type Shower = Writer<Snapshot, Snapshot, Sights, BoardRule>;
 
 // Shows readers what was appended.
 pub(crate) fn show<R: Wait>(writer: Shower, rt: &R) -> (Shower, Result<(), AllocError>)
-    requires next { (next : Snapshot) × (drop writer.behind writer.log.items ≡ next ∷ []) × Begins writer.desk.shown.value next }
+    requires next { (next : Snapshot) × (drop writer.behind writer.log.items ≡ next ∷ [])
+        × Begins writer.desk.shown.value next }
     ensures shown { IsOk result.1 }
-    ensures next { (next : Snapshot) → drop writer.behind writer.log.items ≡ next ∷ [] → result.0.desk.shown.value ≡ next }
+    ensures next { (next : Snapshot) → drop writer.behind writer.log.items ≡ next ∷ []
+        → result.0.desk.shown.value ≡ next }
     ensures saw { slice_get (view result.0.desk.place) 0 ≡ Some result.0.desk.shown.value }
     ensures idle { drop result.0.behind result.0.log.items ≡ [] }
 {
@@ -41,7 +43,8 @@ impl BoardWriter {
     pub fn publish<R: Wait>(&mut self, rt: &R, item: Record) -> Result<(), NoMemory>
         ensures book { writer_book self.new ≡ writer_book self.old }
         ensures rows { row_count self.new ≡ row_count self.old }
-        ensures published { MatchResult result (λ _. published self.new ≡ published self.old ++ item ∷ []) (λ _. published self.new ≡ published self.old) }
+        ensures published { MatchResult result (λ _. published self.new ≡ published self.old ++ item ∷ [])
+            (λ _. published self.new ≡ published self.old) }
     {
         let Some(next) = self.writer.published().next(&self.head, item) else {
             return Err(NoMemory);

@@ -8,7 +8,7 @@ use Rattle.script_types.specs.Typed.{IsTyped}
 use Rattle.fair_semantics.specs.declared.run.ActorRun.{ActorRun}
 use Rattle.fair_semantics.specs.declared.run.Run.{Run}
 use Rattle.fair_semantics.specs.Linked.{IsLinked, count_of}
-use Rattle.run_order.proofs.LawLemmas.{runs_are_schedules}
+use Rattle.run_order_law.proofs.LawLemmas.{runs_are_schedules}
 use Rattle.log_reader.specs.Log.{IsLogOf}
 use Rattle.log_reader.proofs.ReadLemmas.{logs_are_one_run}
 use Rattle.log_replay.specs.Check.{IsAcceptedLog, arrival_count}

@@ -3,14 +3,14 @@ use Rattle.std.proofs.Common.{◌≡◌, ◌∙◌, ℕ, suc, ◌+◌, ◌<◌, 
 use Rattle.std.specs.Prelude.{if◌then◌else◌, nat_lt}
 use Rattle.std.specs.List.{AllByRecursion}
 use Rattle.std.proofs.lemmas.Bool.Decides.{nat_tests}
-use Rattle.log_replay.specs.Fault.{Line, Mark}
+use Rattle.log_replay.specs.Fault.{Line, LineKind}
 use Rattle.log_audit.specs.declared.refusal.Difference.{Difference}
 use Rattle.log_audit.specs.Search.{earlier}
 use Rattle.log_audit.specs.Wrong.{first_wrong, or_later}
 
 -- what is wrong at a line, by its number
 abbrev pub Wrong : Type 0
-Wrong = ℕ → Mark → Option Difference
+Wrong = ℕ → LineKind → Option Difference
 
 pub or_none : (first : Option Difference) → or_later first None ≡ first
 or_none None = refl
@@ -20,7 +20,7 @@ pub or_assoc : (a b c : Option Difference) → or_later (or_later a b) c ≡ or_
 or_assoc None b c = refl
 or_assoc (Some d) b c = refl
 
-pub first_same : (f g : Wrong) → ((n : ℕ) (m : Mark) → f n m ≡ g n m) → (n : ℕ) (lines : List Line) → first_wrong f n lines ≡ first_wrong g n lines
+pub first_same : (f g : Wrong) → ((n : ℕ) (m : LineKind) → f n m ≡ g n m) → (n : ℕ) (lines : List Line) → first_wrong f n lines ≡ first_wrong g n lines
 first_same f g same n [] = refl
 first_same f g same n (l ∷ lines) = λ i. or_later (same n l.mark i) (first_same f g same (n + 1) lines i)
 
@@ -48,7 +48,7 @@ first_behind f n xs ys right = first_append f n xs ys ∙ ap (λ (o : Option Dif
 
 -- what is wrong names the line
 abbrev pub Lined : Wrong → Type 0
-Lined f = (n : ℕ) (m : Mark) (d : Difference) → f n m ≡ Some d → d.line ≡ n
+Lined f = (n : ℕ) (m : LineKind) (d : Difference) → f n m ≡ Some d → d.line ≡ n
 
 pub or_lined : (f g : Wrong) → Lined f → Lined g → Lined (λ n m. or_later (f n m) (g n m))
 or_lined f g one other n m d = by (f n m) (one n m) (other n m)

@@ -13,12 +13,12 @@ use Rattle.fair_semantics.specs.Linked.{count_of, same_source}
 use Rattle.arrival_log.specs.LogText.{arrival_line, end_line, head_line, late_line, line as text_line}
 use Rattle.log_posts.specs.Same.{same_message}
 use Rattle.log_replay.specs.Expected.{late_in, read_entries, read_late}
-use Rattle.log_replay.specs.Fault.{Line, Mark, arrives, ends, other, entries_lines, firing_texts, lines_of_entry, other_line, section_lines, sections_from}
+use Rattle.log_replay.specs.Fault.{Line, LineKind, arrives, ends, other, entries_lines, firing_texts, lines_of_entry, other_line, section_lines, sections_from}
 use Rattle.log_replay.specs.Kept.{entry_size, section_size}
 use Rattle.log_replay.proofs.AcceptedLemmas.{each_mapped}
 use Rattle.log_replay.proofs.KeepsLemmas.{firing_count}
 use Rattle.log_replay.proofs.SectionLemmas.{section_count}
-use Rattle.run_order.specs.Sorted.{entries_in}
+use Rattle.run_order_law.specs.Sorted.{entries_in}
 use Rattle.log_audit.specs.declared.refusal.Difference.{Difference}
 use Rattle.log_audit.specs.Search.{earlier, left_behind, link_of, link_wrong, links_wrong, run_wrong, section_wrong, sections_wrong}
 use Rattle.log_audit.specs.Wrong.{Feeds, Row, arrival_wrong, differs, end_wrong, first_difference, first_wrong, or_later, refused, rows_for, rows_left, wrong_by, wrong_from}
@@ -131,7 +131,7 @@ module _ (plan : Plan) (run : Run) where
         ∙ first_same (λ n m. or_later (or_later (f n m) (By feed posts n m)) (From (feed + 1) feeds n m)) (λ n m. or_later (f n m) (or_later (By feed posts n m) (From (feed + 1) feeds n m)))
         (λ n m. or_assoc (f n m) (By feed posts n m) (From (feed + 1) feeds n m)) (line + 1) lines
 
-    abbrev nothing : ℕ → Mark → Option Difference
+    abbrev nothing : ℕ → LineKind → Option Difference
     nothing n m = None
 
     all_right : (ls : List Line) → AreRight nothing ls

@@ -3,7 +3,7 @@ use Rattle.std.specs.Prelude.{◌≡◌, ℕ, List, length, Some, Result, Ok, Er
 use Rattle.script_types.specs.declared.plan.Plan.{Plan}
 use Rattle.fair_semantics.specs.declared.run.Run.{Run}
 use Rattle.fair_semantics.specs.Linked.{IsLinked}
-use Rattle.run_order.specs.Order.{IsScheduled}
+use Rattle.run_order_law.specs.Order.{IsScheduled}
 use Rattle.log_reader.specs.Log.{IsLogOf}
 use Rattle.log_replay.specs.Check.{Checks, arrival_count}
 use Rattle.log_replay.specs.Fault.{IsAccepted}

@@ -9,7 +9,7 @@ use Rattle.fair_semantics.specs.declared.run.Run.{Run}
 use Rattle.fair_semantics.specs.Linked.{count_of, same_source, taken_from}
 use Rattle.log_posts.specs.Same.{same_message}
 use Rattle.log_replay.specs.Expected.{read_entries, read_late}
-use Rattle.log_replay.specs.Fault.{Line, Mark, arrives, ends, other, lines_of}
+use Rattle.log_replay.specs.Fault.{Line, LineKind, arrives, ends, other, lines_of}
 use Rattle.log_audit.specs.declared.refusal.Difference.{Difference}
 
 -- the rows of each feed: the actor that a row is for, and its message
@@ -59,7 +59,7 @@ abbrev pub end_wrong : ℕ → ℕ → List Row → ℕ → Option Difference
 end_wrong line feed left late = if late == min (length left) (2 ^ 64 - 1) then None else Some (differs line feed (slice_get left 0))
 
 -- at the line of this number, by one feed
-abbrev pub wrong_by : Run → ℕ → ℕ → List (ℕ × Message) → Mark → Option Difference
+abbrev pub wrong_by : Run → ℕ → ℕ → List (ℕ × Message) → LineKind → Option Difference
 wrong_by run line feed posts (arrives actor before entry) = arrival_wrong line feed (rows_left feed posts actor before) entry
 wrong_by run line feed posts (ends actor) = end_wrong line feed (rows_left feed posts actor (read_entries run actor)) (count_of (Feed feed) (read_late run actor))
 wrong_by run line feed posts other = None
@@ -69,14 +69,14 @@ or_later None later = later
 or_later (Some first) later = Some first
 
 -- by the first of these feeds, of which the first has this number
-abbrev pub wrong_from : Run → ℕ → Feeds → ℕ → Mark → Option Difference
+abbrev pub wrong_from : Run → ℕ → Feeds → ℕ → LineKind → Option Difference
 wrong_from run feed [] line mark = None
 wrong_from run feed (posts ∷ feeds) line mark = or_later (wrong_by run line feed posts mark) (wrong_from run (feed + 1) feeds line mark)
 
 -- ---- the first line that is wrong
 
 -- the first of these lines, of which the first has this number
-abbrev pub first_wrong : (ℕ → Mark → Option Difference) → ℕ → List Line → Option Difference
+abbrev pub first_wrong : (ℕ → LineKind → Option Difference) → ℕ → List Line → Option Difference
 first_wrong wrong number [] = None
 first_wrong wrong number (line ∷ lines) = or_later (wrong number line.mark) (first_wrong wrong (number + 1) lines)
 

@@ -15,7 +15,7 @@ use Rattle.fair_semantics.specs.declared.run.Effect.TheVariants.{Print, Post, Re
 use Rattle.fair_semantics.specs.declared.run.Entry.{Entry}
 use Rattle.fair_semantics.specs.declared.run.Firing.{Firing}
 use Rattle.fair_semantics.specs.Linked.{same_source, unstamped_entry}
-use Rattle.run_order.proofs.EventLemmas.{same_source_is}
+use Rattle.run_order_law.proofs.EventLemmas.{same_source_is}
 use Rattle.log_posts.specs.Same.{same_effect, same_entries, same_entry, same_fired, same_firing, same_message, same_value}
 
 pub lengths_apart : {A : Type 0} (same : A → A → Bool) (own other : List A) → (length own ≡ length other → ⊥) → pointwise same own other ≡ false

@@ -109,7 +109,8 @@ fn push_actors(
     links: &[Link],
 ) -> Result<(), NoMemory>
     requires few { length links.now ≤ 32 }
-    ensures { OnOk result (late.new ≡ late.old ++ late_list (λ a. Actor a) 0 (actor_counts true entries.now 0 links.now)) }
+    ensures { OnOk result (late.new ≡ late.old ++ late_list (λ a. Actor a) 0 (actor_counts true entries.now
+        0 links.now)) }
 {
     for (from, link) in links.iter().enumerate() {
         let taken = count_from(entries, from as u32);

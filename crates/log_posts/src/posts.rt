@@ -177,7 +177,8 @@ impl<'a> Link<'a> {
 
 // The first post to an actor by the entries that were made, and those behind it.
 fn first_made<'a>(to: u32, made: &'a [Entry], lines: &'a [Entry]) -> Option<(Posted<'a>, Link<'a>)>
-    ensures { MatchOption result (link_posts to made.now lines.now ≡ []) (λ p. link_posts to made.now lines.now ≡ p.0 ∷ p.1) }
+    ensures { MatchOption result (link_posts to made.now lines.now ≡ []) (λ p. link_posts to made.now lines.now
+        ≡ p.0 ∷ p.1) }
 {
     for (place, entry) in made.iter().enumerate() {
         let stamp = line_stamp(lines, place, entry);

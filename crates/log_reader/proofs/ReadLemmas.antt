@@ -47,7 +47,7 @@ lead_more plan [] text from mid to lead may = (to, (subst (λ (p : Place). MaySt
 lead_more plan (x ∷ xs) text from mid to lead may = (lead.0, (lead.1.0, lead_more plan xs text (lead.0) mid to (lead.1.1) may))
 
 -- what was read of the bytes, up to what is left
-pub record Reads (plan : Plan) (bytes rest : List ℕ) (number : ℕ) (draft : Draft) : Type 0 where
+pub record ReadsLines (plan : Plan) (bytes rest : List ℕ) (number : ℕ) (draft : Draft) : Type 0 where
   pub lines_read : List (List ℕ)
   pub lines : whole_lines bytes ≡ lines_read ++ whole_lines rest
   pub tail : tail_of bytes ≡ tail_of rest
@@ -62,7 +62,7 @@ cut_size rest text more is =
     let taken = cut_takes 10 rest (text, more) is in
     omega (arith, ap length taken.split, length-append text (10 ∷ more))
 
-pub reads_first : (plan : Plan) (bytes text rest : List ℕ) (head : Head) → cut 10 bytes ≡ Some (text, rest) → IsHead plan text head → Reads plan bytes rest 1 (opening head)
+pub reads_first : (plan : Plan) (bytes text rest : List ℕ) (head : Head) → cut 10 bytes ≡ Some (text, rest) → IsHead plan text head → ReadsLines plan bytes rest 1 (opening head)
 reads_first plan bytes text rest head is first =
     let taken = cut_takes 10 bytes (text, rest) is in
     record {
@@ -76,7 +76,7 @@ reads_first plan bytes text rest head is first =
       room = cut_size bytes text rest is;
     }
 
-pub reads_more : (plan : Plan) (bytes rest : List ℕ) (number : ℕ) (draft next : Draft) (text more : List ℕ) → Reads plan bytes rest number draft → cut 10 rest ≡ Some (text, more) → Adds plan draft text next → Reads plan bytes more (number + 1) next
+pub reads_more : (plan : Plan) (bytes rest : List ℕ) (number : ℕ) (draft next : Draft) (text more : List ℕ) → ReadsLines plan bytes rest number draft → cut 10 rest ≡ Some (text, more) → Adds plan draft text next → ReadsLines plan bytes more (number + 1) next
 reads_more plan bytes rest number draft next text more reads is adds =
     let taken = cut_takes 10 rest (text, more) is in
     let head = step_head draft adds.given next adds.leads in
@@ -109,12 +109,12 @@ abbrev pub IsRefused : Plan → List ℕ → ℕ → Type 0
 IsRefused plan bytes number = IsNoLog plan bytes × IsFaultLine plan bytes number
 
 -- the lines of a log lead on to the finish from what was read
-rest_leads : (plan : Plan) (bytes rest : List ℕ) (number : ℕ) (draft : Draft) (run : Run) → IsTyped plan → Reads plan bytes rest number draft → IsLogOf plan bytes run → Lead plan (place_of plan draft) (whole_lines rest) finish
+rest_leads : (plan : Plan) (bytes rest : List ℕ) (number : ℕ) (draft : Draft) (run : Run) → IsTyped plan → ReadsLines plan bytes rest number draft → IsLogOf plan bytes run → Lead plan (place_of plan draft) (whole_lines rest) finish
 rest_leads plan bytes rest number draft run typed reads log =
     let walk = log_walks plan bytes run typed log in
     lead_split plan typed reads.lines_read (whole_lines rest) start finish (place_of plan draft) tt (subst (λ (t : List (List ℕ)). Lead plan start t finish) reads.lines walk.lead) reads.lead
 
-pub refused_line : (plan : Plan) (bytes rest : List ℕ) (number : ℕ) (draft : Draft) (text more : List ℕ) → IsTyped plan → Reads plan bytes rest number draft → cut 10 rest ≡ Some (text, more) → AddsNothing plan draft text → IsRefused plan bytes (number + 1)
+pub refused_line : (plan : Plan) (bytes rest : List ℕ) (number : ℕ) (draft : Draft) (text more : List ℕ) → IsTyped plan → ReadsLines plan bytes rest number draft → cut 10 rest ≡ Some (text, more) → AddsNothing plan draft text → IsRefused plan bytes (number + 1)
 refused_line plan bytes rest number draft text more typed reads is none =
     let lines = lines_cut rest text more is in
     let counted = reads.counted in (
@@ -146,7 +146,7 @@ done_at plan head actors (Arrived x) few is = absurd cc
 done_at plan head actors (Fired x f) few is = absurd cc
 done_at plan head actors (Lates last) few is = absurd cc
 
-pub refused_end : (plan : Plan) (bytes rest : List ℕ) (number : ℕ) (draft : Draft) → IsTyped plan → Reads plan bytes rest number draft → cut 10 rest ≡ None → (rest ≡ [] → is_done plan draft ≡ true → ⊥) → IsRefused plan bytes (number + 1)
+pub refused_end : (plan : Plan) (bytes rest : List ℕ) (number : ℕ) (draft : Draft) → IsTyped plan → ReadsLines plan bytes rest number draft → cut 10 rest ≡ None → (rest ≡ [] → is_done plan draft ≡ true → ⊥) → IsRefused plan bytes (number + 1)
 refused_end plan bytes rest number draft typed reads is unfinished =
     let lines = lines_none rest is in
     let counted = reads.counted in (
@@ -187,7 +187,7 @@ not_open (Arrived x) is = absurd cc
 not_open (Fired x f) is = absurd cc
 not_open (Lates last) is = absurd cc
 
-pub reads_all : (plan : Plan) (bytes rest : List ℕ) (number : ℕ) (draft : Draft) → Reads plan bytes rest number draft → rest ≡ [] → is_done plan draft ≡ true → IsLogOf plan bytes (run_of draft)
+pub reads_all : (plan : Plan) (bytes rest : List ℕ) (number : ℕ) (draft : Draft) → ReadsLines plan bytes rest number draft → rest ≡ [] → is_done plan draft ≡ true → IsLogOf plan bytes (run_of draft)
 reads_all plan bytes rest number draft reads empty done =
     let parts = and_parts (not (is_open draft.reached)) (length draft.actors == length plan.actors) done in
     let same = eqb-true (length draft.actors) (length plan.actors) parts.1 in
@@ -213,7 +213,7 @@ reads_all plan bytes rest number draft reads empty done =
           ∙ sym (log_is plan (run_of draft) same);
     }
 
-pub reads_whole : (plan : Plan) (bytes rest : List ℕ) (number : ℕ) (draft : Draft) → Reads plan bytes rest number draft → (length rest == 0 && is_done plan draft) ≡ true → IsLogOf plan bytes (run_of draft)
+pub reads_whole : (plan : Plan) (bytes rest : List ℕ) (number : ℕ) (draft : Draft) → ReadsLines plan bytes rest number draft → (length rest == 0 && is_done plan draft) ≡ true → IsLogOf plan bytes (run_of draft)
 reads_whole plan bytes rest number draft reads whole =
     let parts = and_parts (length rest == 0) (is_done plan draft) whole in
     reads_all plan bytes rest number draft reads (no_rest rest parts.0) parts.1
@@ -223,10 +223,10 @@ not_whole rest done is empty holds =
     let both : (length rest == 0 && done) ≡ true = ap (λ (l : List ℕ). length l == 0 && done) empty ∙ holds in
     absurd cc
 
-pub not_read : (plan : Plan) (bytes rest : List ℕ) (number : ℕ) (draft : Draft) → IsTyped plan → Reads plan bytes rest number draft → cut 10 rest ≡ None → (length rest == 0 && is_done plan draft) ≡ false → IsRefused plan bytes (number + 1)
+pub not_read : (plan : Plan) (bytes rest : List ℕ) (number : ℕ) (draft : Draft) → IsTyped plan → ReadsLines plan bytes rest number draft → cut 10 rest ≡ None → (length rest == 0 && is_done plan draft) ≡ false → IsRefused plan bytes (number + 1)
 not_read plan bytes rest number draft typed reads is whole = refused_end plan bytes rest number draft typed reads is (not_whole rest (is_done plan draft) whole)
 
-pub failed : (plan : Plan) (bytes rest : List ℕ) (number : ℕ) (draft changed : Draft) (text more : List ℕ) (fault : LogFault) → IsTyped plan → Reads plan bytes rest number draft → cut 10 rest ≡ Some (text, more)
+pub failed : (plan : Plan) (bytes rest : List ℕ) (number : ℕ) (draft changed : Draft) (text more : List ℕ) (fault : LogFault) → IsTyped plan → ReadsLines plan bytes rest number draft → cut 10 rest ≡ Some (text, more)
     → Advances plan draft text (number + 1) changed (Err fault) → Answers plan bytes (Err fault)
 failed plan bytes rest number draft changed text more (Bad line) typed reads is told = subst (λ (n : ℕ). IsRefused plan bytes n) (sym told.0) (refused_line plan bytes rest number draft text more typed reads is told.1)
 failed plan bytes rest number draft changed text more NoMemory typed reads is told = tt

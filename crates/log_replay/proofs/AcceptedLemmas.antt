@@ -18,7 +18,7 @@ use Rattle.fair_semantics.specs.Fits.{EntryFits, SourceFits}
 use Rattle.fair_semantics.specs.Linked.{count_of, message_from, messages_of, posts_of, rest_of, same_source, taken_from, IsLinked}
 use Rattle.fair_semantics.proofs.ListLemmas.{each_append}
 use Rattle.arrival_log.specs.LogText.{end_line, late_line}
-use Rattle.run_order.specs.Sorted.{entries_in}
+use Rattle.run_order_law.specs.Sorted.{entries_in}
 use Rattle.log_replay.specs.Expected.{expected_posts, expected_run, read_entries}
 use Rattle.log_replay.specs.Fault.{Line, IsPosted, Keeps, LacksNone, ends, entries_lines, lines_of_entry, firing_texts, lines_of, other_line, section_lines, sections_from, texts_of}
 use Rattle.log_replay.specs.Law.{AllPostsFit, LinkedIsAccepted, LinkedIsExpected}

@@ -21,8 +21,8 @@ use Rattle.fair_semantics.specs.Linked.{arrived, arrived_after, entry_posts, in_
 use Rattle.fair_semantics.proofs.ChainLemmas.{adds}
 use Rattle.fair_semantics.proofs.FairLemmas.{after_all-append}
 use Rattle.fair_semantics.proofs.LinkedLemmas.{feed_unstamped}
-use Rattle.run_order.proofs.ArrivalLemmas.{length-arrived}
-use Rattle.run_order.specs.Sorted.{entries_in}
+use Rattle.run_order_law.proofs.ArrivalLemmas.{length-arrived}
+use Rattle.run_order_law.specs.Sorted.{entries_in}
 use Rattle.log_posts.specs.Posts.{stamped_as}
 use Rattle.log_replay.specs.Expected.{bare, expected_posts, read_entries, restamped, stamped_in, stamps_sent, stepped}
 use Rattle.log_replay.proofs.BareLemmas.{bare_state, next_of}

@@ -14,15 +14,15 @@ use Rattle.fair_semantics.specs.declared.run.Entry.{Entry}
 use Rattle.fair_semantics.specs.declared.run.Firing.{Firing}
 use Rattle.join_base.specs.Late.{Late}
 use Rattle.join_base.specs.Taken.{without}
-use Rattle.fair_semantics.specs.Step.{Arrival, Setting, State, Stepped, arrival_step, body_at, by_choice, definitions_of, entry_with, firing_of, letters_of, letters_with, live_with, number_of, recorded}
+use Rattle.fair_semantics.specs.Step.{Arrival, Setting, State, Stepped, arrival_step, body_at, by_choice, definitions_of, entry_with, firing_of, recorded_messages, messages_with, live_with, number_of, recorded}
 use Rattle.fair_semantics.specs.Body.{stops}
 use Rattle.fair_semantics.specs.Fair.{Sent}
 use Rattle.fair_semantics.specs.Linked.{unstamped_entry}
 pub use Rattle.fair_semantics.proofs.TakenLemmas.{next_of}
 
-pub letters_bare : (entries : List Entry) → letters_of (map unstamped_entry entries) ≡ letters_of entries
-letters_bare [] = refl
-letters_bare (e ∷ entries) = ap (λ (ms : List Message). e.message ∷ ms) (letters_bare entries)
+pub messages_bare : (entries : List Entry) → recorded_messages (map unstamped_entry entries) ≡ recorded_messages entries
+messages_bare [] = refl
+messages_bare (e ∷ entries) = ap (λ (ms : List Message). e.message ∷ ms) (messages_bare entries)
 
 -- a state without the stamps of its entries
 abbrev pub bare_state : State → State
@@ -44,19 +44,19 @@ module _ (setting : Setting) where
 
   -- what an arrival leaves but for stamps, by the choice
   abbrev left_by : List Entry → List Message → ℕ → List ℕ → Late → Source → Message → Option Candidate → State
-  left_by entries letters number live late source m None =
-      if nat_lt setting.limits.partials (partial_count letters live (definitions_of setting.rules)) then with_one entries number source m None [] ending.Jammed late
+  left_by entries messages number live late source m None =
+      if nat_lt setting.limits.partials (partial_count messages live (definitions_of setting.rules)) then with_one entries number source m None [] ending.Jammed late
       else with_one entries number source m None live ending.Running late
-  left_by entries letters number live late source m (Some c) =
-      let firing : Option Firing = firing_of setting.rules letters (Some c) in
+  left_by entries messages number live late source m (Some c) =
+      let firing : Option Firing = firing_of setting.rules messages (Some c) in
       if stops (body_at setting.rules c.rule) then with_one entries number source m firing [] ending.Stopped late
       else with_one entries number source m firing (without live c.taken) ending.Running late
 
   recorded_bare : (a : Arrival) (firing : Option Firing) (live : List ℕ) (end : Ending) → bare_state (recorded a firing live end) ≡ with_one (map unstamped_entry a.state.entries) (number_of a) a.source a.message firing live end a.state.late
   recorded_bare a firing live end = λ i. record { entries = map-append unstamped_entry a.state.entries (entry_with a firing ∷ []) i; live = live; ending = end; late = a.state.late }
 
-  by_choice_bare : (a : Arrival) (o : Option Candidate) → bare_state (by_choice setting a o).0 ≡ left_by (map unstamped_entry a.state.entries) (letters_with a) (number_of a) (live_with a) a.state.late a.source a.message o
-  by_choice_bare a None = by (nat_lt setting.limits.partials (partial_count (letters_with a) (live_with a) (definitions_of setting.rules)))
+  by_choice_bare : (a : Arrival) (o : Option Candidate) → bare_state (by_choice setting a o).0 ≡ left_by (map unstamped_entry a.state.entries) (messages_with a) (number_of a) (live_with a) a.state.late a.source a.message o
+  by_choice_bare a None = by (nat_lt setting.limits.partials (partial_count (messages_with a) (live_with a) (definitions_of setting.rules)))
     where
       by : (b : Bool) → let stepped : Stepped = if b then (recorded a None [] ending.Jammed, outcome.Jammed) else (recorded a None (live_with a) ending.Running, outcome.Kept) in
           bare_state stepped.0 ≡ (if b then with_one (map unstamped_entry a.state.entries) (number_of a) a.source a.message None [] ending.Jammed a.state.late else with_one (map unstamped_entry a.state.entries) (number_of a) a.source a.message None (live_with a) ending.Running a.state.late)
@@ -65,7 +65,7 @@ module _ (setting : Setting) where
   by_choice_bare a (Some c) = by (stops (body_at setting.rules c.rule))
     where
       firing : Option Firing
-      firing = firing_of setting.rules (letters_with a) (Some c)
+      firing = firing_of setting.rules (messages_with a) (Some c)
 
       by : (b : Bool) → bare_state (if b then recorded a firing [] ending.Stopped else recorded a firing (without (live_with a) c.taken) ending.Running)
           ≡ (if b then with_one (map unstamped_entry a.state.entries) (number_of a) a.source a.message firing [] ending.Stopped a.state.late else with_one (map unstamped_entry a.state.entries) (number_of a) a.source a.message firing (without (live_with a) c.taken) ending.Running a.state.late)
@@ -78,9 +78,9 @@ module _ (setting : Setting) where
   arrival_alike state other same source m one two =
       let first : Arrival = record { state = state; source = source; message = m; stamp = one } in
       let second : Arrival = record { state = other; source = source; message = m; stamp = two } in
-      let letters : letters_of state.entries ≡ letters_of other.entries = sym (letters_bare state.entries) ∙ ap (λ (s : State). letters_of s.entries) same ∙ letters_bare other.entries in
+      let messages : recorded_messages state.entries ≡ recorded_messages other.entries = sym (messages_bare state.entries) ∙ ap (λ (s : State). recorded_messages s.entries) same ∙ messages_bare other.entries in
       let count : length state.entries ≡ length other.entries = sym (length-map state.entries unstamped_entry) ∙ ap (λ (s : State). length s.entries) same ∙ length-map other.entries unstamped_entry in
       let defs = definitions_of setting.rules in
-      by_choice_bare first (choice (letters_with first) (live_with first) defs)
-      ∙ (λ i. left_by (same i).entries (letters i ++ m ∷ []) (count i + 1) ((same i).live ++ (count i + 1) ∷ []) (same i).late source m (choice (letters i ++ m ∷ []) ((same i).live ++ (count i + 1) ∷ []) defs))
-      ∙ sym (by_choice_bare second (choice (letters_with second) (live_with second) defs))
+      by_choice_bare first (choice (messages_with first) (live_with first) defs)
+      ∙ (λ i. left_by (same i).entries (messages i ++ m ∷ []) (count i + 1) ((same i).live ++ (count i + 1) ∷ []) (same i).late source m (choice (messages i ++ m ∷ []) ((same i).live ++ (count i + 1) ∷ []) defs))
+      ∙ sym (by_choice_bare second (choice (messages_with second) (live_with second) defs))

@@ -18,7 +18,7 @@ use Rattle.fair_semantics.specs.declared.run.Entry.{Entry}
 use Rattle.fair_semantics.specs.declared.run.ActorRun.{ActorRun}
 use Rattle.fair_semantics.specs.declared.run.Run.{Run}
 use Rattle.join_base.specs.Late.{Late, late_count}
-use Rattle.fair_semantics.specs.Step.{Setting, State, definitions_of, fits, is_refused, is_running, latest_stamp, letters_of, opening}
+use Rattle.fair_semantics.specs.Step.{Setting, State, definitions_of, fits, is_refused, is_running, latest_stamp, recorded_messages, opening}
 use Rattle.join_base.specs.Late.{late_counts}
 use Rattle.fair_semantics.specs.Fair.{Sent, after_all, partials_of, run_of, setting_of}
 use Rattle.fair_semantics.specs.Fits.{ActorRunFits, RunFits}
@@ -28,18 +28,18 @@ use Rattle.fair_semantics.proofs.FairLemmas.{after_all-append}
 use Rattle.fair_semantics.proofs.ListLemmas.{each_replicate, each_in}
 use Rattle.fair_semantics.proofs.StampLemmas.{Known, ZeroOr, came_known, place_in, stamp_of_entry, found_in}
 use Rattle.join_base.specs.Stamps.{greatest_stamp}
-use Rattle.run_order.specs.Sorted.{entries_in}
+use Rattle.run_order_law.specs.Sorted.{entries_in}
 use Rattle.log_posts.specs.Lates.{count_where}
 use Rattle.log_replay.specs.Expected.{bare, expected_actor, expected_late, expected_posts, expected_run, may_be_late, posts_beyond, read_entries, read_late, restamped, settled, some_late, stepped}
 use Rattle.log_replay.specs.Feeds.{feed_shown, feeds_shown, first_copied, messages_shown}
-use Rattle.log_replay.proofs.BareLemmas.{bare_state, letters_bare}
+use Rattle.log_replay.proofs.BareLemmas.{bare_state, messages_bare}
 pub use Rattle.fair_semantics.proofs.NumberLemmas.{count_numbers, equal_at, zero_at}
 use Rattle.log_replay.proofs.TakenLemmas.{Taken, adding, bare_chain, ended, not_late, or_parts, restamped_is, spent_on}
 use Rattle.log_replay.proofs.LateLemmas.{actor_count, feed_count, none_late}
 use Rattle.log_replay.proofs.SizeLemmas.{Sized, none_counted, none_listed_of, sized, sized_opening, zero_where}
 use Rattle.fair_semantics.proofs.RestLemmas.{each_in as each_rest, each_in_order, each_of_all, none_in}
 use Rattle.fair_semantics.proofs.CountedLemmas.{Among, counted, ended_late, occurs_behind, raised_by, spent_late}
-use Rattle.run_order.proofs.ArrivalLemmas.{length-arrived}
+use Rattle.run_order_law.proofs.ArrivalLemmas.{length-arrived}
 use Rattle.log_replay.proofs.ActorLemmas.{arrived_unsent}
 use Rattle.log_replay.proofs.BoundLemmas.{most}
 use Rattle.log_replay.proofs.ExpectedLemmas.{none_at, not_false, running_is}
@@ -333,13 +333,13 @@ module _ (plan : Plan) (run : Run) (fit : RunFits plan run) (few_actors : length
 
     -- ---- the run of the actor
 
-    letters_same : letters_of end.entries ≡ letters_of at_last.entries
-    letters_same =
-        ap letters_of (settled_entries replayed late)
-        ∙ sym (letters_bare replayed.entries)
-        ∙ sym (ap (λ (s : State). letters_of s.entries) same_state)
-        ∙ letters_bare at_arrivals.entries
-        ∙ ap letters_of (sym behind_is.entries)
+    messages_same : recorded_messages end.entries ≡ recorded_messages at_last.entries
+    messages_same =
+        ap recorded_messages (settled_entries replayed late)
+        ∙ sym (messages_bare replayed.entries)
+        ∙ sym (ap (λ (s : State). recorded_messages s.entries) same_state)
+        ∙ messages_bare at_arrivals.entries
+        ∙ ap recorded_messages (sym behind_is.entries)
 
     bare_entries : map unstamped_entry replayed.entries ≡ map unstamped_entry at_arrivals.entries
     bare_entries = sym (ap (λ (s : State). s.entries) same_state)
@@ -357,7 +357,7 @@ module _ (plan : Plan) (run : Run) (fit : RunFits plan run) (few_actors : length
         left = sym (ap (λ (x : ActorRun). x.left) expected) ∙ ends_as.live
 
         partials : own.partials ≡ partials_of setting.rules at_last
-        partials = sym (ap (λ (x : ActorRun). x.partials) expected) ∙ (λ i. partial_count (letters_same i) (ends_as.live i) (definitions_of setting.rules))
+        partials = sym (ap (λ (x : ActorRun). x.partials) expected) ∙ (λ i. partial_count (messages_same i) (ends_as.live i) (definitions_of setting.rules))
 
         by : (b : Bool) → (if b then map unstamped_entry replayed.entries else restamped 0 sent replayed.entries) ≡ own.entries → own ≡ (if b then unstamped (run_of setting.rules at_last) else run_of setting.rules at_last)
         by true is =

@@ -9,8 +9,8 @@ use Rattle.fair_semantics.specs.declared.run.Entry.{Entry}
 use Rattle.fair_semantics.specs.Fair.{Sent}
 use Rattle.fair_semantics.specs.Fits.{EntryFits}
 use Rattle.fair_semantics.specs.Linked.{unstamped_entry}
-use Rattle.run_fits.specs.FitsLaw.{SentFits}
-use Rattle.run_fits.proofs.SoundLemmas.{EntrySound}
+use Rattle.run_fit_law.specs.FitsLaw.{SentFits}
+use Rattle.run_fit_law.proofs.SoundLemmas.{EntrySound}
 use Rattle.log_posts.specs.Stamps.{next_stamp}
 use Rattle.log_replay.specs.Expected.{bare, restamped, stamped_in}
 

@@ -15,15 +15,15 @@ use Rattle.fair_semantics.specs.declared.run.Ending.TheVariants as ending
 use Rattle.fair_semantics.specs.declared.run.ActorRun.{ActorRun}
 use Rattle.fair_semantics.specs.declared.run.Run.{Run}
 use Rattle.join_base.specs.Late.{Late}
-use Rattle.fair_semantics.specs.Step.{Setting, State, definitions_of, is_running, letters_of}
+use Rattle.fair_semantics.specs.Step.{Setting, State, definitions_of, is_running, recorded_messages}
 use Rattle.join_base.specs.Late.{late_counts}
 use Rattle.fair_semantics.specs.Fair.{Sent, after_all, partials_of, setting_of}
 use Rattle.fair_semantics.specs.Fits.{PostFits}
 use Rattle.fair_semantics.specs.Linked.{arrived, count_of, numbers_from, posts_of, rest_of, rests_in_order, sources, taken_from, unstamped_entry, IsLinked}
-use Rattle.run_order.specs.Sorted.{entries_in}
+use Rattle.run_order_law.specs.Sorted.{entries_in}
 use Rattle.log_posts.specs.Lates.{count_where}
 use Rattle.log_replay.specs.Expected.{expected_actor, expected_late, expected_run, late_in, may_be_late, posts_beyond, read_entries, read_late, settled, some_late, stamped_in, stamps_sent, stepped}
-use Rattle.log_replay.proofs.BareLemmas.{bare_state, letters_bare}
+use Rattle.log_replay.proofs.BareLemmas.{bare_state, messages_bare}
 use Rattle.log_replay.proofs.TakenLemmas.{or_parts}
 use Rattle.log_replay.proofs.LateLemmas.{actor_count, feed_count, map_numbers, none_late}
 use Rattle.log_replay.proofs.SizeLemmas.{contains_actor, map_to, none_counted, none_listed_of, sized, sized_opening, zero_where}
@@ -161,13 +161,13 @@ module _ (plan : Plan) (feeds : List (List (ℕ × Message))) (run : Run) (linke
       no_count = λ running none. none_late (expected_late plan run actor) (late_same ∙ runs_on running none);
     }
 
-    letters_same : letters_of end.entries ≡ letters_of at_last.entries
-    letters_same =
-        ap letters_of (settled_entries again (expected_late plan run actor))
-        ∙ sym (letters_bare again.entries)
-        ∙ sym (ap (λ (s : State). letters_of s.entries) same_state)
-        ∙ letters_bare at_arrivals.entries
-        ∙ ap letters_of (sym (entries_kept plan feeds run linked actor own there))
+    messages_same : recorded_messages end.entries ≡ recorded_messages at_last.entries
+    messages_same =
+        ap recorded_messages (settled_entries again (expected_late plan run actor))
+        ∙ sym (messages_bare again.entries)
+        ∙ sym (ap (λ (s : State). recorded_messages s.entries) same_state)
+        ∙ messages_bare at_arrivals.entries
+        ∙ ap recorded_messages (sym (entries_kept plan feeds run linked actor own there))
 
     -- the expected run of a linked actor is its run
     pub actor_expected : expected_actor plan run actor ≡ own
@@ -179,7 +179,7 @@ module _ (plan : Plan) (feeds : List (List (ℕ × Message))) (run : Run) (linke
         let counts : late_counts end.late ≡ own.late = ap late_counts (settled_late again late) ∙ late_same in
         let ends : end.ending ≡ own.ending = ends_as.ending ∙ sym s.ending in
         let left : end.live ≡ own.left = ends_as.live ∙ sym s.left in
-        let partials : partials_of setting.rules end ≡ own.partials = (λ i. partial_count (letters_same i) (ends_as.live i) (definitions_of setting.rules)) ∙ sym s.partials in
+        let partials : partials_of setting.rules end ≡ own.partials = (λ i. partial_count (messages_same i) (ends_as.live i) (definitions_of setting.rules)) ∙ sym s.partials in
         λ i. record { entries = entries i; late = counts i; ending = ends i; left = left i; partials = partials i }
 
   pub run_expected : expected_run plan run ≡ run

@@ -17,16 +17,16 @@ use Rattle.fair_semantics.specs.declared.run.Run.{Run}
 use Rattle.fair_semantics.specs.Fair.{after_all, fair, run_of, setting_of}
 use Rattle.fair_semantics.specs.Fits.{ActorRunFits, EntryFits, RunFits}
 use Rattle.fair_semantics.specs.Linked.{same_source}
-use Rattle.fair_semantics.specs.Step.{Arrival, Setting, State, definitions_of, entry_with, fair_step, is_refused, is_running, latest_stamp, letters_with, live_with, opening, running_step, step_by}
+use Rattle.fair_semantics.specs.Step.{Arrival, Setting, State, definitions_of, entry_with, fair_step, is_refused, is_running, latest_stamp, messages_with, live_with, opening, running_step, step_by}
 use Rattle.fair_semantics.proofs.ChainLemmas.{recorded_by}
 use Rattle.fair_semantics.proofs.ListLemmas.{each_from}
 use Rattle.actor_turn.specs.Held.{AreLimits, Held, new_actor}
-use Rattle.run_fits.specs.FitsLaw.{RulesFit}
+use Rattle.run_fit_law.specs.FitsLaw.{RulesFit}
 use Rattle.log_replay.specs.declared.handed.Made.{Made}
 use Rattle.log_replay.specs.declared.handed.Remade.{Remade}
 use Rattle.log_replay.specs.declared.shared.Replayed.{Replayed}
 use Rattle.log_replay.specs.declared.shared.Shared.{Shared}
-use Rattle.run_order.specs.Sorted.{entries_in}
+use Rattle.run_order_law.specs.Sorted.{entries_in}
 use Rattle.log_posts.specs.Posts.{stamped_anew}
 use Rattle.log_replay.specs.Expected.{bare, read_entries, with_entries}
 use Rattle.log_replay.specs.Handed.{AreCounted, IsHanded, IsMade, IsRemade, fired_as, is_recorded, kept_from, kept_of}
@@ -56,7 +56,7 @@ step_records setting state source message = by (is_running state.ending)
     running true = inl refl
     running false =
         let arrival : Arrival = arrival_at state source message in
-        inr (recorded_by setting arrival (choice (letters_with arrival) (live_with arrival) (definitions_of setting.rules)))
+        inr (recorded_by setting arrival (choice (messages_with arrival) (live_with arrival) (definitions_of setting.rules)))
 
     by : (b : Bool) → Recorded (arrival_at state source message) (step_by b setting state source message 0).0.entries
     by false = inl refl

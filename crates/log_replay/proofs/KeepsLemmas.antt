@@ -19,7 +19,7 @@ use Rattle.fair_semantics.specs.Linked.{message_from, messages_of, same_source, 
 use Rattle.fair_semantics.specs.Step.{is_running}
 use Rattle.arrival_log.specs.LogText.{effect_line, end_line, late_line}
 use Rattle.log_replay.specs.Expected.{expected_actor, expected_posts, read_entries}
-use Rattle.log_replay.specs.Fault.{Line, Mark, arrives, ends, entries_lines, lines_of_entry, firing_texts, other, other_line}
+use Rattle.log_replay.specs.Fault.{Line, LineKind, arrives, ends, entries_lines, lines_of_entry, firing_texts, other, other_line}
 use Rattle.log_posts.specs.Posts.{has_message}
 use Rattle.log_posts.specs.Same.{same_message}
 use Rattle.log_replay.specs.Kept.{entry_size, firing_size, link_fault}
@@ -65,7 +65,7 @@ taken_same from (x ∷ before) e is = ap (cons_option (message_from (Actor from)
 
 module _ (plan : Plan) (run : Run) where
   -- what a line says of the posts of one actor
-  abbrev pub LinkKeeps : ℕ → Mark → Type 0
+  abbrev pub LinkKeeps : ℕ → LineKind → Type 0
   LinkKeeps from (arrives actor before entry) = entry.source ≡ Actor from → slice_get (messages_of (expected_posts plan run from actor)) (length (taken_from (Actor from) before)) ≡ Some entry.message
   LinkKeeps from (ends actor) = (expected_actor plan run actor).ending ≡ ending.Running → length (expected_posts plan run from actor) ≤ length (taken_from (Actor from) (read_entries run actor))
   LinkKeeps from other = Unit {0}

@@ -4,14 +4,14 @@ use Rattle.std.specs.Prelude.{List, ◌&&◌}
 use Rattle.script_types.specs.declared.plan.Rule.{Rule}
 use Rattle.fair_semantics.specs.Fair.{partials_of, setting_of}
 use Rattle.fair_semantics.specs.Linked.{arrived, count_of, numbers_from, taken_from}
-use Rattle.fair_semantics.specs.Step.{State, definitions_of, is_running, letters_of}
-use Rattle.run_fits.specs.FitsLaw.{RulesFit}
-use Rattle.run_fits.proofs.LateFitsLemmas.{late_counts_fit, late_in_order}
-use Rattle.run_fits.proofs.LawLemmas.{AreSound, fair_sound, few_partials, small_left}
-use Rattle.run_fits.proofs.RestLemmas.{cleared_count}
-use Rattle.run_fits.proofs.SoundLemmas.{EntrySound, IsSound}
+use Rattle.fair_semantics.specs.Step.{State, definitions_of, is_running, recorded_messages}
+use Rattle.run_fit_law.specs.FitsLaw.{RulesFit}
+use Rattle.run_fit_law.proofs.LateFitsLemmas.{late_counts_fit, late_in_order}
+use Rattle.run_fit_law.proofs.LawLemmas.{AreSound, fair_sound, few_partials, small_left}
+use Rattle.run_fit_law.proofs.RestLemmas.{cleared_count}
+use Rattle.run_fit_law.proofs.SoundLemmas.{EntrySound, IsSound}
 use Rattle.log_reader.proofs.ReadLemmas.{logs_are_one_run}
-use Rattle.run_order.proofs.LawLemmas.{runs_are_schedules}
+use Rattle.run_order_law.proofs.LawLemmas.{runs_are_schedules}
 use Rattle.log_reader.specs.Log.{IsLogOf}
 use Rattle.log_replay.specs.Check.{IsAcceptedLog, IsFirstFault, arrival_count}
 use Rattle.log_replay.specs.Fault.{IsAccepted}
@@ -34,7 +34,7 @@ use Rattle.fair_semantics.proofs.ListLemmas.{each_in}
 use Rattle.fair_semantics.proofs.StampLemmas.{found_in}
 use Rattle.arrival_log.specs.LogText.{log_text}
 use Rattle.log_replay.proofs.BackLemmas.{accepted_has_one_text, expected_is_linked}
-use Rattle.run_order.specs.Sorted.{entries_in}
+use Rattle.run_order_law.specs.Sorted.{entries_in}
 use Rattle.log_posts.specs.Lates.{count_where}
 use Rattle.log_replay.specs.Expected.{bare, expected_actor, expected_late, expected_posts, expected_run, late_in, may_be_late, posts_beyond, read_entries, read_late, settled, some_late, stamps_sent, stepped}
 use Rattle.log_replay.proofs.AcceptedLemmas.{each_mapped}
@@ -106,7 +106,7 @@ module _ (plan : Plan) (run : Run) (fit : RunFits plan run) (typed : IsTyped pla
         by : (b : Bool) → (is_running (stepped plan run actor).ending && some_late late) ≡ b → partials_of rules end ≤ 1000000
         by true e =
             subst (λ (s : State). partials_of rules s ≤ 1000000) (sym (settled_as (stepped plan run actor) late true e))
-            (omega (arith, cleared_count (letters_of (stepped plan run actor).entries) (definitions_of rules) sound.0.can_rest, length-map rules (λ (r : Rule). r.definition), sound.0.few))
+            (omega (arith, cleared_count (recorded_messages (stepped plan run actor).entries) (definitions_of rules) sound.0.can_rest, length-map rules (λ (r : Rule). r.definition), sound.0.few))
         by false e = subst (λ (s : State). partials_of rules s ≤ 1000000) (sym (settled_as (stepped plan run actor) late false e)) (few_partials plan run.version feeds rules run.limits sound.0 (stepped plan run actor) sound.1)
 
     actor_fits : ActorRunFits plan run.version feeds (expected_actor plan run actor)

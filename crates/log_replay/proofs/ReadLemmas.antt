@@ -25,8 +25,8 @@ use Rattle.fair_semantics.specs.StampLaw.{arrivals_of}
 use Rattle.fair_semantics.proofs.FairLemmas.{latest_stamp-more}
 use Rattle.fair_semantics.proofs.ListLemmas.{each_in}
 use Rattle.fair_semantics.proofs.StampLemmas.{Known, ZeroOr, came_known, count_from, count_to-length, entry_known, found_in, max_of, place_in, stamp_of_entry, stamps}
-use Rattle.run_order.proofs.ArrivalLemmas.{length-arrived}
-use Rattle.run_order.specs.Sorted.{entries_in}
+use Rattle.run_order_law.proofs.ArrivalLemmas.{length-arrived}
+use Rattle.run_order_law.specs.Sorted.{entries_in}
 use Rattle.log_posts.specs.Posts.{stamped_as}
 use Rattle.log_posts.specs.Stamps.{next_stamp}
 use Rattle.log_replay.specs.Expected.{bare, expected_actor, expected_late, expected_posts, expected_run, read_entries, restamped, stamped_in, stamps_sent, stepped}

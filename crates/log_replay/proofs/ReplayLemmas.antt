@@ -23,8 +23,8 @@ use Rattle.fair_semantics.specs.StampLaw.{arrivals_of}
 use Rattle.fair_semantics.specs.Step.{State, Stepped, fair_step, opening}
 use Rattle.fair_semantics.proofs.ListLemmas.{each_from}
 use Rattle.actor_turn.specs.Held.{Held, new_actor}
-use Rattle.run_fits.specs.FitsLaw.{RulesFit}
-use Rattle.run_order.specs.Sorted.{entries_in}
+use Rattle.run_fit_law.specs.FitsLaw.{RulesFit}
+use Rattle.run_order_law.specs.Sorted.{entries_in}
 use Rattle.log_replay.specs.Expected.{bare, expected_run, read_entries, stepped}
 use Rattle.log_replay.specs.Law.{AllRulesFit}
 use Rattle.log_replay.specs.declared.settling.Settlement.{Settlement}

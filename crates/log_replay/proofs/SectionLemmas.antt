@@ -18,11 +18,11 @@ use Rattle.fair_semantics.proofs.ChainLemmas.{Records, adds}
 use Rattle.fair_semantics.proofs.ListLemmas.{each_append}
 use Rattle.guard_eval.proofs.ReadyLemmas.{each_at}
 use Rattle.arrival_log.specs.LogText.{end_line, head_line, late_line, line as text_line}
-use Rattle.run_order.proofs.ArrivalLemmas.{length-arrived}
-use Rattle.run_order.specs.Sorted.{entries_in}
+use Rattle.run_order_law.proofs.ArrivalLemmas.{length-arrived}
+use Rattle.run_order_law.specs.Sorted.{entries_in}
 use Rattle.log_posts.specs.Posts.{link_posts}
 use Rattle.log_replay.specs.Expected.{bare, expected_actor, expected_late, expected_posts, expected_run, read_entries, stamped_in, stamps_sent, stepped, unstamped_actor}
-use Rattle.log_replay.specs.Fault.{Keeps, Line, Mark, ends, entries_lines, lines_of_entry, firing_texts, lines_of, other_line, section_lines, sections_from}
+use Rattle.log_replay.specs.Fault.{Keeps, Line, LineKind, ends, entries_lines, lines_of_entry, firing_texts, lines_of, other_line, section_lines, sections_from}
 use Rattle.log_replay.specs.Kept.{earlier, ends_running, entries_size, link_of, links_fault, posts_fault, section_fault, section_size, sections_fault}
 use Rattle.log_replay.proofs.AcceptedLemmas.{each_mapped}
 use Rattle.log_replay.proofs.FirstLemmas.{First, first_all, first_both, first_else, first_pass, first_same}
@@ -68,7 +68,7 @@ module _ (plan : Plan) (run : Run) where
 
   -- ---- all links of a section
 
-  abbrev KeepsBelow : ℕ → Mark → Type 0
+  abbrev KeepsBelow : ℕ → LineKind → Type 0
   KeepsBelow n m = (from : ℕ) → from < n → LinkKeeps plan run from m
 
   module _ (expected : Run) (is : expected ≡ expected_run plan run) (to : ℕ) (there_is : to < length plan.actors) (own : ActorRun) (read : read_entries run to ≡ own.entries) where

@@ -18,14 +18,14 @@ use Rattle.fair_semantics.specs.declared.run.Run.{Run}
 use Rattle.script_types.specs.Typed.{IsTyped}
 use Rattle.fair_semantics.specs.Fits.{ActorRunFits, EntryFits, RunFits, SourceFits}
 use Rattle.fair_semantics.proofs.ListLemmas.{each_from}
-use Rattle.run_fits.proofs.LawLemmas.{rules_sound}
-use Rattle.run_fits.proofs.RestLemmas.{cleared_exact}
+use Rattle.run_fit_law.proofs.LawLemmas.{rules_sound}
+use Rattle.run_fit_law.proofs.RestLemmas.{cleared_exact}
 use Rattle.log_replay.specs.Law.{AllRulesFit}
 use Rattle.fair_semantics.specs.Fair.{Sent, run_of, setting_of}
 use Rattle.fair_semantics.specs.Linked.{arrived, arrived_after, numbers_from, stamp_at, taken_from, unstamped_entry}
-use Rattle.fair_semantics.specs.Step.{State, definitions_of, is_running, letters_of}
-use Rattle.run_order.proofs.ArrivalLemmas.{length-arrived}
-use Rattle.run_order.specs.Sorted.{entries_in}
+use Rattle.fair_semantics.specs.Step.{State, definitions_of, is_running, recorded_messages}
+use Rattle.run_order_law.proofs.ArrivalLemmas.{length-arrived}
+use Rattle.run_order_law.specs.Sorted.{entries_in}
 use Rattle.log_posts.specs.Lates.{actor_counts, count_where, lates_made}
 use Rattle.log_posts.specs.Posts.{link_posts, stamped_anew}
 use Rattle.log_posts.specs.Stamps.{HasLink, link_at, next_stamp, posts_from, stamps_behind, stamps_in, with_stamps}
@@ -124,7 +124,7 @@ module _ (plan : Plan) (run : Run) (runs : List ActorRun) (many : length run.act
       ap (λ (ns : List ℕ). feeds ++ late_list (λ a. Actor a) 0 ns) counts
 
   -- whether it was spent by a late message
-  settled_is : (actor : ℕ) (rules : List Rule) (state : State) (late : Late) (definitions : ℕ) → definitions ≡ partial_count (letters_of state.entries) [] (definitions_of rules) → made.settled_run (run_of rules state) (late_counts late) definitions ≡ run_of rules (settled state late)
+  settled_is : (actor : ℕ) (rules : List Rule) (state : State) (late : Late) (definitions : ℕ) → definitions ≡ partial_count (recorded_messages state.entries) [] (definitions_of rules) → made.settled_run (run_of rules state) (late_counts late) definitions ≡ run_of rules (settled state late)
   settled_is actor rules state late definitions count =
       ap (λ (b : Bool). if is_running state.ending && b then spent else late_run) (sym (some_listed late)) ∙ by (is_running state.ending && some_late late)
     where
@@ -169,7 +169,7 @@ module _ (plan : Plan) (run : Run) (runs : List ActorRun) (many : length run.act
         by false = ap (λ (xs : List Sent). with_stamps (stamps_behind 0 xs) entries) arrives ∙ restamped_by 0 sent entries (omega (arith, few, length-arrived (stamps_sent plan run to) [] read.entries))
 
     -- settled, the run is the expected run of the actor
-    pub finished_is : (definitions : ℕ) → definitions ≡ partial_count (letters_of (stepped plan run to).entries) [] (definitions_of (setting_of plan to run.limits).rules)
+    pub finished_is : (definitions : ℕ) → definitions ≡ partial_count (recorded_messages (stepped plan run to).entries) [] (definitions_of (setting_of plan to run.limits).rules)
         → made.finished (made_run plan run to) (made.settlement_of runs run to (made_run plan run to) read) definitions ≡ expected_actor plan run to
     finished_is definitions count =
         let rules = (setting_of plan to run.limits).rules in
@@ -186,7 +186,7 @@ module _ (plan : Plan) (run : Run) (runs : List ActorRun) (many : length run.act
 
   -- the runs of all actors
   finished_from : (to m : ℕ) (reads : List ActorRun) → to + m ≡ length plan.actors → length reads ≡ m → ((k : ℕ) → slice_get run.actors (to + k) ≡ slice_get reads k) → AllByRecursion (λ own. AllByRecursion (λ e. HasLink (length run.actors) e.source) own.entries) reads
-      → ((a : ℕ) → definition_count plan a ≡ partial_count (letters_of (stepped plan run a).entries) [] (definitions_of (setting_of plan a run.limits).rules))
+      → ((a : ℕ) → definition_count plan a ≡ partial_count (recorded_messages (stepped plan run a).entries) [] (definitions_of (setting_of plan a run.limits).rules))
       → made.finished_runs plan to (made_runs plan run to m) (made.settlements_of runs run to (made_runs plan run to m) reads) ≡ map (expected_actor plan run) (numbers_from to m)
   finished_from to zero reads whole count at linked definitions = refl
   finished_from to (suc m) [] whole count at linked definitions = absurd (omega arith)
@@ -201,11 +201,11 @@ pub replay_is : (plan : Plan) (run : Run) (runs : List ActorRun) → IsTyped pla
     → AllByRecursion (λ own. AllByRecursion (λ e. HasLink (length run.actors) e.source) own.entries) run.actors
     → made.finished_runs plan 0 runs (made.settlements_of runs run 0 runs run.actors) ≡ (expected_run plan run).actors
 replay_is plan run runs typed fit texts are linked =
-    let count : (a : ℕ) → definition_count plan a ≡ partial_count (letters_of (stepped plan run a).entries) [] (definitions_of (setting_of plan a run.limits).rules) =
+    let count : (a : ℕ) → definition_count plan a ≡ partial_count (recorded_messages (stepped plan run a).entries) [] (definitions_of (setting_of plan a run.limits).rules) =
     λ a.
     let rules : List Rule = (setting_of plan a run.limits).rules in
     let sound = rules_sound plan run.version a typed fit.replies (texts a) in
-    sym (cleared_exact (letters_of (stepped plan run a).entries) (definitions_of rules) sound.can_rest ∙ length-map rules (λ (r : Rule). r.definition)) in
+    sym (cleared_exact (recorded_messages (stepped plan run a).entries) (definitions_of rules) sound.can_rest ∙ length-map rules (λ (r : Rule). r.definition)) in
     ap (λ (rs : List ActorRun). made.finished_runs plan 0 rs (made.settlements_of runs run 0 rs run.actors)) are
     ∙ finished_from plan run runs fit.actors are 0 (length plan.actors) run.actors (omega arith) fit.actors (λ k. let e : 0 + k ≡ k = omega arith in ap (slice_get run.actors) e) linked count
 

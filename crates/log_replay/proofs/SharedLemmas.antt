@@ -9,7 +9,7 @@ use Rattle.fair_semantics.specs.declared.run.ActorRun.{ActorRun}
 use Rattle.fair_semantics.specs.declared.run.Entry.{Entry}
 use Rattle.fair_semantics.specs.Linked.{entry_posts}
 use Rattle.log_replay.specs.declared.shared.Shared.{Shared}
-use Rattle.run_order.specs.Sorted.{entries_in}
+use Rattle.run_order_law.specs.Sorted.{entries_in}
 use Rattle.log_posts.specs.Posts.{link_posts, stamped_as, stamped_anew}
 use Rattle.log_replay.specs.Expected.{with_entries}
 use Rattle.fair_semantics.specs.declared.run.Limits.{Limits}

@@ -12,11 +12,11 @@ use Rattle.fair_semantics.specs.declared.run.Limits.{Limits}
 use Rattle.fair_semantics.specs.declared.run.Run.{Run}
 use Rattle.fair_semantics.specs.Fair.{Sent}
 use Rattle.fair_semantics.specs.Linked.{arrived, entry_posts, numbers_from, unstamped_entry}
-use Rattle.run_order.proofs.ArrivalLemmas.{length-arrived}
+use Rattle.run_order_law.proofs.ArrivalLemmas.{length-arrived}
 use Rattle.fair_semantics.specs.Step.{is_running}
 use Rattle.log_replay.specs.declared.settling.Settlement.{Settlement}
 use Rattle.log_replay.specs.declared.shared.Shared.{Shared}
-use Rattle.run_order.specs.Sorted.{entries_in}
+use Rattle.run_order_law.specs.Sorted.{entries_in}
 use Rattle.log_posts.specs.Posts.{link_posts, stamped_as, stamped_anew}
 use Rattle.log_posts.specs.Stamps.{next_stamp, posts_from, stamps_behind, stamps_in, with_stamps}
 use Rattle.log_replay.specs.Expected.{with_entries}

@@ -4,7 +4,7 @@ use Rattle.script_types.specs.declared.plan.Plan.{Plan}
 use Rattle.fair_semantics.specs.declared.run.Run.{Run}
 use Rattle.fair_semantics.specs.Linked.{IsLinked}
 use Rattle.fair_semantics.specs.StampLaw.{arrivals_of}
-use Rattle.run_order.specs.Order.{IsScheduled}
+use Rattle.run_order_law.specs.Order.{IsScheduled}
 use Rattle.log_reader.specs.Log.{IsLogOf, IsNoLog}
 use Rattle.log_reader.specs.Places.{IsFaultLine}
 use Rattle.log_replay.specs.declared.refusal.LogRefusal.{LogRefusal}

@@ -14,7 +14,7 @@ use Rattle.join_base.specs.Late.{Late}
 use Rattle.fair_semantics.specs.Step.{State, is_running}
 use Rattle.fair_semantics.specs.Fair.{Sent, fair, run_of, setting_of}
 use Rattle.fair_semantics.specs.Linked.{arrived, count_of, entry_posts, numbers_from, taken_from, unstamped_entry}
-use Rattle.run_order.specs.Sorted.{entries_in}
+use Rattle.run_order_law.specs.Sorted.{entries_in}
 use Rattle.log_posts.specs.Lates.{count_where}
 use Rattle.log_posts.specs.Posts.{stamped_as, stamped_anew}
 use Rattle.log_posts.specs.Stamps.{next_stamp}

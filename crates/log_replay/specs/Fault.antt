@@ -15,13 +15,13 @@ use Rattle.log_replay.specs.Expected.{expected_actor, expected_posts, expected_r
 -- ---- the lines of a run
 
 -- what a line is: an arrival at an actor behind these entries, the end of an actor, or another
-pub data Mark : Type 0 where
-  arrives : (actor : ℕ) (before : List Entry) (entry : Entry) → Mark
-  ends : (actor : ℕ) → Mark
-  other : Mark
+pub data LineKind : Type 0 where
+  arrives : (actor : ℕ) (before : List Entry) (entry : Entry) → LineKind
+  ends : (actor : ℕ) → LineKind
+  other : LineKind
 
 pub record Line : Type 0 where
-  pub mark : Mark
+  pub mark : LineKind
   pub text : List ℕ
 
 abbrev pub other_line : List ℕ → Line
@@ -67,7 +67,7 @@ IsPosted plan run actor before entry = (from : ℕ) → entry.source ≡ Actor f
 abbrev pub LacksNone : Plan → Run → ℕ → Type 0
 LacksNone plan run actor = (expected_actor plan run actor).ending ≡ Running → (from : ℕ) → from < length plan.actors → length (expected_posts plan run from actor) ≤ length (taken_from (Actor from) (read_entries run actor))
 
-abbrev pub Keeps : Plan → Run → Mark → Type 0
+abbrev pub Keeps : Plan → Run → LineKind → Type 0
 Keeps plan run (arrives actor before entry) = IsPosted plan run actor before entry
 Keeps plan run (ends actor) = LacksNone plan run actor
 Keeps plan run other = Unit {0}

@@ -9,7 +9,7 @@ use Rattle.fair_semantics.specs.declared.run.Firing.{Firing}
 use Rattle.fair_semantics.specs.declared.run.Run.{Run}
 use Rattle.fair_semantics.specs.Linked.{numbers_from, same_source}
 use Rattle.fair_semantics.specs.Step.{is_running}
-use Rattle.run_order.specs.Sorted.{entries_in}
+use Rattle.run_order_law.specs.Sorted.{entries_in}
 use Rattle.log_posts.specs.Posts.{has_message, link_posts}
 
 -- ---- the first line that does not hold

@@ -9,8 +9,8 @@ use Rattle.fair_semantics.specs.declared.run.Run.{Run}
 use Rattle.fair_semantics.specs.Fits.{PostFits, RunFits}
 use Rattle.fair_semantics.specs.Linked.{IsLinked}
 use Rattle.arrival_log.specs.LogText.{log_text}
-use Rattle.run_fits.specs.FitsLaw.{RulesFit}
-use Rattle.run_order.specs.Order.{IsScheduled}
+use Rattle.run_fit_law.specs.FitsLaw.{RulesFit}
+use Rattle.run_order_law.specs.Order.{IsScheduled}
 use Rattle.log_replay.specs.Expected.{expected_run}
 use Rattle.log_replay.specs.Fault.{Line, IsAccepted, lines_of}
 use Rattle.log_replay.specs.Feeds.{feeds_shown}

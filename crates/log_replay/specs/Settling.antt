@@ -11,7 +11,7 @@ use Rattle.fair_semantics.specs.declared.run.Run.{Run}
 use Rattle.fair_semantics.specs.Linked.{numbers_from}
 use Rattle.fair_semantics.specs.Step.{is_running}
 use Rattle.log_replay.specs.declared.settling.Settlement.{Settlement}
-use Rattle.run_order.specs.Sorted.{entries_in}
+use Rattle.run_order_law.specs.Sorted.{entries_in}
 use Rattle.log_posts.specs.Lates.{lates_made}
 use Rattle.log_posts.specs.Posts.{link_posts}
 use Rattle.log_posts.specs.Stamps.{stamps_in, with_stamps}

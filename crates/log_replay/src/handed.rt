@@ -7,7 +7,7 @@ ghost use Rattle.script_types.specs.Typed.{IsTyped};
 ghost use Rattle.fair_semantics.specs.Fits.{RunFits};
 ghost use Rattle.fair_semantics.specs.Step.{fair_step, latest_stamp};
 ghost use Rattle.actor_turn.specs.Held.{AreLimits};
-ghost use Rattle.run_fits.specs.FitsLaw.{RulesFit};
+ghost use Rattle.run_fit_law.specs.FitsLaw.{RulesFit};
 ghost use Rattle.log_posts.specs.Posts.{stamped_anew};
 ghost use Rattle.log_replay.specs.Handed.{AreCounted, IsHanded, IsMade, IsRemade, is_recorded};
 ghost use Rattle.log_posts.specs.Stamps.{with_stamps};
@@ -46,11 +46,14 @@ fn arrives_as_read<L: Ledger>(
 ) -> Result<bool, NoMemory>
     requires exists { HasCount actor.old.state.late entry.source }
     requires many { length actor.old.outbox ≡ count }
-    ensures step { OnOk result (actor.new.state ≡ (fair_step actor.old.setting actor.old.state entry.source entry.message 0).0) }
+    ensures step { OnOk result (actor.new.state ≡ (fair_step actor.old.setting actor.old.state entry.source
+        entry.message 0).0) }
     ensures setting { actor.new.setting ≡ actor.old.setting }
-    ensures sources { OnOk result ((other : Source) → HasCount actor.old.state.late other → HasCount actor.new.state.late other) }
+    ensures sources { OnOk result ((other : Source) → HasCount actor.old.state.late other
+        → HasCount actor.new.state.late other) }
     ensures many { OnOk result (length actor.new.outbox ≡ count) }
-    ensures as_read { IfOk result (λ same. same ≡ true → actor.new.state.entries ≡ actor.old.state.entries ++ stamped_anew entry (max (latest_stamp actor.old.state.entries) 0 + 1) ∷ []) }
+    ensures as_read { IfOk result (λ same. same ≡ true → actor.new.state.entries ≡ actor.old.state.entries
+        ++ stamped_anew entry (max (latest_stamp actor.old.state.entries) 0 + 1) ∷ []) }
 {
     let Entry {
         number,

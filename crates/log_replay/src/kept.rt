@@ -1,7 +1,7 @@
 //! What the lines of a run say of posts, beside its expected run. Lines are counted from 0.
 ghost use Rattle.std.specs.Prelude.{◌≡◌, ℕ, ◌+◌, ◌^◌, ◌<◌, ◌≤◌, length, slice_get};
 ghost use Rattle.fair_semantics.specs.Step.{is_running};
-ghost use Rattle.run_order.specs.Sorted.{entries_in};
+ghost use Rattle.run_order_law.specs.Sorted.{entries_in};
 ghost use Rattle.log_replay.specs.Kept.{earlier, entries_size, entry_size, link_fault, posts_fault, section_fault, section_size, sections_size};
 ghost use Rattle.log_replay.specs.Shared.{runs_at, shown_run};
 

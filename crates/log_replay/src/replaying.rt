@@ -4,7 +4,7 @@ ghost use Rattle.script_types.specs.Typed.{IsTyped};
 ghost use Rattle.fair_semantics.specs.Fair.{run_of, setting_of};
 ghost use Rattle.fair_semantics.specs.Fits.{RunFits};
 ghost use Rattle.fair_semantics.specs.Linked.{numbers_from};
-ghost use Rattle.run_fits.specs.FitsLaw.{RulesFit};
+ghost use Rattle.run_fit_law.specs.FitsLaw.{RulesFit};
 ghost use Rattle.log_replay.specs.Expected.{expected_run, stepped};
 ghost use Rattle.log_replay.specs.Handed.{effects_at, target_at};
 ghost use Rattle.log_replay.specs.Law.{AllRulesFit};

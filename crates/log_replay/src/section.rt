@@ -46,7 +46,8 @@ fn behind_entries(
     stamps: &[u64],
 ) -> Result<Progress, NoMemory>
     requires within { IsWithin bytes.now start }
-    ensures progress { IfOk result (λ p. p ≡ behind bytes.now start (flat_map (entry_lines plan.now version) (with_stamps stamps.now entries.now))) }
+    ensures progress { IfOk result (λ p. p ≡ behind bytes.now start (flat_map (entry_lines plan.now version)
+        (with_stamps stamps.now entries.now))) }
     ensures within { IfOk result (IsWithin bytes.now) }
 {
     let mut text = Bytes::new(alloc);
@@ -72,7 +73,8 @@ fn behind_section(
     expected: &Shared,
 ) -> Result<Progress, NoMemory>
     requires within { IsWithin bytes.now start }
-    ensures progress { IfOk result (λ p. p ≡ behind bytes.now start (actor_lines plan.now version named.now (shown read.now expected.now))) }
+    ensures progress { IfOk result (λ p. p ≡ behind bytes.now start (actor_lines plan.now version named.now
+        (shown read.now expected.now))) }
     ensures within { IfOk result (IsWithin bytes.now) }
 {
     let mut heading = Bytes::new(alloc);
@@ -109,7 +111,8 @@ pub(crate) fn parted_at(
 ) -> Result<Option<u64>, NoMemory>
     requires many { length expected.now ≡ length plan.now.actors }
     requires reads { length run.now.actors ≡ length plan.now.actors }
-    ensures lines { IfOk result (λ found. found ≡ lines_before 0 bytes.now (log_text plan.now (shown_run run.now expected.now))) }
+    ensures lines { IfOk result (λ found. found ≡ lines_before 0 bytes.now
+        (log_text plan.now (shown_run run.now expected.now))) }
     ensures few { IfOk result (λ found. IfSome found (λ line. line ≤ length bytes.now)) }
 {
     let mut progress = behind_head(alloc, bytes, run)?;

@@ -22,7 +22,8 @@ fn links_to<'a>(
     to: u32,
 ) -> Result<Items<Link<'a>>, NoMemory>
     requires few { length run.now.actors ≤ 32 }
-    ensures { IfOk result (λ links. links ≡ links_to (shown_all run.now.actors made.now) run.now to 0 (length run.now.actors)) }
+    ensures { IfOk result (λ links. links ≡ links_to (shown_all run.now.actors made.now) run.now to 0
+        (length run.now.actors)) }
 {
     let mut links = Items::new(alloc);
     let mut from: usize = 0;
@@ -97,7 +98,8 @@ fn settlement_of(
     requires few { length run.now.actors ≤ 32 }
     requires feeds { run.now.feeds ≤ 16 }
     requires exist { AllByRecursion (λ entry. HasLink (length run.now.actors) entry.source) read.now.entries }
-    ensures { IfOk result (λ s. s ≡ settlement_of (shown_all run.now.actors made.now) run.now to (shown read.now own.now) read.now) }
+    ensures { IfOk result (λ s. s ≡ settlement_of (shown_all run.now.actors made.now) run.now to
+        (shown read.now own.now) read.now) }
 {
     let links = links_to(alloc, made, run, to)?;
     let entries = read.entries.as_slice();
@@ -168,8 +170,10 @@ pub(crate) fn settlements_of(
     requires few { length run.now.actors ≤ 32 }
     requires feeds { run.now.feeds ≤ 16 }
     requires many { length made.now ≡ length run.now.actors }
-    requires exist { AllByRecursion (λ own. AllByRecursion (λ entry. HasLink (length run.now.actors) entry.source) own.entries) run.now.actors }
-    ensures { IfOk result (λ ss. ss ≡ settlements_shown (shown_all run.now.actors made.now) run.now 0 made.now run.now.actors) }
+    requires exist { AllByRecursion (λ own. AllByRecursion (λ entry. HasLink (length run.now.actors) entry.source)
+        own.entries) run.now.actors }
+    ensures { IfOk result (λ ss. ss ≡ settlements_shown (shown_all run.now.actors made.now) run.now 0 made.now
+        run.now.actors) }
 {
     let mut settlements = Items::new(alloc);
     for (to, read) in run.actors.as_slice().iter().enumerate() {

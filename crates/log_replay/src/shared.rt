@@ -1,6 +1,6 @@
 //! The runs of actors beside those that were read: what is the same is kept once.
 ghost use Rattle.std.specs.Prelude.{◌≡◌, slice_get, IfOk};
-ghost use Rattle.run_order.specs.Sorted.{entries_in};
+ghost use Rattle.run_order_law.specs.Sorted.{entries_in};
 ghost use Rattle.log_posts.specs.Posts.{link_posts};
 ghost use Rattle.log_replay.specs.Shared.{kept, plain, plain_at, shown_all, whole, without_entries};
 
@@ -107,7 +107,8 @@ pub(crate) fn posts_shown<'a>(
     from: usize,
     to: u32,
 ) -> Link<'a>
-    ensures { result ≡ link_posts to (entries_in (slice_get (shown_all reads.now runs.now) from)) (entries_in (slice_get reads.now from)) }
+    ensures { result ≡ link_posts to (entries_in (slice_get (shown_all reads.now runs.now) from))
+        (entries_in (slice_get reads.now from)) }
 {
     let made = plain_at(reads, runs, from);
     let lines = entries_at(reads, from);

@@ -51,7 +51,8 @@ fn other_row(
     feeds: &FeedList,
     difference: Difference,
 ) -> Result<Reply, Stop>
-    ensures reply { IsReplied (audited_as plan.now bytes.now feeds.now (Err (AuditRefusal.Row difference))) (replied_with result) }
+    ensures reply { IsReplied (audited_as plan.now bytes.now feeds.now (Err (AuditRefusal.Row difference)))
+        (replied_with result) }
     ensures read { result ≢ Err Stop.ReadFault }
     ensures showable { IfOk result IsShowable }
 {
@@ -118,7 +119,8 @@ fn audit_bytes(alloc: Global, plan: &Plan, bytes: &[u8], feeds: &FeedList) -> Re
 
 // Fetches a log.
 fn load_bytes<I: Inputs>(alloc: Global, inputs: &mut I, name: &Word) -> Result<Bytes, Stop>
-    ensures told { Tells (I.tells inputs.old) (I.tells inputs.new) (λ before now. LoadsBytes before now name.now result) }
+    ensures told { Tells (I.tells inputs.old) (I.tells inputs.new) (λ before now. LoadsBytes before now
+        name.now result) }
     ensures cause { LoadCause (I.faults inputs.old) (I.faults inputs.new) result }
 {
     match inputs.fetch(alloc, name.as_str(), MAX_LOG) {
@@ -137,7 +139,8 @@ fn audit_feeds<I: Inputs>(
 ) -> Result<Reply, Stop>
     requires typed { IsTyped plan.now }
     requires few { length names.now ≤ 16 }
-    ensures told { Tells (I.tells inputs.old) (I.tells inputs.new) (λ before now. AuditsFeeds plan.now bytes.now (words_in names.now) before now result) }
+    ensures told { Tells (I.tells inputs.old) (I.tells inputs.new) (λ before now. AuditsFeeds plan.now bytes.now
+        (words_in names.now) before now result) }
     ensures cause { LoadCause (I.faults inputs.old) (I.faults inputs.new) result }
     ensures showable { IfOk result IsShowable }
 {
@@ -155,7 +158,8 @@ pub(crate) fn audit_reply<I: Inputs>(
     words: &AuditWords<'_>,
 ) -> Result<Reply, Stop>
     requires few { length (words_in words.now.feeds.items) ≤ 16 }
-    ensures told { Tells (I.tells inputs.old) (I.tells inputs.new) (λ before now. Replies (audit_in words.now) before now result) }
+    ensures told { Tells (I.tells inputs.old) (I.tells inputs.new) (λ before now. Replies (audit_in words.now)
+        before now result) }
     ensures cause { LoadCause (I.faults inputs.old) (I.faults inputs.new) result }
     ensures showable { IfOk result IsShowable }
 {

@@ -51,7 +51,8 @@ pub(crate) fn why_reply<I: Inputs>(
     inputs: &mut I,
     words: &WhyWords<'_>,
 ) -> Result<Reply, Stop>
-    ensures told { Tells (I.tells inputs.old) (I.tells inputs.new) (λ before now. Replies (why_in words.now) before now result) }
+    ensures told { Tells (I.tells inputs.old) (I.tells inputs.new) (λ before now. Replies (why_in words.now)
+        before now result) }
     ensures cause { LoadCause (I.faults inputs.old) (I.faults inputs.new) result }
     ensures showable { IfOk result IsShowable }
 {

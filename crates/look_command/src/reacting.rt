@@ -81,7 +81,8 @@ pub(crate) fn reactions_reply<I: Inputs>(
     inputs: &mut I,
     words: &ReactionsWords<'_>,
 ) -> Result<Reply, Stop>
-    ensures told { Tells (I.tells inputs.old) (I.tells inputs.new) (λ before now. Replies (reactions_in words.now) before now result) }
+    ensures told { Tells (I.tells inputs.old) (I.tells inputs.new) (λ before now. Replies (reactions_in words.now)
+        before now result) }
     ensures cause { LoadCause (I.faults inputs.old) (I.faults inputs.new) result }
     ensures showable { IfOk result IsShowable }
 {

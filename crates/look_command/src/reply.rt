@@ -52,7 +52,8 @@ pub fn reply_of<I: Inputs>(
     inputs: &mut I,
 ) -> Result<Reply, Stop>
     requires few { HasFewFeeds (request_in request.now) }
-    ensures told { Tells (I.tells inputs.old) (I.tells inputs.new) (λ before now. Replies (request_in request.now) before now result) }
+    ensures told { Tells (I.tells inputs.old) (I.tells inputs.new) (λ before now. Replies (request_in request.now)
+        before now result) }
     ensures cause { LoadCause (I.faults inputs.old) (I.faults inputs.new) result }
     ensures showable { IfOk result IsShowable }
 {

@@ -78,7 +78,8 @@ pub(crate) fn load_run<I: Inputs>(
     name: &Word,
 ) -> Result<Run, Stop>
     requires typed { IsTyped plan.now }
-    ensures told { Tells (I.tells inputs.old) (I.tells inputs.new) (λ before now. LoadsRun plan.now before now name.now result) }
+    ensures told { Tells (I.tells inputs.old) (I.tells inputs.new) (λ before now. LoadsRun plan.now before now
+        name.now result) }
     ensures cause { LoadCause (I.faults inputs.old) (I.faults inputs.new) result }
     ensures fits { IfOk result (RunFits plan.now) }
 {

@@ -23,7 +23,8 @@ fn prepare_request<I: Inputs>(
     inputs: &mut I,
 ) -> Result<(Status, Bytes), Unanswered>
     requires few { HasFewFeeds (request_in request.now) }
-    ensures told { Tells (I.tells inputs.old) (I.tells inputs.new) (λ before now. PreparesRequest (request_in request.now) before now result) }
+    ensures told { Tells (I.tells inputs.old) (I.tells inputs.new) (λ before now. PreparesRequest
+        (request_in request.now) before now result) }
     ensures cause { PrepareCause (I.faults inputs.old) (I.faults inputs.new) result }
     ensures settled { IfOk result (λ p. IsSettled p.0) }
 {
@@ -47,7 +48,8 @@ fn prepare<I: Inputs>(
     words: &WordList,
     inputs: &mut I,
 ) -> Result<(Status, Bytes), Unanswered>
-    ensures told { Tells (I.tells inputs.old) (I.tells inputs.new) (λ before now. Prepares words.now before now result) }
+    ensures told { Tells (I.tells inputs.old) (I.tells inputs.new) (λ before now. Prepares words.now
+        before now result) }
     ensures cause { PrepareCause (I.faults inputs.old) (I.faults inputs.new) result }
     ensures answered { IfOk result (λ p. IsAnswered p.0) }
     ensures words { IfOk result (λ p. TestsWords words.now p.0) }
@@ -85,10 +87,12 @@ pub fn look_main<I: Inputs, S: CountingSink>(
     out: &mut S,
 ) -> Status
     // The status and the bytes written are those of the verdict on the words and the files.
-    ensures answer { AnswersWhereTold words.now (I.tells inputs.old) (S.taken out.old) (I.tells inputs.new) (S.taken out.new) result }
+    ensures answer { AnswersWhereTold words.now (I.tells inputs.old) (S.taken out.old) (I.tells inputs.new)
+        (S.taken out.new) result }
 
     // Inputs that tell were asked only for names that the order fetches, whatever the sink tells.
-    ensures fetches { Tells (I.tells inputs.old) (I.tells inputs.new) (λ before now. FetchesInOrder words.now before now) }
+    ensures fetches { Tells (I.tells inputs.old) (I.tells inputs.new) (λ before now. FetchesInOrder
+        words.now before now) }
 
     // Each count of faults rises where its fault is answered, and is as before at every other answer.
     ensures reads { CountsFault Status.ReadFault result (I.faults inputs.old) (I.faults inputs.new) }
@@ -101,7 +105,8 @@ pub fn look_main<I: Inputs, S: CountingSink>(
 
     // Where no fault was counted, the status is that of the verdict that the words and the files have, or there was no
     // memory.
-    ensures complete { CompletesWhereTold words.now (I.tells inputs.old) (I.faults inputs.old) (I.faults inputs.new) (S.faults out.old) (S.faults out.new) result }
+    ensures complete { CompletesWhereTold words.now (I.tells inputs.old) (I.faults inputs.old) (I.faults inputs.new)
+        (S.faults out.old) (S.faults out.new) result }
 
     ensures words_refused { RefusesWords words.now result }
     ensures usage_only { result ≡ Status.Usage → request_of words.now ≡ None }

@@ -5,7 +5,7 @@ use Rattle.std.specs.List.Sorted.{IsStrictlyIncreasing}
 use Rattle.join_base.specs.Stamps.{greatest_stamp}
 use Rattle.join_base.specs.declared.message.Message.{Message}
 use Rattle.join_base.specs.declared.message.Source.{Source}
-use Rattle.mailbox_core.specs.declared.mailbox.Mark.{Mark}
+use Rattle.mailbox_core.specs.declared.mailbox.Postmark.{Postmark}
 use Rattle.join_base.specs.Late.{Late}
 
 -- a recorded message: its source, its own stamp, and the stamp that it carried
@@ -22,7 +22,7 @@ pub record Mail : Type 0 where
   pub late : Late
 
 -- what contracts see of a mailbox: what it holds, and for how many more arrivals there is room
-pub record Held : Type 0 where
+pub record HeldMail : Type 0 where
   pub mail : Mail
   pub room : ℕ
 
@@ -33,15 +33,15 @@ no_mail feeds actors = record { arrivals = []; live = []; late = record { feeds 
 abbrev pub source_in : Received → Source
 source_in arrival = arrival.source
 
-abbrev pub letters_of : List Received → List Message
-letters_of arrivals = map (λ arrival. arrival.message) arrivals
+abbrev pub recorded_messages : List Received → List Message
+recorded_messages arrivals = map (λ arrival. arrival.message) arrivals
 
 -- what is recorded beside each message
-abbrev pub marks_of : List Received → List Mark
-marks_of arrivals = map (λ arrival. record { source = arrival.source; stamp = arrival.stamp; came = arrival.came }) arrivals
+abbrev pub postmarks_of : List Received → List Postmark
+postmarks_of arrivals = map (λ arrival. record { source = arrival.source; stamp = arrival.stamp; came = arrival.came }) arrivals
 
 -- the messages, each with what is recorded beside it
-abbrev pub received_of : List Message → List Mark → List Received
+abbrev pub received_of : List Message → List Postmark → List Received
 received_of [] marks = []
 received_of (message ∷ messages) [] = []
 received_of (message ∷ messages) (mark ∷ marks) =

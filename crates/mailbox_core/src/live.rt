@@ -7,8 +7,8 @@ use join_base::{Items, NoMemory};
 use std::alloc::Global;
 use std::marker::Model;
 
-/// The numbers from 1 up to a count, without those that were taken out. Any of them is found and taken out at its place,
-/// and the list of those that are left is made without memory.
+/// The numbers from 1 up to a count, without those that were taken out. Any of them is found and taken out at its
+/// place, and the list of those that are left is made without memory.
 #[derive(Drop)]
 pub struct LiveNumbers {
     // The cell at place n - 1 has n, or 0 once n was taken out.

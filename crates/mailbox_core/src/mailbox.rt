@@ -4,7 +4,7 @@ ghost use Rattle.join_base.specs.Stamps.{greatest_stamp};
 ghost use Rattle.join_base.specs.Late.{HasCount, late_count, late_counts, late_more};
 ghost use Rattle.join_base.specs.Taken.{contains_number, without};
 ghost use Rattle.mailbox_core.specs.Inside.{last_stamp};
-ghost use Rattle.mailbox_core.specs.Mail.{IsRecorded, IsSound, latest, letters_of, marks_of, no_mail, source_in, with_arrival, with_late, with_live, without_last};
+ghost use Rattle.mailbox_core.specs.Mail.{IsRecorded, IsSound, latest, recorded_messages, postmarks_of, no_mail, source_in, with_arrival, with_late, with_live, without_last};
 
 use crate::late::LateCounts;
 use crate::live::LiveNumbers;
@@ -15,41 +15,41 @@ use std::marker::Model;
 /// What is recorded beside a message: its source, its own stamp, and the stamp that it carried. Both have 32 bits at
 /// most.
 #[derive(Clone, Copy, PartialEq, Eq, Debug)]
-pub struct Mark {
+pub struct Postmark {
     pub source: Source,
     pub stamp: u32,
     pub came: u32,
 }
 
 // Each arrival has one.
-const _: () = prove!(size_of::<Mark>() == 16);
+const _: () = prove!(size_of::<Postmark>() == 16);
 
 /// The arrivals of an actor, which are numbered from 1.
 #[derive(Drop)]
 pub struct Mailbox {
-    letters: Vec<Message>,
-    // The mark of each letter.
-    marks: Vec<Mark>,
+    messages: Vec<Message>,
+    // The mark of each message.
+    marks: Vec<Postmark>,
     live: LiveNumbers,
     late: LateCounts,
 }
 
 impl Model for Mailbox {
-    ghost use Rattle.mailbox_core.specs.Mail.{Held};
+    ghost use Rattle.mailbox_core.specs.Mail.{HeldMail};
     ghost use Rattle.mailbox_core.specs.Inside.{held_of, IsKept};
 
-    ghost Value = { Held };
+    ghost Value = { HeldMail };
 
     ghost view = { held_of };
 
     ghost invariant = { IsKept };
 }
 
-/// What a mailbox had. The letters and the marks are as many, and belong together by their places.
+/// What a mailbox had. The messages and the marks are as many, and belong together by their places.
 #[derive(Drop)]
 pub struct Parts {
-    pub letters: Items<Message>,
-    pub marks: Items<Mark>,
+    pub messages: Items<Message>,
+    pub marks: Items<Postmark>,
     /// The unconsumed numbers, ascending.
     pub left: Items<u32>,
     /// The late counts above 0, those of the feeds first.
@@ -63,7 +63,7 @@ impl Mailbox {
     {
         let late = LateCounts::new(alloc, feeds, actors)?;
         Ok(Mailbox {
-            letters: Vec::new(alloc),
+            messages: Vec::new(alloc),
             marks: Vec::new(alloc),
             live: LiveNumbers::new(alloc),
             late,
@@ -76,7 +76,7 @@ impl Mailbox {
         ensures same { self.new.mail ≡ self.old.mail }
         ensures kept { self.old.room ≤ self.new.room }
     {
-        self.letters.reserve(1)?;
+        self.messages.reserve(1)?;
         self.marks.reserve(1)?;
         self.live.reserve_one()
     }
@@ -94,12 +94,12 @@ impl Mailbox {
         ensures room { self.old.room ≤ self.new.room + 1 }
     {
         let stamp = latest_stamp(&self.marks).max(came) + 1;
-        let mark = Mark {
+        let mark = Postmark {
             source,
             stamp: stamp as u32,
             came: came as u32,
         };
-        self.letters.push(message).unwrap();
+        self.messages.push(message).unwrap();
         self.marks.push(mark).unwrap();
         self.live.push()
     }
@@ -108,13 +108,14 @@ impl Mailbox {
     pub fn retract_last(&mut self) -> Message
         requires last { contains_number self.old.mail.live (length self.old.mail.arrivals) ≡ true }
 
-        ensures message { letters_of self.old.mail.arrivals ≡ letters_of self.new.mail.arrivals ++ result ∷ [] }
+        ensures message { recorded_messages self.old.mail.arrivals ≡ recorded_messages self.new.mail.arrivals
+            ++ result ∷ [] }
         ensures retracted { self.new.mail ≡ without_last self.old.mail }
         ensures room { 1 ≤ self.new.room }
     {
         self.live.pop();
         self.marks.pop();
-        self.letters.pop().unwrap()
+        self.messages.pop().unwrap()
     }
 
     /// Takes the numbers out of the unconsumed ones.
@@ -146,12 +147,12 @@ impl Mailbox {
     }
 
     /// The recorded messages: arrival n stands at place n - 1.
-    pub fn letters(&self) -> &[Message]
-        ensures letters { result.now ≡ letters_of self.now.mail.arrivals }
+    pub fn messages(&self) -> &[Message]
+        ensures messages { result.now ≡ recorded_messages self.now.mail.arrivals }
         ensures sound { IsSound self.now.mail }
     {
         self.live.law();
-        self.letters.as_slice()
+        self.messages.as_slice()
     }
 
     /// The source of an arrival.
@@ -187,21 +188,21 @@ impl Mailbox {
 
     /// All that the mailbox had. It takes no memory.
     pub fn into_parts(self) -> Parts
-        ensures letters { result.letters ≡ letters_of self.mail.arrivals }
-        ensures marks { result.marks ≡ marks_of self.mail.arrivals }
+        ensures messages { result.messages ≡ recorded_messages self.mail.arrivals }
+        ensures marks { result.marks ≡ postmarks_of self.mail.arrivals }
         ensures left { result.left ≡ self.mail.live }
         ensures late { result.late ≡ late_counts self.mail.late }
         ensures sound { IsSound self.mail }
     {
         self.live.law();
         let Mailbox {
-            letters,
+            messages,
             marks,
             live,
             late,
         } = self;
         Parts {
-            letters: Items::from_vec(letters),
+            messages: Items::from_vec(messages),
             marks: Items::from_vec(marks),
             left: live.into_items(),
             late: late.into_items(),
@@ -210,7 +211,7 @@ impl Mailbox {
 }
 
 // The stamp of the last mark, or 0.
-fn latest_stamp(marks: &[Mark]) -> u64
+fn latest_stamp(marks: &[Postmark]) -> u64
     ensures { result ≡ last_stamp 0 marks.now }
 {
     match marks.last() {

@@ -18,10 +18,10 @@ number_there row numbers i is = ap (λ (ns : List ℕ). slice_index ns i) is ∙
 -- those that have not the key's value are not worth a visit
 pub lacking_on : (o : Offered) (slots : Assignment) (q : ℕ) (row : List Branch) (numbers : List ℕ) (screen : Option Screen) (start from to : ℕ)
     → numbers ≡ map (λ node. node.number) row → AreOffered o slots q row start → IfSome screen (Screens o slots q (others o slots q))
-    → start ≤ from → to ≤ length row → AreWorthless o slots q row start from → AreLacking o.letters (key_of screen) numbers from to → AreWorthless o slots q row start to
+    → start ≤ from → to ≤ length row → AreWorthless o slots q row start from → AreLacking o.messages (key_of screen) numbers from to → AreWorthless o slots q row start to
 lacking_on o slots q row numbers screen start from to is offered screens later within before lacking i l m = elim (cases_lt i from) [
   | inl below ↦ before i l below
   | inr above ↦
-      let fails : passes o.letters (key_of screen) (node_at row i).number ≡ false = ap (passes o.letters (key_of screen)) (sym (number_there row numbers i is)) ∙ lacking i above m in
+      let fails : passes o.messages (key_of screen) (node_at row i).number ≡ false = ap (passes o.messages (key_of screen)) (sym (number_there row numbers i is)) ∙ lacking i above m in
       inr (lacks_screen o slots q (node_at row i).number screen (key_of screen) (offered i l (omega (arith, m, within))).free screens refl fails)
 ]

@@ -8,7 +8,7 @@ use Rattle.std.proofs.lemmas.List.{length-map}
 use Rattle.std.proofs.lemmas.Bool.Decides.{Decides-int_eq}
 use Rattle.std.proofs.lemmas.Slice.Eq.{bytes_eq-Decides}
 use Rattle.join_base.specs.declared.message.Message.{Message}
-use Rattle.guard_eval.specs.Meaning.{Assignment, letter_at, number_at}
+use Rattle.guard_eval.specs.Meaning.{Assignment, recorded_message, number_at}
 use Rattle.pattern_core.specs.Matches.{is_of_kind}
 use Rattle.pattern_core.specs.Members.{IsIn}
 use Rattle.pattern_core.specs.Suits.{SlotsSuit}
@@ -38,58 +38,58 @@ use Rattle.match_tree.proofs.TakeLemmas.{takers_further}
 -- ---- what an index has
 
 -- one of no field has all numbers
-pub unindexed : (index : Index) (letters : List Message) (slots : Assignment) → index.fields ≡ [] → AreIndexed index letters slots
-unindexed index letters slots none pattern number at place indexed get kind =
+pub unindexed : (index : Index) (messages : List Message) (slots : Assignment) → index.fields ≡ [] → AreIndexed index messages slots
+unindexed index messages slots none pattern number at place indexed get kind =
     let bad : Some indexed ≡ None = sym get ∙ ap (λ (fields : List IndexedField). slice_get fields place) none in
     absurd cc
 
-pub all_unindexed : (index : Index) (letters : List Message) (paths : List Assignment) → index.fields ≡ [] → AllByRecursion (AreIndexed index letters) paths
-all_unindexed index letters [] none = tt
-all_unindexed index letters (path ∷ paths) none = (unindexed index letters path none, all_unindexed index letters paths none)
+pub all_unindexed : (index : Index) (messages : List Message) (paths : List Assignment) → index.fields ≡ [] → AllByRecursion (AreIndexed index messages) paths
+all_unindexed index messages [] none = tt
+all_unindexed index messages (path ∷ paths) none = (unindexed index messages path none, all_unindexed index messages paths none)
 
-kind_there : (letters : List Message) (kinds : List ℕ) (slots : Assignment) (q m kind : ℕ) → SlotsSuit letters kinds slots → number_at slots q ≡ Some m → slice_get kinds q ≡ Some kind → is_of_kind (letter_at letters m) kind ≡ true
-kind_there letters [] [] q m kind suits at get = absurd cc
-kind_there letters [] (slot ∷ slots) q m kind suits at get = absurd suits
-kind_there letters (k ∷ kinds) [] q m kind suits at get = absurd suits
-kind_there letters (k ∷ kinds) (None ∷ slots) zero m kind suits at get = absurd cc
-kind_there letters (k ∷ kinds) (Some n ∷ slots) zero m kind suits at get =
+kind_there : (messages : List Message) (kinds : List ℕ) (slots : Assignment) (q m kind : ℕ) → SlotsSuit messages kinds slots → number_at slots q ≡ Some m → slice_get kinds q ≡ Some kind → is_of_kind (recorded_message messages m) kind ≡ true
+kind_there messages [] [] q m kind suits at get = absurd cc
+kind_there messages [] (slot ∷ slots) q m kind suits at get = absurd suits
+kind_there messages (k ∷ kinds) [] q m kind suits at get = absurd suits
+kind_there messages (k ∷ kinds) (None ∷ slots) zero m kind suits at get = absurd cc
+kind_there messages (k ∷ kinds) (Some n ∷ slots) zero m kind suits at get =
     let number : n ≡ m = cc in
     let same : k ≡ kind = cc in
-    subst (λ (x : ℕ). is_of_kind (letter_at letters x) kind ≡ true) number (subst (λ (y : ℕ). is_of_kind (letter_at letters n) y ≡ true) same suits.1)
-kind_there letters (k ∷ kinds) (None ∷ slots) (suc q) m kind suits at get = kind_there letters kinds slots q m kind suits at get
-kind_there letters (k ∷ kinds) (Some n ∷ slots) (suc q) m kind suits at get = kind_there letters kinds slots q m kind suits.3 at get
+    subst (λ (x : ℕ). is_of_kind (recorded_message messages x) kind ≡ true) number (subst (λ (y : ℕ). is_of_kind (recorded_message messages n) y ≡ true) same suits.1)
+kind_there messages (k ∷ kinds) (None ∷ slots) (suc q) m kind suits at get = kind_there messages kinds slots q m kind suits at get
+kind_there messages (k ∷ kinds) (Some n ∷ slots) (suc q) m kind suits at get = kind_there messages kinds slots q m kind suits.3 at get
 
 -- an offered number of a row has its entries
 entry_there : (o : Offered) (slots : Assignment) (q m kind place : ℕ) (indexed : IndexedField) → IsOffered o slots q m → slice_get o.definition.patterns q ≡ Some kind → slice_get o.index.fields place ≡ Some indexed → kind ≡ indexed.kind
-    → IsIn (entry place (value_at o.letters m indexed) m) o.index.entries
+    → IsIn (entry place (value_at o.messages m indexed) m) o.index.entries
 entry_there o slots q m kind place indexed offered pattern get same =
     let at = number_set slots q m offered.free in
-    let of_kind = subst (λ (k : ℕ). is_of_kind (letter_at o.letters m) k ≡ true) same (kind_there o.letters o.definition.patterns (with_number slots q m) q m kind offered.can.suits at pattern) in
+    let of_kind = subst (λ (k : ℕ). is_of_kind (recorded_message o.messages m) k ≡ true) same (kind_there o.messages o.definition.patterns (with_number slots q m) q m kind offered.can.suits at pattern) in
     offered.can.indexed q m at place indexed get of_kind
 
 -- ---- what is not in the index may be left out
 
 module _ (o : Offered) (slots : Assignment) (q kind place : ℕ) (screen : Screen) (pattern : slice_get o.definition.patterns q ≡ Some kind) (tested : AreTests o (with_number (with_number slots q o.number) screen.other o.number) q screen) where
   pub key_looks : (key : Key) → screen.key ≡ Some key → slice_get o.index.fields place ≡ Some (record { kind = kind; field = key.field; words = false }) → LooksUpAt o slots q screen.other (record { place = place; value = key.value })
-  key_looks key has get is m offered absent = by (passes o.letters (Some key) m) refl
+  key_looks key has get is m offered absent = by (passes o.messages (Some key) m) refl
     where
-      there : IsIn (entry place (int_at o.letters m key.field) m) o.index.entries
+      there : IsIn (entry place (int_at o.messages m key.field) m) o.index.entries
       there = entry_there o slots q m kind place (record { kind = kind; field = key.field; words = false }) offered pattern get refl
 
-      by : (b : Bool) → passes o.letters (Some key) m ≡ b → may_take o (with_number slots q m) screen.other ≡ false
-      by true e = absurd (absent (subst (λ (v : ℤ). IsIn (entry place v m) o.index.entries) ((Decides-int_eq (int_at o.letters m key.field) key.value).0 e) there))
-      by false e = misses_key o slots q m screen.other offered.free (other_at o slots q screen.other is) screen.key tested.key (ap (λ (k : Option Key). passes o.letters k m) has ∙ e)
+      by : (b : Bool) → passes o.messages (Some key) m ≡ b → may_take o (with_number slots q m) screen.other ≡ false
+      by true e = absurd (absent (subst (λ (v : ℤ). IsIn (entry place v m) o.index.entries) ((Decides-int_eq (int_at o.messages m key.field) key.value).0 e) there))
+      by false e = misses_key o slots q m screen.other offered.free (other_at o slots q screen.other is) screen.key tested.key (ap (λ (k : Option Key). passes o.messages k m) has ∙ e)
 
   pub text_looks : (same : Same) → screen.same ≡ Some same → slice_get o.index.fields place ≡ Some (record { kind = kind; field = same.field; words = true })
-      → LooksUpAt o slots q screen.other (record { place = place; value = pos (text_value (words_at o.letters o.number same.other)) })
-  text_looks same has get is m offered absent = by (is_same o.letters o.number (Some same) m) refl
+      → LooksUpAt o slots q screen.other (record { place = place; value = pos (text_value (words_at o.messages o.number same.other)) })
+  text_looks same has get is m offered absent = by (is_same o.messages o.number (Some same) m) refl
     where
-      there : IsIn (entry place (pos (text_value (words_at o.letters m same.field))) m) o.index.entries
+      there : IsIn (entry place (pos (text_value (words_at o.messages m same.field))) m) o.index.entries
       there = entry_there o slots q m kind place (record { kind = kind; field = same.field; words = true }) offered pattern get refl
 
-      by : (b : Bool) → is_same o.letters o.number (Some same) m ≡ b → may_take o (with_number slots q m) screen.other ≡ false
-      by true e = absurd (absent (subst (λ (ws : List ℕ). IsIn (entry place (pos (text_value ws)) m) o.index.entries) ((bytes_eq-Decides (words_at o.letters m same.field) (words_at o.letters o.number same.other)).0 e) there))
-      by false e = misses_text o slots q m screen.other offered.free (other_at o slots q screen.other is) screen.same tested.same (ap (λ (s : Option Same). is_same o.letters o.number s m) has ∙ e)
+      by : (b : Bool) → is_same o.messages o.number (Some same) m ≡ b → may_take o (with_number slots q m) screen.other ≡ false
+      by true e = absurd (absent (subst (λ (ws : List ℕ). IsIn (entry place (pos (text_value ws)) m) o.index.entries) ((bytes_eq-Decides (words_at o.messages m same.field) (words_at o.messages o.number same.other)).0 e) there))
+      by false e = misses_text o slots q m screen.other offered.free (other_at o slots q screen.other is) screen.same tested.same (ap (λ (s : Option Same). is_same o.messages o.number s m) has ∙ e)
 
 -- where it is so for each wanted pattern, no pattern may take the offered number
 pub all_look : (o : Offered) (slots : Assignment) (q : ℕ) (look : Look) → AllByRecursion (λ p. LooksUpAt o slots q p look) (others o slots q) → LooksUp o slots q look
@@ -223,12 +223,12 @@ worthless_both o slots q row from place to before behind i l m = elim (cases_lt 
 
 pub fails_meet : (o : Offered) (slots : Assignment) (q m : ℕ) (screen : Option Screen) → is_free slots q ≡ true → IfSome screen (Screens o slots q (others o slots q)) → may_meet o screen m ≡ false → takers o (with_number slots q m) ≡ []
 fails_meet o slots q m None free screens fails = absurd cc
-fails_meet o slots q m (Some screen) free screens fails = by (list_all (λ b. meets o.letters b m) screen.bounds) refl
+fails_meet o slots q m (Some screen) free screens fails = by (list_all (λ b. meets o.messages b m) screen.bounds) refl
   where
-    by : (b : Bool) → list_all (λ x. meets o.letters x m) screen.bounds ≡ b → takers o (with_number slots q m) ≡ []
+    by : (b : Bool) → list_all (λ x. meets o.messages x m) screen.bounds ≡ b → takers o (with_number slots q m) ≡ []
     by false e = fails_one o slots q m screen.other free screens.alone screen.bounds screens.tested.bounds e
     by true e =
-        let rest : is_same o.letters o.number screen.same m ≡ false = sym (λ i. e i && is_same o.letters o.number screen.same m) ∙ fails in
+        let rest : is_same o.messages o.number screen.same m ≡ false = sym (λ i. e i && is_same o.messages o.number screen.same m) ∙ fails in
         is_another o slots q m screen.other free screens.alone screen.same screens.tested.same rest
 
 -- ---- a node that changes keeps its number

@@ -3,7 +3,7 @@ use Rattle.std.proofs.Common.{◌≡◌, ◌∙◌, ℕ, ◌+◌, ◌<◌, List,
 use Rattle.std.proofs.lemmas.List.{take_more, drop_more, map-append}
 use Rattle.std.proofs.lemmas.List.Elements.{filter-append}
 use Rattle.std.specs.List.{filter, AllByRecursion}
-use Rattle.guard_eval.specs.Meaning.{Assignment, letter_at}
+use Rattle.guard_eval.specs.Meaning.{Assignment, recorded_message}
 use Rattle.guard_eval.proofs.ExtendLemmas.{both_true}
 use Rattle.pattern_core.specs.Matches.{is_of_kind, is_agreeable}
 use Rattle.pattern_core.specs.Choice.{candidate_of, least, lesser_of}
@@ -21,16 +21,16 @@ left_first {X} P xs i d within h = let All : List X → Type 0 = λ (ys : List X
 
 module _ (o : Offered) (slots : Assignment) where
   abbrev kind : ℕ → Bool
-  kind p = is_of_kind (letter_at o.letters o.number) (slice_index o.definition.patterns p)
+  kind p = is_of_kind (recorded_message o.messages o.number) (slice_index o.definition.patterns p)
 
   abbrev agrees : ℕ → Bool
-  agrees p = is_agreeable o.letters o.definition.conjuncts (with_number slots p o.number)
+  agrees p = is_agreeable o.messages o.definition.conjuncts (with_number slots p o.number)
 
   -- the longer path suits the messages
-  pub suits_with : (p : ℕ) → CanOffer o slots → MayTake o slots p → SlotsSuit o.letters o.definition.patterns (with_number slots p o.number)
+  pub suits_with : (p : ℕ) → CanOffer o slots → MayTake o slots p → SlotsSuit o.messages o.definition.patterns (with_number slots p o.number)
   suits_with p can may =
       let parts = both_true (is_free slots p) (kind p && agrees p) may in
-      suits_further o.letters o.definition.patterns slots p o.number can.suits (free_is_none slots p parts.0) can.recorded (both_true (kind p) (agrees p) parts.1).0 (below_apart slots o.number can.below)
+      suits_further o.messages o.definition.patterns slots p o.number can.suits (free_is_none slots p parts.0) can.recorded (both_true (kind p) (agrees p) parts.1).0 (below_apart slots o.number can.below)
 
   pub agrees_with : (p : ℕ) → MayTake o slots p → agrees p ≡ true
   agrees_with p may = (both_true (kind p) (agrees p) (both_true (is_free slots p) (kind p && agrees p) may).1).1

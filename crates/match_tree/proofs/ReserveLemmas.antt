@@ -31,12 +31,12 @@ use Rattle.join_base.proofs.EachLemmas.{each_append}
 
 -- the offer without an index, of which contracts speak
 abbrev pub bare : Offered → Offered
-bare o = record { letters = o.letters; index = no_index; definition = o.definition; rule = o.rule; number = o.number; oldest = o.oldest }
+bare o = record { messages = o.messages; index = no_index; definition = o.definition; rule = o.rule; number = o.number; oldest = o.oldest }
 
-can_from : (o : Offered) (slots : Assignment) → CanOffer (bare o) slots → AreIndexed o.index o.letters slots → CanOffer o slots
+can_from : (o : Offered) (slots : Assignment) → CanOffer (bare o) slots → AreIndexed o.index o.messages slots → CanOffer o slots
 can_from o slots can indexed = record { definition = can.definition; suits = can.suits; agreeable = can.agreeable; indexed = indexed; recorded = can.recorded; below = can.below }
 
-lead_from : (o : Offered) (slots : Assignment) (routes : List Route) → AreOpen slots routes → AllByRecursion (CanOffer (bare o)) (map (filled slots) routes) → AllByRecursion (AreIndexed o.index o.letters) (map (filled slots) routes) → LeadOn o slots routes
+lead_from : (o : Offered) (slots : Assignment) (routes : List Route) → AreOpen slots routes → AllByRecursion (CanOffer (bare o)) (map (filled slots) routes) → AllByRecursion (AreIndexed o.index o.messages) (map (filled slots) routes) → LeadOn o slots routes
 lead_from o slots [] h k x = tt
 lead_from o slots (r ∷ routes) h k x = (record { climbs = h.0.climbs; can = can_from o (filled slots r) k.0 x.0 }, lead_from o slots routes h.1 k.1 x.1)
 
@@ -151,20 +151,20 @@ same_added o slots before now lasts grows = record {
 
 -- ---- told of a tree
 
-pub reserve_lead : (d : Definition) (rule : ℕ) (pending : Option Pending) (routes : List Route) (t : Tree) (letters : List Message) (number : ℕ) (o : Offered)
-    → tree_of d rule pending routes ≡ t → t.reserve ≡ None → bare o ≡ offer_to (tree_of d rule None routes) letters number → AreOpen (empty_of d) routes
-    → AllByRecursion (CanOffer (offer_to t letters number)) t.paths → AllByRecursion (AreIndexed o.index o.letters) t.paths → CanOffer o (empty_of d) × LeadOn o (empty_of d) routes
-reserve_lead d rule pending routes t letters number o shown settled same opened can indexed =
-    let all = subst (λ (u : Tree). AllByRecursion (CanOffer (offer_to u letters number)) u.paths) (sym (settled_tree d rule pending routes t shown settled)) can in
-    let have = subst (λ (u : Tree). AllByRecursion (AreIndexed o.index o.letters) u.paths) (sym (settled_tree d rule pending routes t shown settled)) indexed in
+pub reserve_lead : (d : Definition) (rule : ℕ) (pending : Option Pending) (routes : List Route) (t : Tree) (messages : List Message) (number : ℕ) (o : Offered)
+    → tree_of d rule pending routes ≡ t → t.reserve ≡ None → bare o ≡ offer_to (tree_of d rule None routes) messages number → AreOpen (empty_of d) routes
+    → AllByRecursion (CanOffer (offer_to t messages number)) t.paths → AllByRecursion (AreIndexed o.index o.messages) t.paths → CanOffer o (empty_of d) × LeadOn o (empty_of d) routes
+reserve_lead d rule pending routes t messages number o shown settled same opened can indexed =
+    let all = subst (λ (u : Tree). AllByRecursion (CanOffer (offer_to u messages number)) u.paths) (sym (settled_tree d rule pending routes t shown settled)) can in
+    let have = subst (λ (u : Tree). AllByRecursion (AreIndexed o.index o.messages) u.paths) (sym (settled_tree d rule pending routes t shown settled)) indexed in
     let bares = subst (λ (x : Offered). AllByRecursion (CanOffer x) (paths_of d ([] ∷ routes))) (sym same) all in
     (can_from o (empty_of d) bares.0 have.0, lead_from o (empty_of d) routes opened bares.1 have.1)
 
-pub reserve_tries : (d : Definition) (rule : ℕ) (pending : Option Pending) (routes : List Route) (t : Tree) (letters : List Message) (number : ℕ) (o : Offered)
-    → tree_of d rule pending routes ≡ t → t.reserve ≡ None → bare o ≡ offer_to (tree_of d rule None routes) letters number
-    → tries (offer_to t letters number) t.paths ≡ length (tried o (empty_of d)) + tries_behind o (empty_of d) routes
-reserve_tries d rule pending routes t letters number o shown settled same =
-    sym (ap (λ (u : Tree). tries (offer_to u letters number) u.paths) (settled_tree d rule pending routes t shown settled))
+pub reserve_tries : (d : Definition) (rule : ℕ) (pending : Option Pending) (routes : List Route) (t : Tree) (messages : List Message) (number : ℕ) (o : Offered)
+    → tree_of d rule pending routes ≡ t → t.reserve ≡ None → bare o ≡ offer_to (tree_of d rule None routes) messages number
+    → tries (offer_to t messages number) t.paths ≡ length (tried o (empty_of d)) + tries_behind o (empty_of d) routes
+reserve_tries d rule pending routes t messages number o shown settled same =
+    sym (ap (λ (u : Tree). tries (offer_to u messages number) u.paths) (settled_tree d rule pending routes t shown settled))
     ∙ ap (λ (x : Offered). tries x (paths_of d ([] ∷ routes))) (sym same)
     ∙ sum_by-cons (λ path. length (tried o path)) (empty_of d) (map (filled (empty_of d)) routes)
     ∙ ap (λ (n : ℕ). length (tried o (empty_of d)) + n) (sum_mapped (λ path. length (tried o path)) (filled (empty_of d)) routes)
@@ -244,12 +244,12 @@ reserve_kept d rows now count count' number best pending k few sound opened last
   seen = seen;
 }
 
-pub reserve_found : (d : Definition) (rule : ℕ) (pending : Option Pending) (before now : List Route) (t : Tree) (letters : List Message) (number aside : ℕ) (best : Option Candidate) (o : Offered)
-    → tree_of d rule pending before ≡ t → t.reserve ≡ None → bare o ≡ offer_to (tree_of d rule None before) letters number → o.number ≡ number → AreOpen (empty_of d) before
+pub reserve_found : (d : Definition) (rule : ℕ) (pending : Option Pending) (before now : List Route) (t : Tree) (messages : List Message) (number aside : ℕ) (best : Option Candidate) (o : Offered)
+    → tree_of d rule pending before ≡ t → t.reserve ≡ None → bare o ≡ offer_to (tree_of d rule None before) messages number → o.number ≡ number → AreOpen (empty_of d) before
     → Lasts o.number before now → best ≡ least (new_matches o (empty_of d) ([] ∷ seen o before)) → (best ≡ None → Grows o (empty_of d) (growing o (empty_of d)) before now)
-    → IsReserved (offer_to t letters number) t.paths (reserve_of d (Some record { number = number; best = best; aside = aside }) now)
-reserve_found d rule pending before now t letters number aside best o shown settled same named opened lasts is grows =
-    subst (λ (u : Tree). IsReserved (offer_to u letters number) u.paths (reserve_of d (Some record { number = number; best = best; aside = aside }) now)) (settled_tree d rule pending before t shown settled)
+    → IsReserved (offer_to t messages number) t.paths (reserve_of d (Some record { number = number; best = best; aside = aside }) now)
+reserve_found d rule pending before now t messages number aside best o shown settled same named opened lasts is grows =
+    subst (λ (u : Tree). IsReserved (offer_to u messages number) u.paths (reserve_of d (Some record { number = number; best = best; aside = aside }) now)) (settled_tree d rule pending before t shown settled)
     (subst (λ (x : Offered). IsReserved x (paths_of d ([] ∷ before)) (reserve_of d (Some record { number = number; best = best; aside = aside }) now)) same
     (sym named, is ∙ found, added_are))
   where

@@ -3,7 +3,7 @@ use Rattle.std.proofs.Common.{◌≡◌, ◌∙◌, ℕ, zero, suc, ◌+◌, ◌
 use Rattle.std.specs.List.{filter, list_any, AllByRecursion}
 use Rattle.std.proofs.lemmas.List.{take_more, length-take-le}
 use Rattle.std.proofs.lemmas.List.Elements.{filter-append}
-use Rattle.guard_eval.specs.Meaning.{Assignment, letter_at, is_slot_filled}
+use Rattle.guard_eval.specs.Meaning.{Assignment, recorded_message, is_slot_filled}
 use Rattle.guard_eval.proofs.ExtendLemmas.{both_true}
 use Rattle.pattern_core.specs.Matches.{is_of_kind, is_agreeable, is_full}
 use Rattle.match_tree.specs.Routes.{Route, with_number, filled}
@@ -48,7 +48,7 @@ and_true false = refl
 
 module _ (o : Offered) where
   abbrev pub of_kind : ℕ → Bool
-  of_kind p = is_of_kind (letter_at o.letters o.number) (slice_index o.definition.patterns p)
+  of_kind p = is_of_kind (recorded_message o.messages o.number) (slice_index o.definition.patterns p)
 
   abbrev empty : Assignment
   empty = replicate (length o.definition.patterns) None
@@ -59,7 +59,7 @@ module _ (o : Offered) where
   tried_one : (ps : List ℕ) → AllByRecursion (λ p. is_free empty p ≡ true) ps → AllByRecursion (λ p. is_tried o empty p ≡ of_kind p) ps
   tried_one [] h = tt
   tried_one (p ∷ ps) h =
-      ((λ i. h.0 i && (of_kind p && (not (none_filled (length o.definition.patterns) i) || is_agreeable o.letters o.definition.conjuncts (with_number (without_greatest empty) p o.number)))) ∙ and_true (of_kind p), tried_one ps h.1)
+      ((λ i. h.0 i && (of_kind p && (not (none_filled (length o.definition.patterns) i) || is_agreeable o.messages o.definition.conjuncts (with_number (without_greatest empty) p o.number)))) ∙ and_true (of_kind p), tried_one ps h.1)
 
   pub tried_empty : filter of_kind (places 0 o.definition.patterns) ≡ tried o empty
   tried_empty = sym (filter_same (is_tried o empty) of_kind (places 0 o.definition.patterns) (tried_one (places 0 o.definition.patterns) (places_free (length o.definition.patterns) 0 o.definition.patterns (omega arith))))

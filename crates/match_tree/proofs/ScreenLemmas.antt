@@ -5,7 +5,7 @@ use Rattle.std.specs.List.{filter, list_all, AllByRecursion}
 use Rattle.std.proofs.lemmas.Bool.{cases_lt}
 use Rattle.join_base.specs.declared.message.Message.{Message}
 use Rattle.guard_eval.specs.Condition.{Condition}
-use Rattle.guard_eval.specs.Meaning.{Assignment, Need, letter_at, number_at, needs_of, has_some, is_slot_filled, is_filled, is_decided, is_true}
+use Rattle.guard_eval.specs.Meaning.{Assignment, Need, recorded_message, number_at, needs_of, has_some, is_slot_filled, is_filled, is_decided, is_true}
 use Rattle.guard_eval.proofs.ExtendLemmas.{both_true}
 use Rattle.pattern_core.specs.Matches.{is_of_kind, is_agreeable}
 use Rattle.pattern_core.specs.Members.{IsIn}
@@ -51,13 +51,13 @@ number_set [] p n free = absurd cc
 number_set (slot ∷ slots) zero n free = refl
 number_set (slot ∷ slots) (suc p) n free = number_set slots p n free
 
-agrees_in : (letters : List Message) (conjuncts : List Condition) (slots : Assignment) (c : Condition) → IsIn c conjuncts → is_agreeable letters conjuncts slots ≡ true → (not (is_decided slots c) || is_true letters slots c) ≡ true
-agrees_in letters [] slots c m h = absurd m
-agrees_in letters (d ∷ conjuncts) slots c m h =
-    let parts = both_true (not (is_decided slots d) || is_true letters slots d) (is_agreeable letters conjuncts slots) h in
+agrees_in : (messages : List Message) (conjuncts : List Condition) (slots : Assignment) (c : Condition) → IsIn c conjuncts → is_agreeable messages conjuncts slots ≡ true → (not (is_decided slots c) || is_true messages slots c) ≡ true
+agrees_in messages [] slots c m h = absurd m
+agrees_in messages (d ∷ conjuncts) slots c m h =
+    let parts = both_true (not (is_decided slots d) || is_true messages slots d) (is_agreeable messages conjuncts slots) h in
     elim m [
-      | inl e ↦ subst (λ (x : Condition). (not (is_decided slots x) || is_true letters slots x) ≡ true) e parts.0
-      | inr later ↦ agrees_in letters conjuncts slots c later parts.1
+      | inl e ↦ subst (λ (x : Condition). (not (is_decided slots x) || is_true messages slots x) ≡ true) e parts.0
+      | inr later ↦ agrees_in messages conjuncts slots c later parts.1
     ]
 
 -- ---- the wanted pattern
@@ -82,12 +82,12 @@ module _ (o : Offered) (slots : Assignment) (q : ℕ) where
   pub record Other (p : ℕ) : Type 0 where
     pub free : is_free slots p ≡ true
     pub apart : not (p == q) ≡ true
-    pub of_kind : is_of_kind (letter_at o.letters o.number) (slice_index o.definition.patterns p) ≡ true
+    pub of_kind : is_of_kind (recorded_message o.messages o.number) (slice_index o.definition.patterns p) ≡ true
 
   pub other_at : (p : ℕ) → IsOther o slots q p → Other p
   other_at p is =
-      let kind : Bool = is_of_kind (letter_at o.letters o.number) (slice_index o.definition.patterns p) in
-      let agreeable : Bool = is_agreeable o.letters o.definition.conjuncts (with_number slots p o.number) in
+      let kind : Bool = is_of_kind (recorded_message o.messages o.number) (slice_index o.definition.patterns p) in
+      let agreeable : Bool = is_agreeable o.messages o.definition.conjuncts (with_number slots p o.number) in
       let parts = both_true (is_free slots p) (kind && agreeable) is.may in
       record { free = parts.0; apart = is.apart; of_kind = (both_true kind agreeable parts.1).0 }
 
@@ -118,12 +118,12 @@ module _ (o : Offered) (slots : Assignment) (q m : ℕ) where
   and_never false b = refl
 
   -- where a decided conjunct is false beside the offered number, the pattern may not take it
-  pub denied : (p : ℕ) → is_agreeable o.letters o.definition.conjuncts (with_number longer p o.number) ≡ false → may_take o longer p ≡ false
+  pub denied : (p : ℕ) → is_agreeable o.messages o.definition.conjuncts (with_number longer p o.number) ≡ false → may_take o longer p ≡ false
   denied p fails =
-      let kind : Bool = is_of_kind (letter_at o.letters o.number) (slice_index o.definition.patterns p) in
+      let kind : Bool = is_of_kind (recorded_message o.messages o.number) (slice_index o.definition.patterns p) in
       (λ i. is_free longer p && (kind && fails i)) ∙ and_never (is_free longer p) kind
 
-  pub disagrees : (p : ℕ) → is_free slots q ≡ true → others o slots q ≡ p ∷ [] → is_agreeable o.letters o.definition.conjuncts (with_number longer p o.number) ≡ false → takers o longer ≡ []
+  pub disagrees : (p : ℕ) → is_free slots q ≡ true → others o slots q ≡ p ∷ [] → is_agreeable o.messages o.definition.conjuncts (with_number longer p o.number) ≡ false → takers o longer ≡ []
   disagrees p free alone fails = none_taken p free alone (denied p fails)
 
   pub other_free : (p : ℕ) → others o slots q ≡ p ∷ [] → slice_get longer p ≡ Some None
@@ -131,10 +131,10 @@ module _ (o : Offered) (slots : Assignment) (q m : ℕ) where
       let other = other_of o slots q p alone in
       free_is_none longer p (free_further slots q m p ∙ and_of (is_free slots p) (not (p == q)) other.free other.apart)
 
-  pub whole_suits : (p : ℕ) → CanOffer o longer → others o slots q ≡ p ∷ [] → SlotsSuit o.letters o.definition.patterns (with_number longer p o.number)
+  pub whole_suits : (p : ℕ) → CanOffer o longer → others o slots q ≡ p ∷ [] → SlotsSuit o.messages o.definition.patterns (with_number longer p o.number)
   whole_suits p can alone =
       let other = other_of o slots q p alone in
-      suits_further o.letters o.definition.patterns longer p o.number can.suits (other_free p alone) can.recorded other.of_kind (below_apart longer o.number can.below)
+      suits_further o.messages o.definition.patterns longer p o.number can.suits (other_free p alone) can.recorded other.of_kind (below_apart longer o.number can.below)
 
 -- ---- a conjunct that is decided, whatever the number
 
@@ -167,10 +167,10 @@ tests_alike o slots q m k p n (t ∷ tests) h =
     (record { conjunct = c; at = h.0.at; decided = same ∙ h.0.decided }, tests_alike o slots q m k p n tests h.1)
 
 -- a decided conjunct that is false
-pub not_agreeable : (o : Offered) (slots : Assignment) (c : Condition) (b : Bool) → is_agreeable o.letters o.definition.conjuncts slots ≡ b → IsIn c o.definition.conjuncts → is_decided slots c ≡ true → is_true o.letters slots c ≡ false → b ≡ false
+pub not_agreeable : (o : Offered) (slots : Assignment) (c : Condition) (b : Bool) → is_agreeable o.messages o.definition.conjuncts slots ≡ b → IsIn c o.definition.conjuncts → is_decided slots c ≡ true → is_true o.messages slots c ≡ false → b ≡ false
 not_agreeable o slots c false e is_in decided fails = refl
 not_agreeable o slots c true e is_in decided fails =
-    absurd (let holds = agrees_in o.letters o.definition.conjuncts slots c is_in e in let bad = sym (λ i. not (decided i) || fails i) ∙ holds in cc)
+    absurd (let holds = agrees_in o.messages o.definition.conjuncts slots c is_in e in let bad = sym (λ i. not (decided i) || fails i) ∙ holds in cc)
 
 -- ---- a number that fails a bound
 
@@ -184,48 +184,48 @@ module _ (o : Offered) (slots : Assignment) (q m p : ℕ) (free : is_free slots 
       let first : number_at (with_number slots q m) q ≡ Some m = number_set slots q m free in
       record { here = extends_one (with_number slots q m) p o.number left q (ap is_slot_filled first) ∙ first; there = number_set (with_number slots q m) p o.number left }
 
-  unmet : (bound : Bound) → IsBound o (both o.number) q p bound → meets o.letters bound m ≡ false → may_take o (with_number slots q m) p ≡ false
+  unmet : (bound : Bound) → IsBound o (both o.number) q p bound → meets o.messages bound m ≡ false → may_take o (with_number slots q m) p ≡ false
   unmet bound is fails =
       let c = is.conjunct in
       let decided : is_decided (both m) c ≡ true = (λ i. has_some (needs_of c) && all_alike slots q m o.number p o.number (needs_of c) i) ∙ is.decided in
-      let untrue : is_true o.letters (both m) c ≡ false = is.says m (both m) beside ∙ fails in
-      denied o slots q m p (not_agreeable o (both m) c (is_agreeable o.letters o.definition.conjuncts (both m)) refl is.is_in decided untrue)
+      let untrue : is_true o.messages (both m) c ≡ false = is.says m (both m) beside ∙ fails in
+      denied o slots q m p (not_agreeable o (both m) c (is_agreeable o.messages o.definition.conjuncts (both m)) refl is.is_in decided untrue)
 
   -- where a number has not the key's value, the pattern may not take the offered one behind it
-  pub misses_key : (key : Option Key) → IfSome key (λ k. IsBound o (both o.number) q p (as_bound k)) → passes o.letters key m ≡ false → may_take o (with_number slots q m) p ≡ false
+  pub misses_key : (key : Option Key) → IfSome key (λ k. IsBound o (both o.number) q p (as_bound k)) → passes o.messages key m ≡ false → may_take o (with_number slots q m) p ≡ false
   misses_key None is fails = absurd cc
   misses_key (Some k) is fails = unmet (as_bound k) is fails
 
   -- where it fails one of the bounds, it may not either
-  pub misses_one : (bounds : List Bound) → AllByRecursion (IsBound o (both o.number) q p) bounds → list_all (λ b. meets o.letters b m) bounds ≡ false → may_take o (with_number slots q m) p ≡ false
+  pub misses_one : (bounds : List Bound) → AllByRecursion (IsBound o (both o.number) q p) bounds → list_all (λ b. meets o.messages b m) bounds ≡ false → may_take o (with_number slots q m) p ≡ false
   misses_one [] h fails = absurd cc
-  misses_one (b ∷ bounds) h fails = by (meets o.letters b m) refl (misses_one bounds h.1)
+  misses_one (b ∷ bounds) h fails = by (meets o.messages b m) refl (misses_one bounds h.1)
     where
-      by : (t : Bool) → meets o.letters b m ≡ t → (list_all (λ x. meets o.letters x m) bounds ≡ false → may_take o (with_number slots q m) p ≡ false) → may_take o (with_number slots q m) p ≡ false
-      by true e later = later (sym (λ i. e i && list_all (λ x. meets o.letters x m) bounds) ∙ fails)
+      by : (t : Bool) → meets o.messages b m ≡ t → (list_all (λ x. meets o.messages x m) bounds ≡ false → may_take o (with_number slots q m) p ≡ false) → may_take o (with_number slots q m) p ≡ false
+      by true e later = later (sym (λ i. e i && list_all (λ x. meets o.messages x m) bounds) ∙ fails)
       by false e later = unmet b h.0 e
 
   -- where its text is another one, it may not either
-  pub misses_text : (same : Option Same) → IfSome same (IsSaid o (both o.number) q p) → is_same o.letters o.number same m ≡ false → may_take o (with_number slots q m) p ≡ false
+  pub misses_text : (same : Option Same) → IfSome same (IsSaid o (both o.number) q p) → is_same o.messages o.number same m ≡ false → may_take o (with_number slots q m) p ≡ false
   misses_text None h fails = absurd cc
   misses_text (Some same) h fails =
       let c = h.conjunct in
       let decided : is_decided (both m) c ≡ true = (λ i. has_some (needs_of c) && all_alike slots q m o.number p o.number (needs_of c) i) ∙ h.decided in
-      let untrue : is_true o.letters (both m) c ≡ false = same_said o.letters o.number q p m (both m) c same h.says beside ∙ fails in
-      denied o slots q m p (not_agreeable o (both m) c (is_agreeable o.letters o.definition.conjuncts (both m)) refl h.is_in decided untrue)
+      let untrue : is_true o.messages (both m) c ≡ false = same_said o.messages o.number q p m (both m) c same h.says beside ∙ fails in
+      denied o slots q m p (not_agreeable o (both m) c (is_agreeable o.messages o.definition.conjuncts (both m)) refl h.is_in decided untrue)
 
 -- where it is the one wanted pattern, none may
 module _ (o : Offered) (slots : Assignment) (q m p : ℕ) (free : is_free slots q ≡ true) (alone : others o slots q ≡ p ∷ []) where
   abbrev beside_offered : Assignment
   beside_offered = with_number (with_number slots q o.number) p o.number
 
-  pub lacks_key : (key : Option Key) → IfSome key (λ k. IsBound o beside_offered q p (as_bound k)) → passes o.letters key m ≡ false → takers o (with_number slots q m) ≡ []
+  pub lacks_key : (key : Option Key) → IfSome key (λ k. IsBound o beside_offered q p (as_bound k)) → passes o.messages key m ≡ false → takers o (with_number slots q m) ≡ []
   lacks_key key is fails = none_taken o slots q m p free alone (misses_key o slots q m p free (other_of o slots q p alone) key is fails)
 
-  pub fails_one : (bounds : List Bound) → AllByRecursion (IsBound o beside_offered q p) bounds → list_all (λ b. meets o.letters b m) bounds ≡ false → takers o (with_number slots q m) ≡ []
+  pub fails_one : (bounds : List Bound) → AllByRecursion (IsBound o beside_offered q p) bounds → list_all (λ b. meets o.messages b m) bounds ≡ false → takers o (with_number slots q m) ≡ []
   fails_one bounds is fails = none_taken o slots q m p free alone (misses_one o slots q m p free (other_of o slots q p alone) bounds is fails)
 
-  pub is_another : (same : Option Same) → IfSome same (IsSaid o beside_offered q p) → is_same o.letters o.number same m ≡ false → takers o (with_number slots q m) ≡ []
+  pub is_another : (same : Option Same) → IfSome same (IsSaid o beside_offered q p) → is_same o.messages o.number same m ≡ false → takers o (with_number slots q m) ≡ []
   is_another same is fails = none_taken o slots q m p free alone (misses_text o slots q m p free (other_of o slots q p alone) same is fails)
 
 -- ---- a screen with a test more
@@ -266,9 +266,9 @@ passed_worthless o slots q node why ordered lead = elim why [
 ]
 
 -- where it lacks the key of the row's screen, no pattern may take the offered number behind it
-pub lacks_screen : (o : Offered) (slots : Assignment) (q m : ℕ) (screen : Option Screen) (key : Option Key) → is_free slots q ≡ true → IfSome screen (Screens o slots q (others o slots q)) → key ≡ key_of screen → passes o.letters key m ≡ false → takers o (with_number slots q m) ≡ []
-lacks_screen o slots q m None key free h is fails = absurd (let bad = ap (λ (k : Option Key). passes o.letters k m) (sym is) ∙ fails in cc)
-lacks_screen o slots q m (Some screen) key free h is fails = lacks_key o slots q m screen.other free h.alone screen.key h.tested.key (ap (λ (k : Option Key). passes o.letters k m) (sym is) ∙ fails)
+pub lacks_screen : (o : Offered) (slots : Assignment) (q m : ℕ) (screen : Option Screen) (key : Option Key) → is_free slots q ≡ true → IfSome screen (Screens o slots q (others o slots q)) → key ≡ key_of screen → passes o.messages key m ≡ false → takers o (with_number slots q m) ≡ []
+lacks_screen o slots q m None key free h is fails = absurd (let bad = ap (λ (k : Option Key). passes o.messages k m) (sym is) ∙ fails in cc)
+lacks_screen o slots q m (Some screen) key free h is fails = lacks_key o slots q m screen.other free h.alone screen.key h.tested.key (ap (λ (k : Option Key). passes o.messages k m) (sym is) ∙ fails)
 
 pub worthless_on : (o : Offered) (slots : Assignment) (q : ℕ) (row : List Branch) (from place : ℕ) → AreWorthless o slots q row from place → IsWorthless o slots q (node_at row place).number → AreWorthless o slots q row from (place + 1)
 worthless_on o slots q row from place before here i l m = elim (cases_lt i place) [
@@ -280,17 +280,17 @@ worthless_on o slots q row from place before here i l m = elim (cases_lt i place
 
 -- ---- what evaluation asks for
 
-module _ (o : Offered) (slots : Assignment) (place : ℕ) (c : Condition) (at : slice_get o.definition.conjuncts place ≡ Some c) (suits : DefinitionSuits o.letters o.definition) where
-  needs_at : AllByRecursion (NeedSuits o.letters o.definition.patterns) (needs_of c)
-  needs_at = each_at (λ d. AllByRecursion (NeedSuits o.letters o.definition.patterns) (needs_of d)) o.definition.conjuncts place c at suits.needs
+module _ (o : Offered) (slots : Assignment) (place : ℕ) (c : Condition) (at : slice_get o.definition.conjuncts place ≡ Some c) (suits : DefinitionSuits o.messages o.definition) where
+  needs_at : AllByRecursion (NeedSuits o.messages o.definition.patterns) (needs_of c)
+  needs_at = each_at (λ d. AllByRecursion (NeedSuits o.messages o.definition.patterns) (needs_of d)) o.definition.conjuncts place c at suits.needs
 
   pub places_at : length slots ≡ length o.definition.patterns → HavePlaces slots (needs_of c)
-  places_at long = have_places o.letters o.definition.patterns slots (needs_of c) long needs_at
+  places_at long = have_places o.messages o.definition.patterns slots (needs_of c) long needs_at
 
-  pub ready_at : SlotsSuit o.letters o.definition.patterns slots → is_decided slots c ≡ true → AreReady o.letters slots (needs_of c)
+  pub ready_at : SlotsSuit o.messages o.definition.patterns slots → is_decided slots c ≡ true → AreReady o.messages slots (needs_of c)
   ready_at whole decided =
       let filled = (both_true (has_some (needs_of c)) (list_all (is_filled slots) (needs_of c)) decided).1 in
-      ready_where_filled o.letters o.definition.patterns slots (needs_of c) whole needs_at filled
+      ready_where_filled o.messages o.definition.patterns slots (needs_of c) whole needs_at filled
 
 pub same_some : {X : Type 0} (x : Option X) (a b : X) → x ≡ Some a → x ≡ Some b → a ≡ b
 same_some None a b e f = absurd cc

@@ -88,7 +88,7 @@ extends_both (slot ∷ slots) zero m (suc p) n free (suc x) filled = refl
 extends_both (slot ∷ slots) (suc q) m (suc p) n free zero filled = refl
 extends_both (slot ∷ slots) (suc q) m (suc p) n free (suc x) filled = extends_both slots q m p n free x filled
 
-module _ (letters : List Message) (slots longer : Assignment) (extends : Extends slots longer) where
+module _ (messages : List Message) (slots longer : Assignment) (extends : Extends slots longer) where
   filled_too : (needs : List Need) → list_all (is_filled slots) needs ≡ true → list_all (is_filled longer) needs ≡ true
   filled_too [] h = refl
   filled_too (need ∷ needs) h =
@@ -96,20 +96,20 @@ module _ (letters : List Message) (slots longer : Assignment) (extends : Extends
       let here : is_filled longer need ≡ true = ap is_slot_filled (extends need.0.pattern parts.0) ∙ parts.0 in
       (λ i. here i && list_all (is_filled longer) needs) ∙ filled_too needs parts.1
 
-  agrees_one : (c : Condition) (b : Bool) → is_decided slots c ≡ b → (not (is_decided longer c) || is_true letters longer c) ≡ true → (not b || is_true letters slots c) ≡ true
+  agrees_one : (c : Condition) (b : Bool) → is_decided slots c ≡ b → (not (is_decided longer c) || is_true messages longer c) ≡ true → (not b || is_true messages slots c) ≡ true
   agrees_one c false decided holds = refl
   agrees_one c true decided holds =
       let parts = both_true (has_some (needs_of c)) (list_all (is_filled slots) (needs_of c)) decided in
       let too : is_decided longer c ≡ true = (λ i. parts.0 i && list_all (is_filled longer) (needs_of c)) ∙ filled_too (needs_of c) parts.1 in
-      sym (is_true-extended letters slots longer extends c parts.1) ∙ sym (λ i. not (too i) || is_true letters longer c) ∙ holds
+      sym (is_true-extended messages slots longer extends c parts.1) ∙ sym (λ i. not (too i) || is_true messages longer c) ∙ holds
 
   -- what an agreeable assignment extends is agreeable
-  pub agreeable_below : (conjuncts : List Condition) → is_agreeable letters conjuncts longer ≡ true → is_agreeable letters conjuncts slots ≡ true
+  pub agreeable_below : (conjuncts : List Condition) → is_agreeable messages conjuncts longer ≡ true → is_agreeable messages conjuncts slots ≡ true
   agreeable_below [] holds = refl
   agreeable_below (c ∷ conjuncts) holds =
-      let parts = both_true (not (is_decided longer c) || is_true letters longer c) (is_agreeable letters conjuncts longer) holds in
-      (λ i. agrees_one c (is_decided slots c) refl parts.0 i && is_agreeable letters conjuncts slots) ∙ agreeable_below conjuncts parts.1
+      let parts = both_true (not (is_decided longer c) || is_true messages longer c) (is_agreeable messages conjuncts longer) holds in
+      (λ i. agrees_one c (is_decided slots c) refl parts.0 i && is_agreeable messages conjuncts slots) ∙ agreeable_below conjuncts parts.1
 
 -- an assignment that agrees with a number at each of two patterns agrees with one of them alone
-pub agreeable_one : (letters : List Message) (conjuncts : List Condition) (slots : Assignment) (q m p n : ℕ) → is_free slots q ≡ true → is_agreeable letters conjuncts (with_number (with_number slots q m) p n) ≡ true → is_agreeable letters conjuncts (with_number slots p n) ≡ true
-agreeable_one letters conjuncts slots q m p n free holds = agreeable_below letters (with_number slots p n) (with_number (with_number slots q m) p n) (extends_both slots q m p n free) conjuncts holds
+pub agreeable_one : (messages : List Message) (conjuncts : List Condition) (slots : Assignment) (q m p n : ℕ) → is_free slots q ≡ true → is_agreeable messages conjuncts (with_number (with_number slots q m) p n) ≡ true → is_agreeable messages conjuncts (with_number slots p n) ≡ true
+agreeable_one messages conjuncts slots q m p n free holds = agreeable_below messages (with_number slots p n) (with_number (with_number slots q m) p n) (extends_both slots q m p n free) conjuncts holds

@@ -2,7 +2,7 @@
 use Rattle.std.proofs.Common.{◌≡◌, ◌∙◌, ℕ, List, [], ◌∷◌, Bool, true, false, not, ◌&&◌, cond, slice_index, refl, sym, ap}
 use Rattle.std.specs.Prelude.{◌==◌}
 use Rattle.std.specs.List.{filter}
-use Rattle.guard_eval.specs.Meaning.{Assignment, letter_at}
+use Rattle.guard_eval.specs.Meaning.{Assignment, recorded_message}
 use Rattle.guard_eval.proofs.ExtendLemmas.{both_true}
 use Rattle.pattern_core.specs.Matches.{is_of_kind, is_agreeable}
 use Rattle.match_tree.specs.Routes.{Route, with_number, filled}
@@ -42,18 +42,18 @@ module _ (o : Offered) where
   -- what a longer path lets take the number, the shorter one does
   pub takes_below : (slots : Assignment) (q m p : ℕ) → is_free slots q ≡ true → may_take o (with_number slots q m) p ≡ true → may_take o slots p ≡ true
   takes_below slots q m p free h =
-      let kind : Bool = is_of_kind (letter_at o.letters o.number) (slice_index o.definition.patterns p) in
-      let parts = both_true (is_free (with_number slots q m) p) (kind && is_agreeable o.letters o.definition.conjuncts (with_number (with_number slots q m) p o.number)) h in
-      let inner = both_true kind (is_agreeable o.letters o.definition.conjuncts (with_number (with_number slots q m) p o.number)) parts.1 in
+      let kind : Bool = is_of_kind (recorded_message o.messages o.number) (slice_index o.definition.patterns p) in
+      let parts = both_true (is_free (with_number slots q m) p) (kind && is_agreeable o.messages o.definition.conjuncts (with_number (with_number slots q m) p o.number)) h in
+      let inner = both_true kind (is_agreeable o.messages o.definition.conjuncts (with_number (with_number slots q m) p o.number)) parts.1 in
       let was_free = (both_true (is_free slots p) (not (p == q)) (sym (free_further slots q m p) ∙ parts.0)).0 in
-      and_of (is_free slots p) (kind && is_agreeable o.letters o.definition.conjuncts (with_number slots p o.number)) was_free
-      (and_of kind (is_agreeable o.letters o.definition.conjuncts (with_number slots p o.number)) inner.0 (agreeable_one o.letters o.definition.conjuncts slots q m p o.number free inner.1))
+      and_of (is_free slots p) (kind && is_agreeable o.messages o.definition.conjuncts (with_number slots p o.number)) was_free
+      (and_of kind (is_agreeable o.messages o.definition.conjuncts (with_number slots p o.number)) inner.0 (agreeable_one o.messages o.definition.conjuncts slots q m p o.number free inner.1))
 
   -- and it is another pattern
   pub takes_other : (slots : Assignment) (q m p : ℕ) → may_take o (with_number slots q m) p ≡ true → not (p == q) ≡ true
   takes_other slots q m p h =
-      let kind : Bool = is_of_kind (letter_at o.letters o.number) (slice_index o.definition.patterns p) in
-      let parts = both_true (is_free (with_number slots q m) p) (kind && is_agreeable o.letters o.definition.conjuncts (with_number (with_number slots q m) p o.number)) h in
+      let kind : Bool = is_of_kind (recorded_message o.messages o.number) (slice_index o.definition.patterns p) in
+      let parts = both_true (is_free (with_number slots q m) p) (kind && is_agreeable o.messages o.definition.conjuncts (with_number (with_number slots q m) p o.number)) h in
       (both_true (is_free slots p) (not (p == q)) (sym (free_further slots q m p) ∙ parts.0)).1
 
   -- the other takers of a path are all that a longer one can have

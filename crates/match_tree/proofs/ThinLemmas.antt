@@ -7,7 +7,7 @@ use Rattle.std.proofs.lemmas.Bool.Decides.{nat_tests}
 use Rattle.std.proofs.lemmas.List.{get_or-set_other, get_or-set_same, length-map, length-set}
 use Rattle.join_base.specs.declared.message.Message.{Message}
 use Rattle.join_base.specs.Taken.{contains_number}
-use Rattle.guard_eval.specs.Meaning.{Assignment, letter_at, number_at, is_slot_filled}
+use Rattle.guard_eval.specs.Meaning.{Assignment, recorded_message, number_at, is_slot_filled}
 use Rattle.guard_eval.proofs.ExtendLemmas.{Extends, both_true}
 use Rattle.guard_eval.proofs.ReadyLemmas.{all_left, all_right}
 use Rattle.pattern_core.specs.Matches.{is_of_kind, is_agreeable}
@@ -26,7 +26,7 @@ use Rattle.match_tree.specs.Pruned.{AreShort, NodesRise, RiseFrom, pruned}
 use Rattle.match_tree.specs.Screen.{IsOffered}
 use Rattle.match_tree.specs.Look.{IsAbsent, LooksUpAt}
 use Rattle.match_tree.specs.declared.look.Look.{Look}
-use Rattle.match_tree.specs.Thinned.{GoesOn, GoOn, IsBarred, IsQuiet, IsThinned, NodesGoOn}
+use Rattle.match_tree.specs.Thinned.{ContinuesPath, ContinuePath, IsBarred, IsQuiet, IsThinned, NodesContinuePath}
 use Rattle.match_tree.proofs.FirstLemmas.{all_in}
 use Rattle.match_tree.proofs.LeadLemmas.{below_start, below_unset}
 use Rattle.match_tree.proofs.LookLemmas.{node_less}
@@ -56,8 +56,8 @@ mapped_filter {X} {Y} P f p (x ∷ xs) h = by (p x) (mapped_filter P f p xs h.1)
     by true later = (h.0, later)
     by false later = later
 
-pub go_on_pruned : (o : Offered) (slots : Assignment) (q : ℕ) (ks : List ℕ) (node : Branch) → GoOn o slots (node_routes q node) → GoOn o slots (node_routes q (pruned ks node))
-go_on_pruned o slots q ks node h = (h.0, mapped_filter (GoesOn o.letters o.index o.definition slots) (λ r. step q node.number ∷ r) (lacks ks) node.routes h.1)
+pub go_on_pruned : (o : Offered) (slots : Assignment) (q : ℕ) (ks : List ℕ) (node : Branch) → ContinuePath o slots (node_routes q node) → ContinuePath o slots (node_routes q (pruned ks node))
+go_on_pruned o slots q ks node h = (h.0, mapped_filter (ContinuesPath o.messages o.index o.definition slots) (λ r. step q node.number ∷ r) (lacks ks) node.routes h.1)
 
 -- ---- two lists of numbers
 
@@ -184,8 +184,8 @@ module _ (ks : List ℕ) (Rest : ℕ → Type 0) where
   pub thinned_short : (m : ℕ) (before now : List Branch) → IsThinned ks Rest before now → AllByRecursion (λ node. AreShort m node.routes) before → AllByRecursion (λ node. AreShort m node.routes) now
   thinned_short m before now h short = thinned_each (λ (node : Branch). AreShort m node.routes) before now (short_pruned m ks) h short
 
-  pub thinned_go_on : (o : Offered) (slots : Assignment) (q : ℕ) (before now : List Branch) → IsThinned ks Rest before now → NodesGoOn o slots q before → NodesGoOn o slots q now
-  thinned_go_on o slots q before now h go_on = thinned_each (λ (node : Branch). GoOn o slots (node_routes q node)) before now (go_on_pruned o slots q ks) h go_on
+  pub thinned_go_on : (o : Offered) (slots : Assignment) (q : ℕ) (before now : List Branch) → IsThinned ks Rest before now → NodesContinuePath o slots q before → NodesContinuePath o slots q now
+  thinned_go_on o slots q before now h go_on = thinned_each (λ (node : Branch). ContinuePath o slots (node_routes q node)) before now (go_on_pruned o slots q ks) h go_on
 
 -- where the rest is never true, all are
 pub thinned_all : (ks : List ℕ) (before now : List Branch) → IsThinned ks (λ n. ⊥) before now → now ≡ map (pruned ks) before
@@ -261,29 +261,29 @@ extends_filled slots (s ∷ route) climbs p set_there =
     let here = extends_one slots s.pattern s.number climbs.0 p set_there in
     extends_filled (with_number slots s.pattern s.number) route climbs.2 p (ap is_slot_filled here ∙ set_there) ∙ here
 
-kind_of : (letters : List Message) (kinds : List ℕ) (slots : Assignment) (q m : ℕ) → SlotsSuit letters kinds slots → number_at slots q ≡ Some m → is_of_kind (letter_at letters m) (slice_index kinds q) ≡ true
-kind_of letters [] [] q m suits at = absurd cc
-kind_of letters [] (slot ∷ slots) q m suits at = absurd suits
-kind_of letters (k ∷ kinds) [] q m suits at = absurd suits
-kind_of letters (k ∷ kinds) (None ∷ slots) zero m suits at = absurd cc
-kind_of letters (k ∷ kinds) (Some n ∷ slots) zero m suits at = let number : n ≡ m = cc in subst (λ (x : ℕ). is_of_kind (letter_at letters x) k ≡ true) number suits.1
-kind_of letters (k ∷ kinds) (None ∷ slots) (suc q) m suits at = kind_of letters kinds slots q m suits at
-kind_of letters (k ∷ kinds) (Some n ∷ slots) (suc q) m suits at = kind_of letters kinds slots q m suits.3 at
+kind_of : (messages : List Message) (kinds : List ℕ) (slots : Assignment) (q m : ℕ) → SlotsSuit messages kinds slots → number_at slots q ≡ Some m → is_of_kind (recorded_message messages m) (slice_index kinds q) ≡ true
+kind_of messages [] [] q m suits at = absurd cc
+kind_of messages [] (slot ∷ slots) q m suits at = absurd suits
+kind_of messages (k ∷ kinds) [] q m suits at = absurd suits
+kind_of messages (k ∷ kinds) (None ∷ slots) zero m suits at = absurd cc
+kind_of messages (k ∷ kinds) (Some n ∷ slots) zero m suits at = let number : n ≡ m = cc in subst (λ (x : ℕ). is_of_kind (recorded_message messages x) k ≡ true) number suits.1
+kind_of messages (k ∷ kinds) (None ∷ slots) (suc q) m suits at = kind_of messages kinds slots q m suits at
+kind_of messages (k ∷ kinds) (Some n ∷ slots) (suc q) m suits at = kind_of messages kinds slots q m suits.3 at
 
 module _ (o : Offered) where
   -- the first step could be taken at its path
-  taken_there : (slots : Assignment) (q : ℕ) (route : Route) → is_free slots q ≡ true → Climbs (with_number slots q o.number) route → SlotsSuit o.letters o.definition.patterns (filled (with_number slots q o.number) route)
-      → is_agreeable o.letters o.definition.conjuncts (filled (with_number slots q o.number) route) ≡ true → may_take o slots q ≡ true
+  taken_there : (slots : Assignment) (q : ℕ) (route : Route) → is_free slots q ≡ true → Climbs (with_number slots q o.number) route → SlotsSuit o.messages o.definition.patterns (filled (with_number slots q o.number) route)
+      → is_agreeable o.messages o.definition.conjuncts (filled (with_number slots q o.number) route) ≡ true → may_take o slots q ≡ true
   taken_there slots q route free climbs suits agreeable =
       let longer : Assignment = with_number slots q o.number in
       let whole : Assignment = filled longer route in
       let extends = extends_filled longer route climbs in
       let here = number_set slots q o.number free in
       let there : number_at whole q ≡ Some o.number = extends q (ap is_slot_filled here) ∙ here in
-      let kind = kind_of o.letters o.definition.patterns whole q o.number suits there in
-      let agrees = agreeable_below o.letters longer whole extends o.definition.conjuncts agreeable in
-      and_of (is_free slots q) (is_of_kind (letter_at o.letters o.number) (slice_index o.definition.patterns q) && is_agreeable o.letters o.definition.conjuncts longer) free
-      (and_of (is_of_kind (letter_at o.letters o.number) (slice_index o.definition.patterns q)) (is_agreeable o.letters o.definition.conjuncts longer) kind agrees)
+      let kind = kind_of o.messages o.definition.patterns whole q o.number suits there in
+      let agrees = agreeable_below o.messages longer whole extends o.definition.conjuncts agreeable in
+      and_of (is_free slots q) (is_of_kind (recorded_message o.messages o.number) (slice_index o.definition.patterns q) && is_agreeable o.messages o.definition.conjuncts longer) free
+      (and_of (is_of_kind (recorded_message o.messages o.number) (slice_index o.definition.patterns q)) (is_agreeable o.messages o.definition.conjuncts longer) kind agrees)
 
   quiet_further : (slots : Assignment) (q m : ℕ) → is_free slots q ≡ true → IsQuiet o slots → IsQuiet o (with_number slots q m)
   quiet_further slots q m free quiet p = by (may_take o (with_number slots q m) p) refl
@@ -292,7 +292,7 @@ module _ (o : Offered) where
       by true e = absurd (let may = takes_below o slots q m p free e in let never = quiet p in cc)
       by false e = e
 
-  lacks_quiet : (slots : Assignment) (route : Route) → IsQuiet o slots → Climbs slots route → SlotsSuit o.letters o.definition.patterns (filled slots route) → is_agreeable o.letters o.definition.conjuncts (filled slots route) ≡ true
+  lacks_quiet : (slots : Assignment) (route : Route) → IsQuiet o slots → Climbs slots route → SlotsSuit o.messages o.definition.patterns (filled slots route) → is_agreeable o.messages o.definition.conjuncts (filled slots route) ≡ true
       → lacks (o.number ∷ []) route ≡ true
   lacks_quiet slots [] quiet climbs suits agreeable = refl
   lacks_quiet slots (s ∷ route) quiet climbs suits agreeable =
@@ -303,8 +303,8 @@ module _ (o : Offered) where
           let same : s.number ≡ o.number = eqb-true s.number o.number e in
           let Whole : ℕ → Assignment = λ n. with_number slots s.pattern n in
           let climbs_on = subst (λ (n : ℕ). Climbs (Whole n) route) same climbs.2 in
-          let suits_on = subst (λ (n : ℕ). SlotsSuit o.letters o.definition.patterns (filled (Whole n) route)) same suits in
-          let agreeable_on = subst (λ (n : ℕ). is_agreeable o.letters o.definition.conjuncts (filled (Whole n) route) ≡ true) same agreeable in
+          let suits_on = subst (λ (n : ℕ). SlotsSuit o.messages o.definition.patterns (filled (Whole n) route)) same suits in
+          let agreeable_on = subst (λ (n : ℕ). is_agreeable o.messages o.definition.conjuncts (filled (Whole n) route) ≡ true) same agreeable in
           let may = taken_there slots s.pattern route climbs.0 climbs_on suits_on agreeable_on in
           let never = quiet s.pattern in
           cc
@@ -325,19 +325,19 @@ kept_where : (k : ℕ) (s : Step) (P : Route → Type 0) → ((r : Route) → P 
 kept_where k s P none [] h = refl
 kept_where k s P none (r ∷ routes) h = λ i. cond (none r h.0 i) (r ∷ kept_where k s P none routes h.1 i) (kept_where k s P none routes h.1 i)
 
-module _ (o : Offered) (slots : Assignment) (q : ℕ) (node : Branch) (go_on : GoOn o slots (node_routes q node)) where
+module _ (o : Offered) (slots : Assignment) (q : ℕ) (node : Branch) (go_on : ContinuePath o slots (node_routes q node)) where
   -- no pattern may take the number behind it
   pruned_quiet : IsQuiet o (with_number slots q node.number) → pruned (o.number ∷ []) node ≡ node
   pruned_quiet quiet =
-      let none = λ (r : Route) (h : GoesOn o.letters o.index o.definition slots (step q node.number ∷ r)). lacks_quiet o (with_number slots q node.number) r quiet h.climbs.2 h.suits h.agreeable in
-      ap (λ (rs : List Route). record { number = node.number; routes = rs }) (kept_where o.number (step q node.number) (GoesOn o.letters o.index o.definition slots) none node.routes go_on.1)
+      let none = λ (r : Route) (h : ContinuesPath o.messages o.index o.definition slots (step q node.number ∷ r)). lacks_quiet o (with_number slots q node.number) r quiet h.climbs.2 h.suits h.agreeable in
+      ap (λ (rs : List Route). record { number = node.number; routes = rs }) (kept_where o.number (step q node.number) (ContinuesPath o.messages o.index o.definition slots) none node.routes go_on.1)
 
   -- its own number is not less
   pruned_above : o.number ≤ node.number → pruned (o.number ∷ []) node ≡ node
   pruned_above most =
       let above = λ (m : ℕ) (b : AreBelow m (with_number slots q node.number)). (let less = (below_unset slots q node.number m go_on.0.climbs.0 b).1 in let more : o.number < m = omega (arith, less, most) in more) in
-      let none = λ (r : Route) (h : GoesOn o.letters o.index o.definition slots (step q node.number ∷ r)). lacks_above (with_number slots q node.number) o.number r above h.climbs.2 in
-      ap (λ (rs : List Route). record { number = node.number; routes = rs }) (kept_where o.number (step q node.number) (GoesOn o.letters o.index o.definition slots) none node.routes go_on.1)
+      let none = λ (r : Route) (h : ContinuesPath o.messages o.index o.definition slots (step q node.number ∷ r)). lacks_above (with_number slots q node.number) o.number r above h.climbs.2 in
+      ap (λ (rs : List Route). record { number = node.number; routes = rs }) (kept_where o.number (step q node.number) (ContinuesPath o.messages o.index o.definition slots) none node.routes go_on.1)
 
   pub offered_there : CanOffer o slots → node.number < o.number → IsOffered o slots q node.number
   offered_there can less = record {
@@ -384,7 +384,7 @@ absent_barred o slots q p n look looks there absent = by (may_take o (with_numbe
 
 -- ---- from what leads on
 
-pub goes_on : (o : Offered) (slots : Assignment) (routes : List Route) → LeadOn o slots routes → GoOn o slots routes
+pub goes_on : (o : Offered) (slots : Assignment) (routes : List Route) → LeadOn o slots routes → ContinuePath o slots routes
 goes_on o slots [] h = tt
 goes_on o slots (r ∷ routes) h =
     (record { climbs = h.0.climbs; suits = h.0.can.suits; agreeable = h.0.can.agreeable; indexed = h.0.can.indexed }, goes_on o slots routes h.1)
@@ -420,7 +420,7 @@ module _ (ks : List ℕ) (limit : ℕ) (all left : List ℕ) where
 
 -- ---- pattern by pattern
 
-pub pair_thinned : (o : Offered) (slots : Assignment) (q p : ℕ) (look : Look) (ks left : List ℕ) (before now : List Branch) → ks ≡ o.number ∷ [] → CanOffer o slots → NodesGoOn o slots q before → LooksUpAt o slots q p look
+pub pair_thinned : (o : Offered) (slots : Assignment) (q p : ℕ) (look : Look) (ks left : List ℕ) (before now : List Branch) → ks ≡ o.number ∷ [] → CanOffer o slots → NodesContinuePath o slots q before → LooksUpAt o slots q p look
     → ((n : ℕ) → 0 ≤ n → IsIn (entry look.place look.value n) o.index.entries → IsIn n left) → IsThinned ks (λ n. n < o.number → ¬ IsIn n left) before now → IsThinned (o.number ∷ []) (IsBarred o slots q p) before now
 pair_thinned o slots q p look ks left before now is can go_on looks has h =
     weaker (o.number ∷ []) (λ n. n < o.number → ¬ IsIn n left) (IsBarred o slots q p) before now barred (subst (λ (ns : List ℕ). IsThinned ns (λ n. n < o.number → ¬ IsIn n left) before now) is h)
@@ -428,7 +428,7 @@ pair_thinned o slots q p look ks left before now is can go_on looks has h =
     barred : (i : ℕ) → i < length before → ((node_at before i).number < o.number → ¬ IsIn (node_at before i).number left) → IsBarred o slots q p (node_at before i).number
     barred i l none less =
         let node : Branch = node_at before i in
-        let there = offered_there o slots q node (all_at (λ (x : Branch). GoOn o slots (node_routes q x)) before i (leaf 0) l go_on) can less in
+        let there = offered_there o slots q node (all_at (λ (x : Branch). ContinuePath o slots (node_routes q x)) before i (leaf 0) l go_on) can less in
         absent_barred o slots q p node.number look looks there (λ m. none less (has node.number (omega arith) m))
 
 and_never : (a b : Bool) → (a && (false && b)) ≡ false
@@ -438,8 +438,8 @@ and_never false b = refl
 -- a pattern is barred at itself
 pub itself_barred : (o : Offered) (slots : Assignment) (q p n : ℕ) → p ≡ q → may_take o (with_number slots q n) p ≡ false
 itself_barred o slots q p n same =
-    let kind : Bool = is_of_kind (letter_at o.letters o.number) (slice_index o.definition.patterns p) in
-    let agrees : Bool = is_agreeable o.letters o.definition.conjuncts (with_number (with_number slots q n) p o.number) in
+    let kind : Bool = is_of_kind (recorded_message o.messages o.number) (slice_index o.definition.patterns p) in
+    let agrees : Bool = is_agreeable o.messages o.definition.conjuncts (with_number (with_number slots q n) p o.number) in
     let it : (p == q) ≡ true = grind (arith, nat_tests) in
     let taken : is_free (with_number slots q n) p ≡ false = free_further slots q n p ∙ (λ i. is_free slots p && not (it i)) ∙ last (is_free slots p) in
     λ i. taken i && (kind && agrees)
@@ -449,9 +449,9 @@ itself_barred o slots q p n same =
     last false = refl
 
 -- one of another kind is
-pub kind_barred : (o : Offered) (slots : Assignment) (q p n : ℕ) → is_of_kind (letter_at o.letters o.number) (slice_index o.definition.patterns p) ≡ false → may_take o (with_number slots q n) p ≡ false
+pub kind_barred : (o : Offered) (slots : Assignment) (q p n : ℕ) → is_of_kind (recorded_message o.messages o.number) (slice_index o.definition.patterns p) ≡ false → may_take o (with_number slots q n) p ≡ false
 kind_barred o slots q p n other =
-    let agrees : Bool = is_agreeable o.letters o.definition.conjuncts (with_number (with_number slots q n) p o.number) in
+    let agrees : Bool = is_agreeable o.messages o.definition.conjuncts (with_number (with_number slots q n) p o.number) in
     (λ i. is_free (with_number slots q n) p && (other i && agrees)) ∙ and_never (is_free (with_number slots q n) p) agrees
 
 module _ (o : Offered) (slots : Assignment) (q : ℕ) where
@@ -472,18 +472,18 @@ module _ (o : Offered) (slots : Assignment) (q : ℕ) where
       ]
 
   -- all patterns
-  pub barred_all : (Rest : ℕ → Type 0) (count : ℕ) (before now : List Branch) → count ≡ length o.definition.patterns → CanOffer o slots → NodesGoOn o slots q before → IsThinned (o.number ∷ []) (AreBarred count) before now → IsThinned (o.number ∷ []) Rest before now
+  pub barred_all : (Rest : ℕ → Type 0) (count : ℕ) (before now : List Branch) → count ≡ length o.definition.patterns → CanOffer o slots → NodesContinuePath o slots q before → IsThinned (o.number ∷ []) (AreBarred count) before now → IsThinned (o.number ∷ []) Rest before now
   barred_all Rest count before now is can go_on h = thinned_close (o.number ∷ []) (AreBarred count) Rest before now same h
     where
       same : (i : ℕ) → i < length before → AreBarred count (node_at before i).number → pruned (o.number ∷ []) (node_at before i) ≡ node_at before i
       same i l barred =
           let node : Branch = node_at before i in
-          let here = all_at (λ (x : Branch). GoOn o slots (node_routes q x)) before i (leaf 0) l go_on in
-          pruned_barred o slots q node here (length-SlotsSuit o.letters o.definition.patterns slots can.suits) (λ p m. barred p (omega (arith, m, is)))
+          let here = all_at (λ (x : Branch). ContinuePath o slots (node_routes q x)) before i (leaf 0) l go_on in
+          pruned_barred o slots q node here (length-SlotsSuit o.messages o.definition.patterns slots can.suits) (λ p m. barred p (omega (arith, m, is)))
 
 -- another number may be offered to the empty path
-pub can_number : (o : Offered) (slots : Assignment) (number : ℕ) → slots ≡ replicate (length o.definition.patterns) None → CanOffer o slots → IsRecorded o.letters number
-    → CanOffer (record { letters = o.letters; index = o.index; definition = o.definition; rule = o.rule; number = number; oldest = o.oldest }) slots
+pub can_number : (o : Offered) (slots : Assignment) (number : ℕ) → slots ≡ replicate (length o.definition.patterns) None → CanOffer o slots → IsRecorded o.messages number
+    → CanOffer (record { messages = o.messages; index = o.index; definition = o.definition; rule = o.rule; number = number; oldest = o.oldest }) slots
 can_number o slots number empty can recorded = record {
   definition = can.definition;
   suits = can.suits;
@@ -528,14 +528,14 @@ is_lt a b e = grind (arith, nat_tests)
 lt_is : (a b : ℕ) → a < b → nat_lt a b ≡ true
 lt_is a b l = grind (arith, nat_tests)
 
-recorded_of : (letters : List Message) (kinds : List ℕ) (slots : Assignment) (q m : ℕ) → SlotsSuit letters kinds slots → number_at slots q ≡ Some m → IsRecorded letters m
-recorded_of letters [] [] q m suits at = absurd cc
-recorded_of letters [] (slot ∷ slots) q m suits at = absurd suits
-recorded_of letters (k ∷ kinds) [] q m suits at = absurd suits
-recorded_of letters (k ∷ kinds) (None ∷ slots) zero m suits at = absurd cc
-recorded_of letters (k ∷ kinds) (Some n ∷ slots) zero m suits at = let number : n ≡ m = cc in subst (IsRecorded letters) number suits.0
-recorded_of letters (k ∷ kinds) (None ∷ slots) (suc q) m suits at = recorded_of letters kinds slots q m suits at
-recorded_of letters (k ∷ kinds) (Some n ∷ slots) (suc q) m suits at = recorded_of letters kinds slots q m suits.3 at
+recorded_of : (messages : List Message) (kinds : List ℕ) (slots : Assignment) (q m : ℕ) → SlotsSuit messages kinds slots → number_at slots q ≡ Some m → IsRecorded messages m
+recorded_of messages [] [] q m suits at = absurd cc
+recorded_of messages [] (slot ∷ slots) q m suits at = absurd suits
+recorded_of messages (k ∷ kinds) [] q m suits at = absurd suits
+recorded_of messages (k ∷ kinds) (None ∷ slots) zero m suits at = absurd cc
+recorded_of messages (k ∷ kinds) (Some n ∷ slots) zero m suits at = let number : n ≡ m = cc in subst (IsRecorded messages) number suits.0
+recorded_of messages (k ∷ kinds) (None ∷ slots) (suc q) m suits at = recorded_of messages kinds slots q m suits at
+recorded_of messages (k ∷ kinds) (Some n ∷ slots) (suc q) m suits at = recorded_of messages kinds slots q m suits.3 at
 
 contains_standing : (limit s : ℕ) (ns : List ℕ) → 1 ≤ s → s < limit → contains_number (filter (may_stand limit) ns) s ≡ contains_number ns s
 contains_standing limit s [] some less = refl
@@ -557,7 +557,7 @@ contains_standing limit s (n ∷ ns) some less = by (may_stand limit n) refl (co
             cc
             )
 
-lacks_standing : (o : Offered) (slots : Assignment) (ns : List ℕ) (route : Route) → Climbs slots route → SlotsSuit o.letters o.definition.patterns (filled slots route) → AreBelow o.number (filled slots route)
+lacks_standing : (o : Offered) (slots : Assignment) (ns : List ℕ) (route : Route) → Climbs slots route → SlotsSuit o.messages o.definition.patterns (filled slots route) → AreBelow o.number (filled slots route)
     → lacks (filter (may_stand o.number) ns) route ≡ lacks ns route
 lacks_standing o slots ns [] climbs suits below = refl
 lacks_standing o slots ns (s ∷ route) climbs suits below =
@@ -565,7 +565,7 @@ lacks_standing o slots ns (s ∷ route) climbs suits below =
     let less = (below_unset slots s.pattern s.number o.number climbs.0 (below_start longer route o.number climbs.2 below)).1 in
     let here = number_set slots s.pattern s.number climbs.0 in
     let there : number_at (filled longer route) s.pattern ≡ Some s.number = extends_filled longer route climbs.2 s.pattern (ap is_slot_filled here) ∙ here in
-    let recorded = recorded_of o.letters o.definition.patterns (filled longer route) s.pattern s.number suits there in
+    let recorded = recorded_of o.messages o.definition.patterns (filled longer route) s.pattern s.number suits there in
     λ i. not (contains_standing o.number s.number ns recorded.0 less i) && lacks_standing o longer ns route climbs.2 suits below i
 
 pub filter_standing : (o : Offered) (slots : Assignment) (ns : List ℕ) (routes : List Route) → LeadOn o slots routes → filter (lacks (filter (may_stand o.number) ns)) routes ≡ filter (lacks ns) routes
@@ -574,11 +574,11 @@ filter_standing o slots ns (r ∷ routes) h =
     λ i. cond (lacks_standing o slots ns r h.0.climbs h.0.can.suits h.0.can.below i) (r ∷ filter_standing o slots ns routes h.1 i) (filter_standing o slots ns routes h.1 i)
 
 -- those that are left are recorded
-pub recorded_standing : (letters : List Message) (limit : ℕ) (ns : List ℕ) → IsRecorded letters limit → AllByRecursion (IsRecorded letters) (filter (may_stand limit) ns)
-recorded_standing letters limit [] last = tt
-recorded_standing letters limit (n ∷ ns) last = by (may_stand limit n) refl (recorded_standing letters limit ns last)
+pub recorded_standing : (messages : List Message) (limit : ℕ) (ns : List ℕ) → IsRecorded messages limit → AllByRecursion (IsRecorded messages) (filter (may_stand limit) ns)
+recorded_standing messages limit [] last = tt
+recorded_standing messages limit (n ∷ ns) last = by (may_stand limit n) refl (recorded_standing messages limit ns last)
   where
-    by : (b : Bool) → may_stand limit n ≡ b → AllByRecursion (IsRecorded letters) (filter (may_stand limit) ns) → AllByRecursion (IsRecorded letters) (cond b (n ∷ filter (may_stand limit) ns) (filter (may_stand limit) ns))
+    by : (b : Bool) → may_stand limit n ≡ b → AllByRecursion (IsRecorded messages) (filter (may_stand limit) ns) → AllByRecursion (IsRecorded messages) (cond b (n ∷ filter (may_stand limit) ns) (filter (may_stand limit) ns))
     by true e later =
         let both = both_true (nat_lt 0 n) (nat_lt n limit) e in
         let some = is_lt 0 n both.0 in
@@ -591,7 +591,7 @@ few_more true others now k i is few = let same = ap (λ (ns : List ℕ). length 
 few_more false others now k i is few = let same = ap (λ (ns : List ℕ). length ns) is in let more = length-append others (k ∷ []) in omega (arith, same, more, few)
 
 -- the routes by each node go on from the path where those of the row lead on
-pub nodes_go_on : (o : Offered) (slots : Assignment) (q : ℕ) (row : List Branch) → LeadOn o slots (row_routes q row) → NodesGoOn o slots q row
+pub nodes_go_on : (o : Offered) (slots : Assignment) (q : ℕ) (row : List Branch) → LeadOn o slots (row_routes q row) → NodesContinuePath o slots q row
 nodes_go_on o slots q [] h = tt
 nodes_go_on o slots q (node ∷ row) h =
     (goes_on o slots (node_routes q node) (all_left (LeadsOn o slots) (node_routes q node) (row_routes q row) h), nodes_go_on o slots q row (all_right (LeadsOn o slots) (node_routes q node) (row_routes q row) h))
@@ -603,10 +603,10 @@ pub thinned_rise : (ks : List ℕ) (Rest : ℕ → Type 0) (before now : List Br
 thinned_rise ks Rest before now h rising = thinned_each ks Rest (λ (node : Branch). RiseFrom node.number node.routes) before now (rising_pruned ks) h rising
 
 -- the routes behind a node from which they go on rise
-pub nodes_rise : (o : Offered) (slots : Assignment) (q : ℕ) (row : List Branch) → NodesGoOn o slots q row → NodesRise row
+pub nodes_rise : (o : Offered) (slots : Assignment) (q : ℕ) (row : List Branch) → NodesContinuePath o slots q row → NodesRise row
 nodes_rise o slots q [] h = tt
 nodes_rise o slots q (node ∷ row) h = (each node.routes h.0.1, nodes_rise o slots q row h.1)
   where
-    each : (routes : List Route) → GoOn o slots (map (λ r. step q node.number ∷ r) routes) → RiseFrom node.number routes
+    each : (routes : List Route) → ContinuePath o slots (map (λ r. step q node.number ∷ r) routes) → RiseFrom node.number routes
     each [] g = tt
     each (r ∷ routes) g = (climbs_rise slots (step q node.number ∷ r) g.0.climbs, each routes g.1)

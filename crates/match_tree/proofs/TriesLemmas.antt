@@ -4,7 +4,7 @@ use Rattle.std.specs.Prelude.{◌==◌, if◌then◌else◌}
 use Rattle.std.specs.List.{filter, list_any}
 use Rattle.std.proofs.lemmas.Bool.Decides.{nat_tests}
 use Rattle.std.proofs.lemmas.List.Sums.{sum_by-append, sum_by-cons}
-use Rattle.guard_eval.specs.Meaning.{Assignment, letter_at, is_slot_filled}
+use Rattle.guard_eval.specs.Meaning.{Assignment, recorded_message, is_slot_filled}
 use Rattle.pattern_core.specs.Matches.{is_of_kind, is_agreeable}
 use Rattle.match_tree.specs.Routes.{Route, Step, Branch, step, filled, with_number, node_routes}
 use Rattle.match_tree.specs.Offers.{Offered, places, is_free, may_take, takers}
@@ -62,8 +62,8 @@ regroup true false false = refl
 -- behind a path, a number is tried at the other patterns that could take it at the path
 pub tried_further : (o : Offered) (slots : Assignment) (q m : ℕ) → is_free slots q ≡ true → AreBelow m slots → filter (λ p. not (p == q)) (takers o slots) ≡ tried o (with_number slots q m)
 tried_further o slots q m free h =
-    let kind : ℕ → Bool = λ p. is_of_kind (letter_at o.letters o.number) (slice_index o.definition.patterns p) in
-    let agrees : Assignment → ℕ → Bool = λ s p. is_agreeable o.letters o.definition.conjuncts (with_number s p o.number) in
+    let kind : ℕ → Bool = λ p. is_of_kind (recorded_message o.messages o.number) (slice_index o.definition.patterns p) in
+    let agrees : Assignment → ℕ → Bool = λ s p. is_agreeable o.messages o.definition.conjuncts (with_number s p o.number) in
     let is : (p : ℕ) → (may_take o slots p && not (p == q)) ≡ is_tried o (with_number slots q m) p =
     λ p. regroup (is_free slots p) (not (p == q)) (kind p && agrees slots p)
     ∙ sym (λ i. free_further slots q m p i && (kind p && (not (filled_further slots q m free i) || agrees (without_further slots q m free h i) p)))

@@ -29,7 +29,7 @@ LooksUpAt o slots pattern other look = IsOther o slots pattern other → (number
 -- the number passes the bounds and the text of the screen
 abbrev pub may_meet : Offered → Option Screen → ℕ → Bool
 may_meet o None number = true
-may_meet o (Some screen) number = list_all (λ bound. meets o.letters bound number) screen.bounds && is_same o.letters o.number screen.same number
+may_meet o (Some screen) number = list_all (λ bound. meets o.messages bound number) screen.bounds && is_same o.messages o.number screen.same number
 
 -- from the place on, a number that is worth a visit is among those that are left
 abbrev pub AreLeft : Offered → Assignment → ℕ → List Branch → ℕ → List ℕ → Type 0

@@ -12,20 +12,20 @@ use Rattle.match_tree.specs.Below.{AreBelow, Climbs}
 use Rattle.match_tree.specs.declared.offer.Offer.{Offer}
 
 abbrev pub offered : Offer → Offered
-offered offer = record { letters = offer.letters.now; index = offer.index.now; definition = offer.definition.now; rule = offer.rule; number = offer.number; oldest = offer.oldest }
+offered offer = record { messages = offer.messages.now; index = offer.index.now; definition = offer.definition.now; rule = offer.rule; number = offer.number; oldest = offer.oldest }
 
 -- the index has each number of the path
 abbrev pub AreIndexed : Index → List Message → Assignment → Type 0
-AreIndexed index letters slots = (pattern number : ℕ) → number_at slots pattern ≡ Some number → Has index letters number
+AreIndexed index messages slots = (pattern number : ℕ) → number_at slots pattern ≡ Some number → Has index messages number
 
 -- the definition and the path suit the messages, the path is agreeable and indexed, and the number is recorded and after
 -- all of its numbers
 pub record CanOffer (o : Offered) (slots : Assignment) : Type 0 where
-  pub definition : DefinitionSuits o.letters o.definition
-  pub suits : SlotsSuit o.letters o.definition.patterns slots
-  pub agreeable : is_agreeable o.letters o.definition.conjuncts slots ≡ true
-  pub indexed : AreIndexed o.index o.letters slots
-  pub recorded : IsRecorded o.letters o.number
+  pub definition : DefinitionSuits o.messages o.definition
+  pub suits : SlotsSuit o.messages o.definition.patterns slots
+  pub agreeable : is_agreeable o.messages o.definition.conjuncts slots ≡ true
+  pub indexed : AreIndexed o.index o.messages slots
+  pub recorded : IsRecorded o.messages o.number
   pub below : AreBelow o.number slots
 
 -- the pattern is there and has no number

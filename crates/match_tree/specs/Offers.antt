@@ -2,7 +2,7 @@
 use Rattle.std.specs.Prelude.{ℕ, ◌+◌, List, [], ◌∷◌, ◌++◌, Bool, true, false, not, ◌&&◌, Option, Some, None, map, slice_get, slice_index}
 use Rattle.std.specs.List.{filter, flat_map}
 use Rattle.join_base.specs.declared.message.Message.{Message}
-use Rattle.guard_eval.specs.Meaning.{Assignment, letter_at}
+use Rattle.guard_eval.specs.Meaning.{Assignment, recorded_message}
 use Rattle.pattern_core.specs.declared.definition.Definition.{Definition}
 use Rattle.pattern_core.specs.declared.candidate.Candidate.{Candidate}
 use Rattle.pattern_core.specs.Matches.{is_of_kind, is_agreeable, is_full, is_complete_match}
@@ -13,7 +13,7 @@ use Rattle.match_tree.specs.Routes.{Route, step, with_number, filled, is_seen}
 -- a number of the recorded messages that is offered to the paths of a definition, which sees none before the oldest; an
 -- index has messages by their values
 pub record Offered : Type 0 where
-  pub letters : List Message
+  pub messages : List Message
   pub index : Index
   pub definition : Definition
   pub rule : ℕ
@@ -37,7 +37,7 @@ is_free slots pattern = is_open (slice_get slots pattern)
 -- the pattern may take the number beside the others: it is free, of the kind, and every conjunct that is then decided is true
 abbrev pub may_take : Offered → Assignment → ℕ → Bool
 may_take o slots pattern =
-    is_free slots pattern && (is_of_kind (letter_at o.letters o.number) (slice_index o.definition.patterns pattern) && is_agreeable o.letters o.definition.conjuncts (with_number slots pattern o.number))
+    is_free slots pattern && (is_of_kind (recorded_message o.messages o.number) (slice_index o.definition.patterns pattern) && is_agreeable o.messages o.definition.conjuncts (with_number slots pattern o.number))
 
 -- the patterns that may take the number
 abbrev pub takers : Offered → Assignment → List ℕ
@@ -47,7 +47,7 @@ abbrev pub leaves_one_free : Offered → Assignment → ℕ → Bool
 leaves_one_free o slots pattern = not (is_full (with_number slots pattern o.number))
 
 abbrev pub completes : Offered → Assignment → ℕ → Bool
-completes o slots pattern = is_complete_match o.letters o.definition (with_number slots pattern o.number)
+completes o slots pattern = is_complete_match o.messages o.definition (with_number slots pattern o.number)
 
 -- the patterns that may take the number and leave another free
 abbrev pub growing : Offered → Assignment → List ℕ

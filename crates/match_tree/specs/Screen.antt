@@ -33,7 +33,7 @@ pub record IsBound (o : Offered) (whole : Assignment) (pattern wanted : ℕ) (bo
   pub conjunct : Condition
   pub is_in : IsIn conjunct o.definition.conjuncts
   pub decided : is_decided whole conjunct ≡ true
-  pub says : Says o.letters o.number pattern wanted conjunct bound
+  pub says : Says o.messages o.number pattern wanted conjunct bound
 
 -- a decided conjunct of the definition says that these texts are equal
 pub record IsSaid (o : Offered) (whole : Assignment) (pattern wanted : ℕ) (same : Same) : Type 0 where
@@ -60,8 +60,8 @@ pub record Screens (o : Offered) (slots : Assignment) (pattern : ℕ) (wanted : 
   pub tested : AreTests o (with_number (with_number slots pattern o.number) screen.other o.number) pattern screen
 
 abbrev pub passes : List Message → Option Key → ℕ → Bool
-passes letters None number = true
-passes letters (Some key) number = int_eq (int_at letters number key.field) key.value
+passes messages None number = true
+passes messages (Some key) number = int_eq (int_at messages number key.field) key.value
 
 -- a pattern that was free has a number too
 pub record IsWith (slots : Assignment) (pattern number : ℕ) (longer : Assignment) : Type 0 where
@@ -70,7 +70,7 @@ pub record IsWith (slots : Assignment) (pattern number : ℕ) (longer : Assignme
 
 -- those between the two places have not the key's value
 abbrev pub AreLacking : List Message → Option Key → List ℕ → ℕ → ℕ → Type 0
-AreLacking letters key numbers from to = (i : ℕ) → from ≤ i → i < to → passes letters key (slice_index numbers i) ≡ false
+AreLacking messages key numbers from to = (i : ℕ) → from ≤ i → i < to → passes messages key (slice_index numbers i) ≡ false
 
 abbrev pub key_of : Option Screen → Option Key
 key_of None = None

@@ -15,18 +15,18 @@ use Rattle.match_tree.specs.Offering.{AreIndexed}
 use Rattle.match_tree.specs.Pruned.{pruned}
 
 -- the route climbs from the path, suits the messages, is agreeable, and the index has its numbers
-pub record GoesOn (letters : List Message) (index : Index) (definition : Definition) (slots : Assignment) (route : Route) : Type 0 where
+pub record ContinuesPath (messages : List Message) (index : Index) (definition : Definition) (slots : Assignment) (route : Route) : Type 0 where
   pub climbs : Climbs slots route
-  pub suits : SlotsSuit letters definition.patterns (filled slots route)
-  pub agreeable : is_agreeable letters definition.conjuncts (filled slots route) ≡ true
-  pub indexed : AreIndexed index letters (filled slots route)
+  pub suits : SlotsSuit messages definition.patterns (filled slots route)
+  pub agreeable : is_agreeable messages definition.conjuncts (filled slots route) ≡ true
+  pub indexed : AreIndexed index messages (filled slots route)
 
-abbrev pub GoOn : Offered → Assignment → List Route → Type 0
-GoOn o slots routes = AllByRecursion (GoesOn o.letters o.index o.definition slots) routes
+abbrev pub ContinuePath : Offered → Assignment → List Route → Type 0
+ContinuePath o slots routes = AllByRecursion (ContinuesPath o.messages o.index o.definition slots) routes
 
 -- the routes by each node of a pattern's row do
-abbrev pub NodesGoOn : Offered → Assignment → ℕ → List Branch → Type 0
-NodesGoOn o slots pattern row = AllByRecursion (λ node. GoOn o slots (node_routes pattern node)) row
+abbrev pub NodesContinuePath : Offered → Assignment → ℕ → List Branch → Type 0
+NodesContinuePath o slots pattern row = AllByRecursion (λ node. ContinuePath o slots (node_routes pattern node)) row
 
 -- each node is without the routes that take one of the numbers, or it is as it was, and then the rest is true of its number
 pub record IsThinned (numbers : List ℕ) (Rest : ℕ → Type 0) (before now : List Branch) : Type 0 where

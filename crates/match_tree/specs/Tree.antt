@@ -31,7 +31,7 @@ empty_of definition = replicate (length definition.patterns) None
 
 -- a number of these messages, offered to the paths of a tree
 abbrev pub offer_to : Tree → List Message → ℕ → Offered
-offer_to tree letters number = record { letters = letters; index = no_index; definition = tree.definition; rule = tree.rule; number = number; oldest = oldest_seen tree.definition.window number }
+offer_to tree messages number = record { messages = messages; index = no_index; definition = tree.definition; rule = tree.rule; number = number; oldest = oldest_seen tree.definition.window number }
 
 abbrev pub is_slot_seen : ℕ → Option ℕ → Bool
 is_slot_seen oldest None = true

@@ -1,7 +1,7 @@
 -- How often a number may be tried at paths: at the free patterns of its kind that could take it before the path's greatest number came.
 use Rattle.std.specs.Prelude.{ℕ, List, [], ◌∷◌, map, length, max, Bool, not, ◌&&◌, ◌||◌, Option, Some, None, slice_index, if◌then◌else◌}
 use Rattle.std.specs.List.{filter, list_any, sum_by}
-use Rattle.guard_eval.specs.Meaning.{Assignment, letter_at, is_slot_filled}
+use Rattle.guard_eval.specs.Meaning.{Assignment, recorded_message, is_slot_filled}
 use Rattle.pattern_core.specs.Matches.{is_of_kind, is_agreeable, slot_is}
 use Rattle.match_tree.specs.Routes.{Route, with_number, filled}
 use Rattle.match_tree.specs.Offers.{Offered, places, is_free}
@@ -22,8 +22,8 @@ without_greatest slots = map (emptied_at (greatest slots)) slots
 abbrev pub is_tried : Offered → Assignment → ℕ → Bool
 is_tried o slots pattern =
     is_free slots pattern
-    && (is_of_kind (letter_at o.letters o.number) (slice_index o.definition.patterns pattern)
-    && (not (list_any is_slot_filled slots) || is_agreeable o.letters o.definition.conjuncts (with_number (without_greatest slots) pattern o.number)))
+    && (is_of_kind (recorded_message o.messages o.number) (slice_index o.definition.patterns pattern)
+    && (not (list_any is_slot_filled slots) || is_agreeable o.messages o.definition.conjuncts (with_number (without_greatest slots) pattern o.number)))
 
 abbrev pub tried : Offered → Assignment → List ℕ
 tried o slots = filter (is_tried o slots) (places 0 o.definition.patterns)

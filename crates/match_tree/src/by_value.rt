@@ -1,5 +1,5 @@
-//! Leaving out the routes that take some numbers, where few nodes have one of them behind them: a number stands behind a
-//! node of a first row only if it could be taken there. These nodes are looked up in the index, the others passed by.
+//! Leaving out the routes that take some numbers, where few nodes have one of them behind them: a number stands behind
+//! a node of a first row only if it could be taken there. These nodes are looked up in the index, the others passed by.
 ghost use Rattle.std.specs.Prelude.{◌≡◌, ◌≢◌, ◌+◌, ◌^◌, ◌<◌, ◌≤◌, ◌++◌, ◌∷◌, ◌&&◌, [], ℕ, length, map, nat_lt, replicate, None, true, false, IfSome, IfNone, if◌then◌else◌};
 ghost use Rattle.std.specs.List.{filter, AllByRecursion};
 ghost use Rattle.guard_eval.specs.Meaning.{Assignment};
@@ -11,7 +11,7 @@ ghost use Rattle.match_tree.specs.Offers.{may_take};
 ghost use Rattle.match_tree.specs.Offering.{offered, CanOffer, LeadOn};
 ghost use Rattle.match_tree.specs.Order.{IsSoundRow, AreSound};
 ghost use Rattle.match_tree.specs.Pruned.{AreShort, NodesRise, pruned};
-ghost use Rattle.match_tree.specs.Thinned.{IsBarred, IsThinned, NodesGoOn};
+ghost use Rattle.match_tree.specs.Thinned.{IsBarred, IsThinned, NodesContinuePath};
 
 use crate::look::{FEWEST, look_at, numbers_at};
 use crate::node::Node;
@@ -82,13 +82,15 @@ fn prune_pair(
     levels: usize,
 ) -> Option<u64>
     requires can { CanOffer (offered offer.now) slots.now }
-    requires go_on { NodesGoOn (offered offer.now) slots.now pattern nodes.old.items }
+    requires go_on { NodesContinuePath (offered offer.now) slots.now pattern nodes.old.items }
     requires few { length (row_routes 0 nodes.old.items) < 2 ^ 64 }
     requires sound { IsSoundRow nodes.old.items }
     requires short { AllByRecursion (λ node. AreShort levels node.routes) nodes.old.items }
     ensures same { IfNone result (nodes.new.items ≡ nodes.old.items) }
-    ensures left { IfSome result (λ gone. IsThinned (offer.now.number ∷ []) (IsBarred (offered offer.now) slots.now pattern other) nodes.old.items nodes.new.items) }
-    ensures gone { IfSome result (λ gone. gone + length (row_routes 0 nodes.new.items) ≡ length (row_routes 0 nodes.old.items)) }
+    ensures left { IfSome result (λ gone. IsThinned (offer.now.number ∷ []) (IsBarred (offered offer.now) slots.now
+        pattern other) nodes.old.items nodes.new.items) }
+    ensures gone { IfSome result (λ gone. gone + length (row_routes 0 nodes.new.items)
+        ≡ length (row_routes 0 nodes.old.items)) }
 {
     let look = look_at(offer, slots, pattern, other, nodes.len())?;
     let mut one = Numbers::new();
@@ -100,14 +102,15 @@ fn prune_pair(
 // Whether the offered number could stand at the other pattern behind a node of this one.
 fn is_wanted(offer: &Offer<'_>, pattern: u32, other: u32) -> bool
     requires within { other < length offer.now.definition.now.patterns }
-    requires recorded { IsRecorded offer.now.letters.now offer.now.number }
-    ensures { result ≡ false → (slots : Assignment) (number : ℕ) → may_take (offered offer.now) (with_number slots pattern number) other ≡ false }
+    requires recorded { IsRecorded offer.now.messages.now offer.now.number }
+    ensures { result ≡ false → (slots : Assignment) (number : ℕ)
+        → may_take (offered offer.now) (with_number slots pattern number) other ≡ false }
 {
     if other == pattern {
         return false;
     }
     let kind = *offer.definition.patterns.at(other as usize);
-    has_kind(offer.letters, offer.number, kind)
+    has_kind(offer.messages, offer.number, kind)
 }
 
 // The same, and nothing where the number could not stand at the other pattern.
@@ -121,13 +124,15 @@ fn prune_other(
 ) -> Option<u64>
     requires within { other < length offer.now.definition.now.patterns }
     requires can { CanOffer (offered offer.now) slots.now }
-    requires go_on { NodesGoOn (offered offer.now) slots.now pattern nodes.old.items }
+    requires go_on { NodesContinuePath (offered offer.now) slots.now pattern nodes.old.items }
     requires few { length (row_routes 0 nodes.old.items) < 2 ^ 64 }
     requires sound { IsSoundRow nodes.old.items }
     requires short { AllByRecursion (λ node. AreShort levels node.routes) nodes.old.items }
     ensures same { IfNone result (nodes.new.items ≡ nodes.old.items) }
-    ensures left { IfSome result (λ gone. IsThinned (offer.now.number ∷ []) (IsBarred (offered offer.now) slots.now pattern other) nodes.old.items nodes.new.items) }
-    ensures gone { IfSome result (λ gone. gone + length (row_routes 0 nodes.new.items) ≡ length (row_routes 0 nodes.old.items)) }
+    ensures left { IfSome result (λ gone. IsThinned (offer.now.number ∷ []) (IsBarred (offered offer.now) slots.now
+        pattern other) nodes.old.items nodes.new.items) }
+    ensures gone { IfSome result (λ gone. gone + length (row_routes 0 nodes.new.items)
+        ≡ length (row_routes 0 nodes.old.items)) }
 {
     if !is_wanted(offer, pattern, other) {
         return Some(0);
@@ -145,7 +150,7 @@ fn prune_offered(
     levels: usize,
 ) -> Thinned
     requires can { CanOffer (offered offer.now) slots.now }
-    requires go_on { NodesGoOn (offered offer.now) slots.now pattern nodes.old.items }
+    requires go_on { NodesContinuePath (offered offer.now) slots.now pattern nodes.old.items }
     requires few { length (row_routes 0 nodes.old.items) < 2 ^ 64 }
     requires sound { IsSoundRow nodes.old.items }
     requires short { AllByRecursion (λ node. AreShort levels node.routes) nodes.old.items }
@@ -173,8 +178,8 @@ fn prune_number(
 ) -> Thinned
     requires empty { slots.now ≡ replicate (length offer.now.definition.now.patterns) None }
     requires can { CanOffer (offered offer.now) slots.now }
-    requires recorded { IsRecorded offer.now.letters.now number }
-    requires go_on { NodesGoOn (offered offer.now) slots.now pattern nodes.old.items }
+    requires recorded { IsRecorded offer.now.messages.now number }
+    requires go_on { NodesContinuePath (offered offer.now) slots.now pattern nodes.old.items }
     requires few { length (row_routes 0 nodes.old.items) < 2 ^ 64 }
     requires sound { IsSoundRow nodes.old.items }
     requires short { AllByRecursion (λ node. AreShort levels node.routes) nodes.old.items }
@@ -182,7 +187,7 @@ fn prune_number(
     ensures gone { result.gone + length (row_routes 0 nodes.new.items) ≡ length (row_routes 0 nodes.old.items) }
 {
     let taken = Offer {
-        letters: offer.letters,
+        messages: offer.messages,
         index: offer.index,
         definition: offer.definition,
         rule: offer.rule,
@@ -213,8 +218,8 @@ fn prune_mixed(
 ) -> u64
     requires empty { slots.now ≡ replicate (length offer.now.definition.now.patterns) None }
     requires can { CanOffer (offered offer.now) slots.now }
-    requires recorded { AllByRecursion (IsRecorded offer.now.letters.now) numbers.now }
-    requires go_on { NodesGoOn (offered offer.now) slots.now pattern nodes.old.items }
+    requires recorded { AllByRecursion (IsRecorded offer.now.messages.now) numbers.now }
+    requires go_on { NodesContinuePath (offered offer.now) slots.now pattern nodes.old.items }
     requires few { length (row_routes 0 nodes.old.items) < 2 ^ 64 }
     requires sound { IsSoundRow nodes.old.items }
     requires short { AllByRecursion (λ node. AreShort levels node.routes) nodes.old.items }
@@ -248,8 +253,8 @@ fn prune_behind_values(
 ) -> u64
     requires empty { slots.now ≡ replicate (length offer.now.definition.now.patterns) None }
     requires can { CanOffer (offered offer.now) slots.now }
-    requires recorded { AllByRecursion (IsRecorded offer.now.letters.now) numbers.now }
-    requires go_on { NodesGoOn (offered offer.now) slots.now pattern row.old }
+    requires recorded { AllByRecursion (IsRecorded offer.now.messages.now) numbers.now }
+    requires go_on { NodesContinuePath (offered offer.now) slots.now pattern row.old }
     requires few { length (row_routes 0 row.old) < 2 ^ 64 }
     requires sound { IsSoundRow row.old }
     requires short { AllByRecursion (λ node. AreShort levels node.routes) row.old }
@@ -275,7 +280,7 @@ fn prune_pattern(
 ) -> u64
     requires empty { slots.now ≡ replicate (length offer.now.definition.now.patterns) None }
     requires can { CanOffer (offered offer.now) slots.now }
-    requires recorded { AllByRecursion (IsRecorded offer.now.letters.now) numbers.now }
+    requires recorded { AllByRecursion (IsRecorded offer.now.messages.now) numbers.now }
     requires lead { LeadOn (offered offer.now) slots.now (row_routes pattern row.old) }
     requires few { length (row_routes 0 row.old) < 2 ^ 64 }
     requires sound { IsSoundRow row.old }
@@ -323,7 +328,7 @@ fn prune_each(
 ) -> u64
     requires empty { slots.now ≡ replicate (length offer.now.definition.now.patterns) None }
     requires can { CanOffer (offered offer.now) slots.now }
-    requires recorded { AllByRecursion (IsRecorded offer.now.letters.now) numbers.now }
+    requires recorded { AllByRecursion (IsRecorded offer.now.messages.now) numbers.now }
     requires lead { LeadOn (offered offer.now) slots.now (rows_routes 0 rows.old) }
     requires patterns { length rows.old ≤ 8 }
     requires few { length (rows_routes 0 rows.old) < 2 ^ 64 }
@@ -339,11 +344,12 @@ fn prune_each(
     gone
 }
 
-/// Leaves out the routes that take one of the numbers. The answer is how many they were. Each number of a route is below
-/// the offered one, and no route has more steps than there are levels.
+/// Leaves out the routes that take one of the numbers. The answer is how many they were. Each number of a route is
+/// below the offered one, and no route has more steps than there are levels.
 pub fn prune_values(offer: &Offer<'_>, rows: &mut [Row], numbers: &Numbers, levels: usize) -> u64
     requires can { CanOffer (offered offer.now) (replicate (length offer.now.definition.now.patterns) None) }
-    requires lead { LeadOn (offered offer.now) (replicate (length offer.now.definition.now.patterns) None) (rows_routes 0 rows.old) }
+    requires lead { LeadOn (offered offer.now) (replicate (length offer.now.definition.now.patterns) None)
+        (rows_routes 0 rows.old) }
     requires some { 1 ≤ length offer.now.definition.now.patterns }
     requires many { length offer.now.definition.now.patterns ≤ 8 }
     requires patterns { length rows.old ≤ 8 }

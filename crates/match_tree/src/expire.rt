@@ -12,7 +12,8 @@ use crate::row::Row;
 fn begins_unseen(row: &Row, oldest: u32) -> bool
     requires { Rise (map (λ node. node.number) row.now) }
     ensures none { result ≡ false → seen_nodes oldest row.now ≡ row.now }
-    ensures first { result ≡ true → (0 < length row.now) × (seen_nodes oldest (remove row.now 0) ≡ seen_nodes oldest row.now) }
+    ensures first { result ≡ true → (0 < length row.now) × (seen_nodes oldest (remove row.now 0)
+        ≡ seen_nodes oldest row.now) }
 {
     if row.len() == 0 {
         return false;
@@ -38,8 +39,8 @@ fn drop_front(row: &mut Row, oldest: u32, levels: usize) -> u64
     gone
 }
 
-/// Takes the nodes with numbers before the oldest out of the rows. The answer is how many routes went with them. No route
-/// has more steps than there are levels.
+/// Takes the nodes with numbers before the oldest out of the rows. The answer is how many routes went with them. No
+/// route has more steps than there are levels.
 pub fn drop_unseen(rows: &mut [Row], oldest: u32, levels: usize) -> u64
     requires few { length (rows_routes 0 rows.old) < 2 ^ 64 }
     requires sound { AreSound rows.old }

@@ -42,7 +42,8 @@ fn by_key(
     screen: &Screen,
 ) -> Option<Look>
     requires kind { slice_get offer.now.definition.now.patterns pattern ≡ Some kind }
-    requires tested { AreTests (offered offer.now) (with_number (with_number slots.now pattern offer.now.number) screen.now.other offer.now.number) pattern screen.now }
+    requires tested { AreTests (offered offer.now) (with_number (with_number slots.now pattern offer.now.number)
+        screen.now.other offer.now.number) pattern screen.now }
     ensures { IfSome result (LooksUpAt (offered offer.now) slots.now pattern screen.now.other) }
 {
     let key = screen.key?;
@@ -66,7 +67,8 @@ fn by_text(
     screen: &Screen,
 ) -> Option<Look>
     requires kind { slice_get offer.now.definition.now.patterns pattern ≡ Some kind }
-    requires tested { AreTests (offered offer.now) (with_number (with_number slots.now pattern offer.now.number) screen.now.other offer.now.number) pattern screen.now }
+    requires tested { AreTests (offered offer.now) (with_number (with_number slots.now pattern offer.now.number)
+        screen.now.other offer.now.number) pattern screen.now }
     ensures { IfSome result (LooksUpAt (offered offer.now) slots.now pattern screen.now.other) }
 {
     let same = screen.same?;
@@ -82,13 +84,14 @@ fn by_text(
     };
     Some(Look {
         place,
-        value: value_at(offer.letters, offer.number, other),
+        value: value_at(offer.messages, offer.number, other),
     })
 }
 
 // The look-up by a screen: by its key, or by its text, where the index knows that field.
 fn look_by(offer: &Offer<'_>, slots: &Slots, pattern: u32, screen: &Screen) -> Option<Look>
-    requires tested { AreTests (offered offer.now) (with_number (with_number slots.now pattern offer.now.number) screen.now.other offer.now.number) pattern screen.now }
+    requires tested { AreTests (offered offer.now) (with_number (with_number slots.now pattern offer.now.number)
+        screen.now.other offer.now.number) pattern screen.now }
     ensures { IfSome result (LooksUpAt (offered offer.now) slots.now pattern screen.now.other) }
 {
     let patterns = offer.definition.patterns.as_slice();
@@ -193,7 +196,8 @@ fn look_of(
 ) -> Option<Look>
     requires can { CanOffer (offered offer.now) slots.now }
     requires wanted { wanted.now ≡ filter (λ p. not (p == pattern)) (takers (offered offer.now) slots.now) }
-    requires screen { IfSome screen.now (Screens (offered offer.now) slots.now pattern (filter (λ p. not (p == pattern)) (takers (offered offer.now) slots.now))) }
+    requires screen { IfSome screen.now (Screens (offered offer.now) slots.now pattern (filter (λ p. not (p == pattern))
+        (takers (offered offer.now) slots.now))) }
     ensures { IfSome result (LooksUp (offered offer.now) slots.now pattern) }
 {
     match screen {
@@ -205,14 +209,15 @@ fn look_of(
 /// The numbers of the index from this one on that have the value.
 pub fn numbers_at<'a>(index: &'a ValueIndex, look: Look, from: u32) -> SameValue<'a>
     ensures ascend { Ascend result }
-    ensures has { (number : ℕ) → from ≤ number → IsIn (entry look.place look.value number) index.now.entries → IsIn number result }
+    ensures has { (number : ℕ) → from ≤ number → IsIn (entry look.place look.value number) index.now.entries
+        → IsIn number result }
 {
     index.numbers_from(look.place, look.value, from)
 }
 
 /// The numbers of the index by which a row is looked up, if it is: those of the value that the key of its screen asks
-/// for, or its text, where the index knows that field. Where several patterns are wanted, each of them has to ask for the
-/// same value. A row of fewer than 8 numbers is gone through.
+/// for, or its text, where the index knows that field. Where several patterns are wanted, each of them has to ask for
+/// the same value. A row of fewer than 8 numbers is gone through.
 pub fn looked_up<'a>(
     offer: &Offer<'a>,
     slots: &Slots,
@@ -223,7 +228,8 @@ pub fn looked_up<'a>(
 ) -> Option<SameValue<'a>>
     requires can { CanOffer (offered offer.now) slots.now }
     requires wanted { wanted.now ≡ filter (λ p. not (p == pattern)) (takers (offered offer.now) slots.now) }
-    requires screen { IfSome screen.now (Screens (offered offer.now) slots.now pattern (filter (λ p. not (p == pattern)) (takers (offered offer.now) slots.now))) }
+    requires screen { IfSome screen.now (Screens (offered offer.now) slots.now pattern (filter (λ p. not (p == pattern))
+        (takers (offered offer.now) slots.now))) }
     requires rise { Rise (map (λ node. node.number) row.now) }
     requires offered { AreOffered (offered offer.now) slots.now pattern row.now 0 }
     ensures { IfSome result (HasLeft (offered offer.now) slots.now pattern row.now 0) }
@@ -285,8 +291,8 @@ fn may_meet(offer: &Offer<'_>, screen: &Option<Screen>, number: u32) -> bool
     match screen {
         None => true,
         Some(screen) => {
-            meets_all(offer.letters, &screen.bounds, number)
-                && is_same(offer.letters, offer.number, screen.same, number)
+            meets_all(offer.messages, &screen.bounds, number)
+                && is_same(offer.messages, offer.number, screen.same, number)
         }
     }
 }
@@ -327,7 +333,8 @@ fn looks_worth<L: Ledger>(
 ) -> bool
     requires can { CanOffer (offered offer.now) (with_number slots.now pattern number) }
     requires free { slice_get slots.now pattern ≡ Some None }
-    requires screen { IfSome screen.now (Screens (offered offer.now) slots.now pattern (filter (λ p. not (p == pattern)) (takers (offered offer.now) slots.now))) }
+    requires screen { IfSome screen.now (Screens (offered offer.now) slots.now pattern (filter (λ p. not (p == pattern))
+        (takers (offered offer.now) slots.now))) }
     ensures seen { result ≡ true → nat_le offer.now.oldest number ≡ true }
     ensures left_out { result ≡ false → IsWorthless (offered offer.now) slots.now pattern number }
     ensures counted { result ≡ false → steps.new ≡ steps.old + 1 }
@@ -340,9 +347,9 @@ fn looks_worth<L: Ledger>(
     false
 }
 
-/// The first place from this one on whose number is worth a visit, or the row's end, by the numbers that are left of the
-/// index. Each number that is looked at and passed over counts a step. There are at most as many as places before the
-/// answer, also where the index has numbers that do not stand in the row.
+/// The first place from this one on whose number is worth a visit, or the row's end, by the numbers that are left of
+/// the index. Each number that is looked at and passed over counts a step. There are at most as many as places before
+/// the answer, also where the index has numbers that do not stand in the row.
 pub fn next_looked<L: Ledger>(
     offer: &Offer<'_>,
     slots: &Slots,
@@ -356,13 +363,15 @@ pub fn next_looked<L: Ledger>(
     requires rise { Rise (map (λ node. node.number) row.now) }
     requires offered { AreOffered (offered offer.now) slots.now pattern row.now from }
     requires left { HasLeft (offered offer.now) slots.now pattern row.now from left.old }
-    requires screen { IfSome screen.now (Screens (offered offer.now) slots.now pattern (filter (λ p. not (p == pattern)) (takers (offered offer.now) slots.now))) }
+    requires screen { IfSome screen.now (Screens (offered offer.now) slots.now pattern (filter (λ p. not (p == pattern))
+        (takers (offered offer.now) slots.now))) }
     requires within { from ≤ length row.now }
     ensures from { from ≤ result }
     ensures within { result ≤ length row.now }
     ensures seen { result < length row.now → nat_le offer.now.oldest (node_at row.now result).number ≡ true }
     ensures skipped { AreWorthless (offered offer.now) slots.now pattern row.now from result }
-    ensures left { result < length row.now → HasLeft (offered offer.now) slots.now pattern row.now (result + 1) left.new }
+    ensures left { result < length row.now → HasLeft (offered offer.now) slots.now pattern row.now
+        (result + 1) left.new }
     ensures counted { steps.new + from ≤ steps.old + result }
 {
     let end = row.len();

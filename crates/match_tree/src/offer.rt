@@ -17,7 +17,7 @@ use value_index::ValueIndex;
 /// that the definition sees.
 #[derive(Drop)]
 pub struct Offer<'a> {
-    pub letters: &'a [Message],
+    pub messages: &'a [Message],
     pub index: &'a ValueIndex,
     pub definition: &'a Definition,
     pub rule: u32,
@@ -44,7 +44,7 @@ pub fn takers<L: Ledger>(
             slots,
             *pattern,
             offer.number,
-            offer.letters,
+            offer.messages,
             steps,
         ) {
             found.push(*pattern);
@@ -70,8 +70,8 @@ fn taken(slots: &Slots, patterns: u32) -> Numbers
 
 // The match that an assignment without a free pattern makes.
 fn candidate(offer: &Offer<'_>, slots: &Slots) -> Candidate
-    requires definition { DefinitionSuits offer.now.letters.now offer.now.definition.now }
-    requires suits { SlotsSuit offer.now.letters.now offer.now.definition.now.patterns slots.now }
+    requires definition { DefinitionSuits offer.now.messages.now offer.now.definition.now }
+    requires suits { SlotsSuit offer.now.messages.now offer.now.definition.now.patterns slots.now }
     ensures { result ≡ candidate_of offer.now.rule slots.now }
 {
     Candidate {
@@ -87,7 +87,7 @@ fn match_at(offer: &Offer<'_>, slots: &Slots, pattern: u32) -> Option<Candidate>
     ensures { result ≡ least (matches_of (offered offer.now) slots.now (pattern ∷ [])) }
 {
     let longer = slots.with(pattern, offer.number);
-    if !complete(offer.definition, &longer, offer.letters) {
+    if !complete(offer.definition, &longer, offer.messages) {
         return None;
     }
     Some(candidate(offer, &longer))

@@ -140,8 +140,8 @@ pub fn remove_numbers(row: &mut Row, numbers: &Numbers, levels: usize) -> u64
     gone
 }
 
-/// Leaves out the routes that take one of the numbers. The answer is how many they were. No route has more steps than there
-/// are levels.
+/// Leaves out the routes that take one of the numbers. The answer is how many they were. No route has more steps than
+/// there are levels.
 #[cycle(prune)]
 pub fn prune_rows(rows: &mut [Row], numbers: &Numbers, levels: usize) -> u64
     requires few { length (rows_routes 0 rows.old) < 2 ^ 64 }
@@ -164,7 +164,8 @@ fn prune_row(row: &mut Row, numbers: &Numbers, levels: usize) -> u64
     requires sound { IsSoundRow row.old }
     requires short { AreShort levels (row_routes 0 row.old) }
     requires rising { AreRising (row_routes 0 row.old) }
-    ensures left { (pattern : ℕ) → row_routes pattern row.new ≡ filter (lacks numbers.now) (row_routes pattern row.old) }
+    ensures left { (pattern : ℕ) → row_routes pattern row.new ≡ filter (lacks numbers.now)
+        (row_routes pattern row.old) }
     ensures gone { result + length (row_routes 0 row.new) ≡ length (row_routes 0 row.old) }
 {
     if row.len() == 0 {

@@ -1,7 +1,7 @@
 //! A visit of all paths of a definition.
 ghost use Rattle.std.specs.Prelude.{◌≡◌, ◌≢◌, ◌+◌, ◌-◌, ◌^◌, ◌<◌, ◌≤◌, [], ◌∷◌, not, length, replicate, None, OnOk, OnErr, IfOk, slice_index};
 ghost use Rattle.std.specs.List.{filter, AllByRecursion};
-ghost use Rattle.guard_eval.specs.Meaning.{letter_at};
+ghost use Rattle.guard_eval.specs.Meaning.{recorded_message};
 ghost use Rattle.pattern_core.specs.Choice.{least};
 ghost use Rattle.pattern_core.specs.Matches.{is_of_kind};
 ghost use Rattle.pattern_core.specs.Suits.{IsRecorded};
@@ -24,21 +24,23 @@ use std::alloc::Global;
 use std::sync::ledger::Ledger;
 
 // The patterns of the message's kind.
-fn of_kind(definition: &Definition, number: u32, letters: &[Message]) -> Numbers
-    requires recorded { IsRecorded letters.now number }
+fn of_kind(definition: &Definition, number: u32, messages: &[Message]) -> Numbers
+    requires recorded { IsRecorded messages.now number }
     requires few { length definition.now.patterns ≤ 8 }
-    ensures { result ≡ filter (λ p. is_of_kind (letter_at letters.now number) (slice_index definition.now.patterns p)) (places 0 definition.now.patterns) }
+    ensures { result ≡ filter (λ p. is_of_kind (recorded_message messages.now number)
+        (slice_index definition.now.patterns p)) (places 0 definition.now.patterns) }
 {
     let mut found = Numbers::new();
     for pattern in 0..definition.patterns.len() as u32 {
-        if has_kind(letters, number, *definition.patterns.at(pattern as usize)) {
+        if has_kind(messages, number, *definition.patterns.at(pattern as usize)) {
             found.push(pattern);
         }
     }
     found
 }
 
-// How many more there are than before. A count has 64 bits, which a caller that reads it behind its reference isn't told.
+// How many more there are than before. A count has 64 bits, which a caller that reads it behind its reference isn't
+// told.
 fn more_than(count: &u64, before: u64) -> u64
     requires { before ≤ count.now }
     ensures more { before + result ≡ count.now }
@@ -76,7 +78,8 @@ fn visit_path<L: Ledger>(
 ) -> Option<Candidate>
     requires can { CanOffer (offered offer.now) slots.now }
     requires free { AllByRecursion (MayTry slots.now) wanted.now }
-    requires wanted { filter (may_take (offered offer.now) slots.now) wanted.now ≡ takers (offered offer.now) slots.now }
+    requires wanted { filter (may_take (offered offer.now) slots.now) wanted.now
+        ≡ takers (offered offer.now) slots.now }
     ensures best { result ≡ least (matches_at (offered offer.now) slots.now) }
     ensures counted { steps.new ≡ steps.old + length wanted.now }
 {
@@ -97,23 +100,34 @@ pub fn visit_all<L: Ledger>(
     requires few { length rows.old.items ≤ 8 }
     requires sound { AreSound rows.old.items }
     requires whole { count.old ≡ 1 + length (rows_routes 0 rows.old.items) }
-    requires lead { LeadOn (offered offer.now) (replicate (length offer.now.definition.now.patterns) None) (rows_routes 0 rows.old.items) }
-    requires free_left { AreOpen (replicate (length offer.now.definition.now.patterns) None) (rows_routes 0 rows.old.items) }
+    requires lead { LeadOn (offered offer.now) (replicate (length offer.now.definition.now.patterns) None)
+        (rows_routes 0 rows.old.items) }
+    requires free_left { AreOpen (replicate (length offer.now.definition.now.patterns) None)
+        (rows_routes 0 rows.old.items) }
 
     ensures few { length rows.new.items ≤ 8 }
     ensures sound { AreSound rows.new.items }
-    ensures free_left { AreOpen (replicate (length offer.now.definition.now.patterns) None) (rows_routes 0 rows.new.items) }
+    ensures free_left { AreOpen (replicate (length offer.now.definition.now.patterns) None)
+        (rows_routes 0 rows.new.items) }
     ensures lasting { Lasts offer.now.number (rows_routes 0 rows.old.items) (rows_routes 0 rows.new.items) }
     ensures unchanged { OnErr result (rows_routes 0 rows.new.items ≡ rows_routes 0 rows.old.items) }
     ensures found { IfOk result (λ b. b ≢ None → rows_routes 0 rows.new.items ≡ rows_routes 0 rows.old.items) }
-    ensures best { IfOk result (λ b. b ≡ least (new_matches (offered offer.now) (replicate (length offer.now.definition.now.patterns) None) ([] ∷ seen (offered offer.now) (rows_routes 0 rows.old.items)))) }
-    ensures grows { IfOk result (λ b. b ≡ None → Grows (offered offer.now) (replicate (length offer.now.definition.now.patterns) None) (growing (offered offer.now) (replicate (length offer.now.definition.now.patterns) None)) (rows_routes 0 rows.old.items) (rows_routes 0 rows.new.items)) }
-    ensures counted { OnOk result (count.new + length (rows_routes 0 rows.old.items) ≡ count.old + length (rows_routes 0 rows.new.items)) }
-    ensures stepped { steps.new ≤ steps.old + (length (tried (offered offer.now) (replicate (length offer.now.definition.now.patterns) None)) + tries_behind (offered offer.now) (replicate (length offer.now.definition.now.patterns) None) (rows_routes 0 rows.old.items)) }
+    ensures best { IfOk result (λ b. b ≡ least (new_matches (offered offer.now)
+        (replicate (length offer.now.definition.now.patterns) None) ([] ∷ seen (offered offer.now)
+        (rows_routes 0 rows.old.items)))) }
+    ensures grows { IfOk result (λ b. b ≡ None → Grows (offered offer.now)
+        (replicate (length offer.now.definition.now.patterns) None) (growing (offered offer.now)
+        (replicate (length offer.now.definition.now.patterns) None)) (rows_routes 0 rows.old.items)
+        (rows_routes 0 rows.new.items)) }
+    ensures counted { OnOk result (count.new + length (rows_routes 0 rows.old.items)
+        ≡ count.old + length (rows_routes 0 rows.new.items)) }
+    ensures stepped { steps.new ≤ steps.old + (length (tried (offered offer.now)
+        (replicate (length offer.now.definition.now.patterns) None)) + tries_behind (offered offer.now)
+        (replicate (length offer.now.definition.now.patterns) None) (rows_routes 0 rows.old.items)) }
 {
     let patterns = offer.definition.patterns.len();
     let slots = Slots::new(patterns as u32);
-    let wanted = of_kind(offer.definition, offer.number, offer.letters);
+    let wanted = of_kind(offer.definition, offer.number, offer.messages);
     // A path with its one pattern filled is full, so no node is ever added.
     if patterns == 1 && rows.len() == 0 {
         return Ok(visit_path(offer, &slots, &wanted, steps));

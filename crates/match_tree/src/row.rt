@@ -94,7 +94,8 @@ impl Row {
     /// The place of the node with the number.
     pub fn place_of(&self, number: u32) -> Option<usize>
         requires { Rise (map (λ node. node.number) self.now) }
-        ensures { MatchOption result (AllByRecursion (λ node. node.number ≢ number) self.now) (λ i. (i < length self.now) × ((d : _) → (slice_index_or self.now i d).number ≡ number)) }
+        ensures { MatchOption result (AllByRecursion (λ node. node.number ≢ number) self.now)
+            (λ i. (i < length self.now) × ((d : _) → (slice_index_or self.now i d).number ≡ number)) }
     {
         match &self.nodes {
             Nodes::Empty => None,
@@ -134,7 +135,8 @@ impl Row {
         requires within { place < length self.old }
         requires leaf { (node_at self.old place).routes ≡ [] }
         requires few { length rows.value.items ≤ 8 }
-        ensures ok { OnOk result (self.new ≡ slice_set self.old place (leads_to (node_at self.old place) (rows_routes 0 rows.value.items))) }
+        ensures ok { OnOk result (self.new ≡ slice_set self.old place (leads_to (node_at self.old place)
+            (rows_routes 0 rows.value.items))) }
         ensures err { OnErr result (self.new ≡ self.old) }
     {
         match &mut self.nodes {
@@ -170,7 +172,8 @@ fn place_of_one(only: u32, number: u32) -> Option<usize>
 // The place of the number among numbers that rise.
 fn place_of_leaf(leaves: &VecDeque<u32>, number: u32) -> Option<usize>
     requires { Rise leaves.now.items }
-    ensures { MatchOption result (AllByRecursion (λ n. n ≢ number) leaves.now.items) (λ i. (i < length leaves.now.items) × ((d : _) → slice_index_or leaves.now.items i d ≡ number)) }
+    ensures { MatchOption result (AllByRecursion (λ n. n ≢ number) leaves.now.items) (λ i. (i < length leaves.now.items)
+        × ((d : _) → slice_index_or leaves.now.items i d ≡ number)) }
 {
     match leaves.binary_search(&number) {
         Ok(place) => Some(place),
@@ -181,7 +184,8 @@ fn place_of_leaf(leaves: &VecDeque<u32>, number: u32) -> Option<usize>
 /// The place of the node with the number among nodes whose numbers rise.
 pub fn place_of_node(nodes: &VecDeque<Node>, number: u32) -> Option<usize>
     requires { Rise (map (λ node. node.number) nodes.now.items) }
-    ensures { MatchOption result (AllByRecursion (λ node. node.number ≢ number) nodes.now.items) (λ i. (i < length nodes.now.items) × ((d : _) → (slice_index_or nodes.now.items i d).number ≡ number)) }
+    ensures { MatchOption result (AllByRecursion (λ node. node.number ≢ number) nodes.now.items)
+        (λ i. (i < length nodes.now.items) × ((d : _) → (slice_index_or nodes.now.items i d).number ≡ number)) }
 {
     match nodes.binary_search_by_key(&number, |node| node.number()) {
         Ok(place) => Some(place),
@@ -250,7 +254,8 @@ fn nodes_with(
 ) -> Result<Box<VecDeque<Node>>, NoMemory>
     requires within { place < length leaves.now.items }
     requires few { length rows.value.items ≤ 8 }
-    ensures { IfOk result (λ nodes. nodes.value.items ≡ slice_set (map leaf leaves.now.items) place (leads_to (node_at (map leaf leaves.now.items) place) (rows_routes 0 rows.value.items))) }
+    ensures { IfOk result (λ nodes. nodes.value.items ≡ slice_set (map leaf leaves.now.items) place
+        (leads_to (node_at (map leaf leaves.now.items) place) (rows_routes 0 rows.value.items))) }
 {
     let mut nodes = nodes_of(alloc, leaves)?;
     let node = &mut nodes[place];

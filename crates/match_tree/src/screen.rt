@@ -1,6 +1,6 @@
-//! Tests of the numbers of a row that are cheaper than a try. Which conjuncts tie the row's pattern to the wanted one and are
-//! decided is found once for the row, and only these are looked at. Where such a conjunct compares one field of the row with what
-//! is known, it is enough to read that field, and an equality is looked at first.
+//! Tests of the numbers of a row that are cheaper than a try. Which conjuncts tie the row's pattern to the wanted one
+//! and are decided is found once for the row, and only these are looked at. Where such a conjunct compares one field of
+//! the row with what is known, it is enough to read that field, and an equality is looked at first.
 ghost use Rattle.std.specs.Prelude.{◌≡◌, ◌⊎◌, ◌+◌, ◌<◌, ◌≤◌, ◌++◌, ◌∷◌, [], length, map, slice_get, Some, None, true, false, not, ◌==◌, nat_le, IfSome};
 ghost use Rattle.std.specs.List.{filter, AllByRecursion};
 ghost use Rattle.pattern_core.specs.Matches.{is_agreeable};
@@ -34,8 +34,8 @@ pub struct Key {
     pub value: i64,
 }
 
-/// What is known of a row where one other pattern is wanted, before its numbers are tried: what the conjuncts say that the two
-/// patterns decide together.
+/// What is known of a row where one other pattern is wanted, before its numbers are tried: what the conjuncts say that
+/// the two patterns decide together.
 #[derive(Drop)]
 pub struct Screen {
     pub other: u32,
@@ -62,7 +62,7 @@ fn with_free(slots: &Slots, patterns: usize, pattern: u32, number: u32) -> Optio
 
 // Whether the conjunct at the place is decided.
 fn decides(offer: &Offer<'_>, slots: &Slots, place: u32) -> bool
-    requires definition { DefinitionSuits offer.now.letters.now offer.now.definition.now }
+    requires definition { DefinitionSuits offer.now.messages.now offer.now.definition.now }
     requires long { length slots.now ≡ length offer.now.definition.now.patterns }
     requires within { place < length offer.now.definition.now.conjuncts }
     ensures { result ≡ true → IsDecidedAt (offered offer.now) slots.now place }
@@ -114,7 +114,7 @@ fn add_test(offer: &Offer<'_>, whole: &Slots, pattern: u32, place: u32, screen: 
     let conjunct = offer.definition.conjuncts.at(place as usize);
     if screen.bounds.len() < 4 {
         if let Some(bound) = bound_of(
-            offer.letters,
+            offer.messages,
             offer.number,
             pattern,
             screen.other,
@@ -148,7 +148,7 @@ fn has_tie(offer: &Offer<'_>, pattern: u32, other: u32, place: u32) -> bool
 
 // The screen of the conjuncts that tie the two patterns, and that the assignment decides, which has the number at both.
 fn tests_of(offer: &Offer<'_>, pattern: u32, other: u32, whole: &Slots) -> Screen
-    requires definition { DefinitionSuits offer.now.letters.now offer.now.definition.now }
+    requires definition { DefinitionSuits offer.now.messages.now offer.now.definition.now }
     requires long { length whole.now ≡ length offer.now.definition.now.patterns }
     ensures other { result.other ≡ other }
     ensures tests { AreTests (offered offer.now) whole.now pattern result }
@@ -169,7 +169,8 @@ fn tests_of(offer: &Offer<'_>, pattern: u32, other: u32, whole: &Slots) -> Scree
     screen
 }
 
-/// The screen of a row of this pattern with so many numbers, where one other is wanted. For one number a screen isn't worth its making.
+/// The screen of a row of this pattern with so many numbers, where one other is wanted. For one number a screen isn't
+/// worth its making.
 pub fn screen_of(
     offer: &Offer<'_>,
     slots: &Slots,
@@ -204,24 +205,26 @@ fn key_of(screen: &Option<Screen>) -> Option<Key>
 
 // Whether the decided conjunct at the place holds.
 fn holds_at(offer: &Offer<'_>, slots: &Slots, place: u32) -> bool
-    requires definition { DefinitionSuits offer.now.letters.now offer.now.definition.now }
-    requires suits { SlotsSuit offer.now.letters.now offer.now.definition.now.patterns slots.now }
+    requires definition { DefinitionSuits offer.now.messages.now offer.now.definition.now }
+    requires suits { SlotsSuit offer.now.messages.now offer.now.definition.now.patterns slots.now }
     requires decided { IsDecidedAt (offered offer.now) slots.now place }
-    ensures { result ≡ false → is_agreeable offer.now.letters.now offer.now.definition.now.conjuncts slots.now ≡ false }
+    ensures { result ≡ false → is_agreeable offer.now.messages.now offer.now.definition.now.conjuncts
+        slots.now ≡ false }
 {
     holds(
         offer.definition.conjuncts.at(place as usize),
         slots,
-        offer.letters,
+        offer.messages,
     )
 }
 
 // Whether the decided conjuncts at these places hold.
 fn all_hold(offer: &Offer<'_>, slots: &Slots, places: &Numbers) -> bool
-    requires definition { DefinitionSuits offer.now.letters.now offer.now.definition.now }
-    requires suits { SlotsSuit offer.now.letters.now offer.now.definition.now.patterns slots.now }
+    requires definition { DefinitionSuits offer.now.messages.now offer.now.definition.now }
+    requires suits { SlotsSuit offer.now.messages.now offer.now.definition.now.patterns slots.now }
     requires decided { AllByRecursion (IsDecidedAt (offered offer.now) slots.now) places.now }
-    ensures { result ≡ false → is_agreeable offer.now.letters.now offer.now.definition.now.conjuncts slots.now ≡ false }
+    ensures { result ≡ false → is_agreeable offer.now.messages.now offer.now.definition.now.conjuncts
+        slots.now ≡ false }
 {
     for place in places.as_slice() {
         if !holds_at(offer, slots, *place) {
@@ -235,7 +238,8 @@ fn all_hold(offer: &Offer<'_>, slots: &Slots, places: &Numbers) -> bool
 fn agrees(offer: &Offer<'_>, slots: &Slots, pattern: u32, screen: &Screen, number: u32) -> bool
     requires can { CanOffer (offered offer.now) (with_number slots.now pattern number) }
     requires free { slice_get slots.now pattern ≡ Some None }
-    requires screen { Screens (offered offer.now) slots.now pattern (filter (λ p. not (p == pattern)) (takers (offered offer.now) slots.now)) screen.now }
+    requires screen { Screens (offered offer.now) slots.now pattern (filter (λ p. not (p == pattern))
+        (takers (offered offer.now) slots.now)) screen.now }
     ensures { result ≡ false → takers (offered offer.now) (with_number slots.now pattern number) ≡ [] }
 {
     if screen.tests.len() == 0 {
@@ -246,8 +250,8 @@ fn agrees(offer: &Offer<'_>, slots: &Slots, pattern: u32, screen: &Screen, numbe
     all_hold(offer, &whole, &screen.tests)
 }
 
-/// Whether a number of a row that has the screen's key is worth a visit. It isn't where the definition no longer sees it, or no
-/// pattern may take the offered number behind it.
+/// Whether a number of a row that has the screen's key is worth a visit. It isn't where the definition no longer sees
+/// it, or no pattern may take the offered number behind it.
 pub fn is_worth(
     offer: &Offer<'_>,
     slots: &Slots,
@@ -257,9 +261,11 @@ pub fn is_worth(
 ) -> bool
     requires can { CanOffer (offered offer.now) (with_number slots.now pattern number) }
     requires free { slice_get slots.now pattern ≡ Some None }
-    requires screen { IfSome screen.now (Screens (offered offer.now) slots.now pattern (filter (λ p. not (p == pattern)) (takers (offered offer.now) slots.now))) }
+    requires screen { IfSome screen.now (Screens (offered offer.now) slots.now pattern (filter (λ p. not (p == pattern))
+        (takers (offered offer.now) slots.now))) }
     ensures seen { result ≡ true → nat_le offer.now.oldest number ≡ true }
-    ensures left_out { result ≡ false → (nat_le offer.now.oldest number ≡ false) ⊎ (takers (offered offer.now) (with_number slots.now pattern number) ≡ []) }
+    ensures left_out { result ≡ false → (nat_le offer.now.oldest number ≡ false)
+        ⊎ (takers (offered offer.now) (with_number slots.now pattern number) ≡ []) }
 {
     if number < offer.oldest {
         return false;
@@ -267,10 +273,10 @@ pub fn is_worth(
     match screen {
         None => true,
         Some(screen) => {
-            if !meets_all(offer.letters, &screen.bounds, number) {
+            if !meets_all(offer.messages, &screen.bounds, number) {
                 return false;
             }
-            if !is_same(offer.letters, offer.number, screen.same, number) {
+            if !is_same(offer.messages, offer.number, screen.same, number) {
                 return false;
             }
             agrees(offer, slots, pattern, screen, number)
@@ -280,19 +286,19 @@ pub fn is_worth(
 
 // Whether the number has the key's value. It stands in the loops over waiting messages.
 #[inline(always)]
-fn has_value(letters: &[Message], key: Key, number: u32) -> bool
-    ensures { result ≡ passes letters.now (Some key) number }
+fn has_value(messages: &[Message], key: Key, number: u32) -> bool
+    ensures { result ≡ passes messages.now (Some key) number }
 {
-    int_at(letters, number, key.field) == key.value
+    int_at(messages, number, key.field) == key.value
 }
 
 // Whether the number has the key's value, where there is a key.
-fn has_key(letters: &[Message], key: Option<Key>, number: u32) -> bool
-    ensures { result ≡ passes letters.now key number }
+fn has_key(messages: &[Message], key: Option<Key>, number: u32) -> bool
+    ensures { result ≡ passes messages.now key number }
 {
     match key {
         None => true,
-        Some(key) => has_value(letters, key, number),
+        Some(key) => has_value(messages, key, number),
     }
 }
 
@@ -306,19 +312,22 @@ pub fn passes_screen(
 ) -> bool
     requires can { CanOffer (offered offer.now) (with_number slots.now pattern number) }
     requires free { slice_get slots.now pattern ≡ Some None }
-    requires screen { IfSome screen.now (Screens (offered offer.now) slots.now pattern (filter (λ p. not (p == pattern)) (takers (offered offer.now) slots.now))) }
+    requires screen { IfSome screen.now (Screens (offered offer.now) slots.now pattern (filter (λ p. not (p == pattern))
+        (takers (offered offer.now) slots.now))) }
     ensures seen { result ≡ true → nat_le offer.now.oldest number ≡ true }
-    ensures left_out { result ≡ false → (nat_le offer.now.oldest number ≡ false) ⊎ (takers (offered offer.now) (with_number slots.now pattern number) ≡ []) }
+    ensures left_out { result ≡ false → (nat_le offer.now.oldest number ≡ false)
+        ⊎ (takers (offered offer.now) (with_number slots.now pattern number) ≡ []) }
 {
-    if !has_key(offer.letters, key_of(screen), number) {
+    if !has_key(offer.messages, key_of(screen), number) {
         return false;
     }
     is_worth(offer, slots, pattern, screen, number)
 }
 
-// The first place from this one on whose number has the key's value, or the end. Each number that is passed over counts.
+// The first place from this one on whose number has the key's value, or the end. Each number that is passed over
+// counts.
 fn find_in<L: Ledger>(
-    letters: &[Message],
+    messages: &[Message],
     key: Key,
     leaves: &[u32],
     from: usize,
@@ -327,11 +336,11 @@ fn find_in<L: Ledger>(
     requires { from ≤ length leaves.now }
     ensures from { from ≤ result }
     ensures within { result ≤ length leaves.now }
-    ensures lacking { AreLacking letters.now (Some key) leaves.now from result }
+    ensures lacking { AreLacking messages.now (Some key) leaves.now from result }
     ensures counted { steps.new + from ≡ steps.old + result }
 {
     for place in from..leaves.len() {
-        if has_value(letters, key, leaves[place]) {
+        if has_value(messages, key, leaves[place]) {
             return place;
         }
         steps.tick();
@@ -341,7 +350,7 @@ fn find_in<L: Ledger>(
 
 // The same in two slices, one behind the other: this is the loop over waiting messages, and one slice is read faster.
 fn find_leaf<L: Ledger>(
-    letters: &[Message],
+    messages: &[Message],
     key: Key,
     front: &[u32],
     back: &[u32],
@@ -351,22 +360,22 @@ fn find_leaf<L: Ledger>(
     requires { from ≤ length (front.now ++ back.now) }
     ensures from { from ≤ result }
     ensures within { result ≤ length (front.now ++ back.now) }
-    ensures lacking { AreLacking letters.now (Some key) (front.now ++ back.now) from result }
+    ensures lacking { AreLacking messages.now (Some key) (front.now ++ back.now) from result }
     ensures counted { steps.new + from ≡ steps.old + result }
 {
     if from >= front.len() {
-        return front.len() + find_in(letters, key, back, from - front.len(), steps);
+        return front.len() + find_in(messages, key, back, from - front.len(), steps);
     }
-    let place = find_in(letters, key, front, from, steps);
+    let place = find_in(messages, key, front, from, steps);
     if place < front.len() {
         return place;
     }
-    front.len() + find_in(letters, key, back, 0, steps)
+    front.len() + find_in(messages, key, back, 0, steps)
 }
 
 // The same among nodes.
 fn find_node<L: Ledger>(
-    letters: &[Message],
+    messages: &[Message],
     key: Key,
     nodes: &VecDeque<Node>,
     from: usize,
@@ -375,11 +384,11 @@ fn find_node<L: Ledger>(
     requires { from ≤ length nodes.now.items }
     ensures from { from ≤ result }
     ensures within { result ≤ length nodes.now.items }
-    ensures lacking { AreLacking letters.now (Some key) (map (λ node. node.number) nodes.now.items) from result }
+    ensures lacking { AreLacking messages.now (Some key) (map (λ node. node.number) nodes.now.items) from result }
     ensures counted { steps.new + from ≡ steps.old + result }
 {
     for place in from..nodes.len() {
-        if has_value(letters, key, nodes[place].number()) {
+        if has_value(messages, key, nodes[place].number()) {
             return place;
         }
         steps.tick();
@@ -391,7 +400,7 @@ fn find_node<L: Ledger>(
 // than the test at it.
 #[inline(always)]
 fn with_key<L: Ledger>(
-    letters: &[Message],
+    messages: &[Message],
     key: Option<Key>,
     numbers: &RowNumbers<'_>,
     from: usize,
@@ -400,17 +409,17 @@ fn with_key<L: Ledger>(
     requires { from ≤ length (numbers_in numbers.now) }
     ensures from { from ≤ result }
     ensures within { result ≤ length (numbers_in numbers.now) }
-    ensures lacking { AreLacking letters.now key (numbers_in numbers.now) from result }
+    ensures lacking { AreLacking messages.now key (numbers_in numbers.now) from result }
     ensures counted { steps.new + from ≡ steps.old + result }
 {
     match key {
         None => from,
-        Some(key) => find_key(letters, key, numbers, from, steps),
+        Some(key) => find_key(messages, key, numbers, from, steps),
     }
 }
 
 fn find_key<L: Ledger>(
-    letters: &[Message],
+    messages: &[Message],
     key: Key,
     numbers: &RowNumbers<'_>,
     from: usize,
@@ -419,12 +428,12 @@ fn find_key<L: Ledger>(
     requires { from ≤ length (numbers_in numbers.now) }
     ensures from { from ≤ result }
     ensures within { result ≤ length (numbers_in numbers.now) }
-    ensures lacking { AreLacking letters.now (Some key) (numbers_in numbers.now) from result }
+    ensures lacking { AreLacking messages.now (Some key) (numbers_in numbers.now) from result }
     ensures counted { steps.new + from ≡ steps.old + result }
 {
     match numbers {
-        RowNumbers::Leaves(front, back) => find_leaf(letters, key, front, back, from, steps),
-        RowNumbers::Nodes(nodes) => find_node(letters, key, nodes, from, steps),
+        RowNumbers::Leaves(front, back) => find_leaf(messages, key, front, back, from, steps),
+        RowNumbers::Nodes(nodes) => find_node(messages, key, nodes, from, steps),
     }
 }
 
@@ -440,7 +449,8 @@ fn next_scanned<L: Ledger>(
     steps: &mut Steps<L>,
 ) -> usize
     requires offered { AreOffered (offered offer.now) slots.now pattern row.now from }
-    requires screen { IfSome screen.now (Screens (offered offer.now) slots.now pattern (filter (λ p. not (p == pattern)) (takers (offered offer.now) slots.now))) }
+    requires screen { IfSome screen.now (Screens (offered offer.now) slots.now pattern (filter (λ p. not (p == pattern))
+        (takers (offered offer.now) slots.now))) }
     requires within { from ≤ length row.now }
     ensures from { from ≤ result }
     ensures within { result ≤ length row.now }
@@ -451,20 +461,20 @@ fn next_scanned<L: Ledger>(
     let numbers = RowNumbers::of(row);
     let end = numbers.len();
     let key = key_of(screen);
-    let mut place = with_key(offer.letters, key, &numbers, from, steps);
+    let mut place = with_key(offer.messages, key, &numbers, from, steps);
     while place < end {
         if is_worth(offer, slots, pattern, screen, numbers.at(place)) {
             return place;
         }
         steps.tick();
-        place = with_key(offer.letters, key, &numbers, place + 1, steps);
+        place = with_key(offer.messages, key, &numbers, place + 1, steps);
     }
     end
 }
 
-/// The first place from this one on whose number is worth a visit, or the row's end: by the numbers that are left, where
-/// the row is looked up. Each number that is looked at and passed over counts a step, so that there are at most as many
-/// steps as places before it.
+/// The first place from this one on whose number is worth a visit, or the row's end: by the numbers that are left,
+/// where the row is looked up. Each number that is looked at and passed over counts a step, so that there are at most
+/// as many steps as places before it.
 pub fn next_place<L: Ledger>(
     offer: &Offer<'_>,
     slots: &Slots,
@@ -478,13 +488,15 @@ pub fn next_place<L: Ledger>(
     requires rise { Rise (map (λ node. node.number) row.now) }
     requires offered { AreOffered (offered offer.now) slots.now pattern row.now from }
     requires left { IfSome left.old (HasLeft (offered offer.now) slots.now pattern row.now from) }
-    requires screen { IfSome screen.now (Screens (offered offer.now) slots.now pattern (filter (λ p. not (p == pattern)) (takers (offered offer.now) slots.now))) }
+    requires screen { IfSome screen.now (Screens (offered offer.now) slots.now pattern (filter (λ p. not (p == pattern))
+        (takers (offered offer.now) slots.now))) }
     requires within { from ≤ length row.now }
     ensures from { from ≤ result }
     ensures within { result ≤ length row.now }
     ensures seen { result < length row.now → nat_le offer.now.oldest (node_at row.now result).number ≡ true }
     ensures skipped { AreWorthless (offered offer.now) slots.now pattern row.now from result }
-    ensures left { result < length row.now → IfSome left.new (HasLeft (offered offer.now) slots.now pattern row.now (result + 1)) }
+    ensures left { result < length row.now → IfSome left.new (HasLeft (offered offer.now) slots.now pattern row.now
+        (result + 1)) }
     ensures counted { steps.new + from ≤ steps.old + result }
 {
     match left {

@@ -74,7 +74,13 @@ impl MatchTree {
     pub fn new(alloc: Global, definition: &Definition, rule: u32) -> Result<MatchTree, NoMemory>
         requires some { 1 ≤ length definition.now.patterns }
         requires many { length definition.now.patterns ≤ 8 }
-        ensures opening { IfOk result (λ t. t ≡ record { definition = definition.now; rule = rule; paths = empty_of definition.now ∷ []; reserve = None }) }
+        ensures opening { IfOk result (λ t. t ≡ record {
+          definition = definition.now;
+          rule = rule;
+          paths = empty_of
+              definition.now ∷ [];
+          reserve = None;
+        }) }
     {
         let definition = definition.copy(alloc)?;
         Ok(MatchTree {
@@ -103,24 +109,25 @@ impl MatchTree {
     /// aside: then the tree is as it was. Nothing may be set aside already.
     pub fn reserve_for<L: Ledger>(
         &mut self,
-        letters: &[Message],
+        messages: &[Message],
         index: &ValueIndex,
         number: u32,
         steps: &mut Steps<L>,
     ) -> Result<(), NoMemory>
         requires few { number < 2 ^ 32 - 1 }
         requires settled { self.old.reserve ≡ None }
-        requires can { AllByRecursion (CanOffer (offer_to self.old letters.now number)) self.old.paths }
-        requires indexed { AllByRecursion (AreIndexed index.now letters.now) self.old.paths }
+        requires can { AllByRecursion (CanOffer (offer_to self.old messages.now number)) self.old.paths }
+        requires indexed { AllByRecursion (AreIndexed index.now messages.now) self.old.paths }
         ensures definition { self.new.definition ≡ self.old.definition }
         ensures rule { self.new.rule ≡ self.old.rule }
         ensures paths { self.new.paths ≡ self.old.paths }
         ensures unchanged { OnErr result (self.new.reserve ≡ None) }
-        ensures reserved { OnOk result (IsReserved (offer_to self.old letters.now number) self.old.paths self.new.reserve) }
-        ensures stepped { steps.new ≤ steps.old + tries (offer_to self.old letters.now number) self.old.paths }
+        ensures reserved { OnOk result (IsReserved (offer_to self.old messages.now number) self.old.paths
+            self.new.reserve) }
+        ensures stepped { steps.new ≤ steps.old + tries (offer_to self.old messages.now number) self.old.paths }
     {
         let offer = Offer {
-            letters,
+            messages,
             index,
             definition: &self.definition,
             rule: self.rule,
@@ -163,13 +170,14 @@ impl MatchTree {
         self.pending = None;
     }
 
-    /// The paths that the definition sees once the number of the reserve is recorded stay, and the others go. The reserve
-    /// stays.
+    /// The paths that the definition sees once the number of the reserve is recorded stay, and the others go. The
+    /// reserve stays.
     pub fn expire(&mut self, number: u32)
         requires few { number < 2 ^ 32 - 1 }
         requires reserved { MatchOption self.old.reserve ⊥ (λ r. r.number ≡ number) }
         requires sees { oldest_seen self.old.definition.window number ≤ number }
-        ensures { self.new ≡ with_paths self.old (filter (is_path_seen (oldest_seen self.old.definition.window number)) self.old.paths) self.old.reserve }
+        ensures { self.new ≡ with_paths self.old (filter (is_path_seen (oldest_seen self.old.definition.window number))
+            self.old.paths) self.old.reserve }
     {
         let oldest = oldest_seen(&self.definition, number);
         let levels = self.definition.patterns.len() - 1;
@@ -195,16 +203,22 @@ impl MatchTree {
 
     /// The paths that take none of these numbers stay, and the others go. Each number of a path is before this one, and
     /// the index has it. Nothing may be set aside.
-    pub fn prune(&mut self, letters: &[Message], index: &ValueIndex, number: u32, numbers: &Numbers)
+    pub fn prune(
+        &mut self,
+        messages: &[Message],
+        index: &ValueIndex,
+        number: u32,
+        numbers: &Numbers,
+    )
         requires few { number < 2 ^ 32 - 1 }
         requires settled { self.old.reserve ≡ None }
-        requires can { AllByRecursion (CanOffer (offer_to self.old letters.now number)) self.old.paths }
-        requires indexed { AllByRecursion (AreIndexed index.now letters.now) self.old.paths }
+        requires can { AllByRecursion (CanOffer (offer_to self.old messages.now number)) self.old.paths }
+        requires indexed { AllByRecursion (AreIndexed index.now messages.now) self.old.paths }
         ensures { self.new ≡ with_paths self.old (filter (is_path_without numbers.now) self.old.paths) None }
     {
         let levels = self.definition.patterns.len() - 1;
         let offer = Offer {
-            letters,
+            messages,
             index,
             definition: &self.definition,
             rule: self.rule,

@@ -71,9 +71,12 @@ fn begin_row(
     requires free_left { AreOpen slots.now (row_routes pattern row.old) }
     ensures sound { IsSoundRow row.new }
     ensures free_left { AreOpen slots.now (row_routes pattern row.new) }
-    ensures lasting { filter (lacks (offer.now.number ∷ [])) (row_routes pattern row.new) ≡ filter (lacks (offer.now.number ∷ [])) (row_routes pattern row.old) }
-    ensures begins { result ≡ true → Begins offer.now.number (filter (contains_number begun.now) (pattern ∷ [])) (row_routes pattern row.old) (row_routes pattern row.new) }
-    ensures counted { count.new + length (row_routes pattern row.old) ≡ count.old + length (row_routes pattern row.new) }
+    ensures lasting { filter (lacks (offer.now.number ∷ [])) (row_routes pattern row.new)
+        ≡ filter (lacks (offer.now.number ∷ [])) (row_routes pattern row.old) }
+    ensures begins { result ≡ true → Begins offer.now.number (filter (contains_number begun.now) (pattern ∷ []))
+        (row_routes pattern row.old) (row_routes pattern row.new) }
+    ensures counted { count.new + length (row_routes pattern row.old)
+        ≡ count.old + length (row_routes pattern row.new) }
 {
     if !contains(begun, pattern) {
         return true;
@@ -101,8 +104,10 @@ fn begin_rows(
     requires free_left { AreOpen slots.now (rows_routes 0 rows.old) }
     ensures sound { AreSound rows.new }
     ensures free_left { AreOpen slots.now (rows_routes 0 rows.new) }
-    ensures lasting { filter (lacks (offer.now.number ∷ [])) (rows_routes 0 rows.new) ≡ filter (lacks (offer.now.number ∷ [])) (rows_routes 0 rows.old) }
-    ensures begins { result ≡ true → Begins offer.now.number (filter (contains_number begun.now) (places 0 rows.old)) (rows_routes 0 rows.old) (rows_routes 0 rows.new) }
+    ensures lasting { filter (lacks (offer.now.number ∷ [])) (rows_routes 0 rows.new)
+        ≡ filter (lacks (offer.now.number ∷ [])) (rows_routes 0 rows.old) }
+    ensures begins { result ≡ true → Begins offer.now.number (filter (contains_number begun.now) (places 0 rows.old))
+        (rows_routes 0 rows.old) (rows_routes 0 rows.new) }
     ensures counted { count.new + length (rows_routes 0 rows.old) ≡ count.old + length (rows_routes 0 rows.new) }
 {
     let mut fits = true;
@@ -130,9 +135,12 @@ fn begin(
     ensures few { length rows.new.items ≤ 8 }
     ensures sound { AreSound rows.new.items }
     ensures free_left { AreOpen slots.now (rows_routes 0 rows.new.items) }
-    ensures lasting { filter (lacks (offer.now.number ∷ [])) (rows_routes 0 rows.new.items) ≡ filter (lacks (offer.now.number ∷ [])) (rows_routes 0 rows.old.items) }
-    ensures begins { result ≡ true → Begins offer.now.number (growing (offered offer.now) slots.now) (rows_routes 0 rows.old.items) (rows_routes 0 rows.new.items) }
-    ensures counted { count.new + length (rows_routes 0 rows.old.items) ≡ count.old + length (rows_routes 0 rows.new.items) }
+    ensures lasting { filter (lacks (offer.now.number ∷ [])) (rows_routes 0 rows.new.items)
+        ≡ filter (lacks (offer.now.number ∷ [])) (rows_routes 0 rows.old.items) }
+    ensures begins { result ≡ true → Begins offer.now.number (growing (offered offer.now) slots.now)
+        (rows_routes 0 rows.old.items) (rows_routes 0 rows.new.items) }
+    ensures counted { count.new + length (rows_routes 0 rows.old.items)
+        ≡ count.old + length (rows_routes 0 rows.new.items) }
 {
     let begun = growing(offer, slots, able);
     if begun.len() == 0 {
@@ -156,7 +164,8 @@ fn begin_leaf(
     requires able { able.now ≡ takers (offered offer.now) slots.now }
     ensures behind { IfOk result (λ rows. IsBehind slots.now offer.now.number (routes_behind rows)) }
     ensures few { IfOk result AreFewBehind }
-    ensures begins { IfOk result (λ rows. Begins offer.now.number (growing (offered offer.now) slots.now) [] (routes_behind rows)) }
+    ensures begins { IfOk result (λ rows. Begins offer.now.number (growing (offered offer.now) slots.now) []
+        (routes_behind rows)) }
     ensures counted { IfOk result (λ rows. count.new ≡ count.old + length (routes_behind rows)) }
     ensures uncounted { OnErr result (count.new ≡ count.old) }
 {
@@ -196,12 +205,14 @@ fn visit_leaf<L: Ledger>(
 ) -> Result<AtLeaf, NoMemory>
     requires can { CanOffer (offered offer.now) slots.now }
     requires free { AllByRecursion (MayTry slots.now) wanted.now }
-    requires wanted { filter (may_take (offered offer.now) slots.now) wanted.now ≡ takers (offered offer.now) slots.now }
+    requires wanted { filter (may_take (offered offer.now) slots.now) wanted.now
+        ≡ takers (offered offer.now) slots.now }
 
     ensures behind { IfOk result (λ at. IsBehind slots.now offer.now.number (routes_behind at.rows)) }
     ensures few { IfOk result (λ at. AreFewBehind at.rows) }
     ensures best { IfOk result (λ at. at.best ≡ least (new_matches (offered offer.now) slots.now ([] ∷ []))) }
-    ensures grows { IfOk result (λ at. at.best ≡ None → Grows (offered offer.now) slots.now (growing (offered offer.now) slots.now) [] (routes_behind at.rows)) }
+    ensures grows { IfOk result (λ at. at.best ≡ None → Grows (offered offer.now) slots.now (growing (offered offer.now)
+        slots.now) [] (routes_behind at.rows)) }
     ensures counted { IfOk result (λ at. count.new ≡ count.old + length (routes_behind at.rows)) }
     ensures uncounted { OnErr result (count.new ≡ count.old) }
     ensures stepped { steps.new ≡ steps.old + length wanted.now }
@@ -234,7 +245,8 @@ fn visit_leaf_at<L: Ledger>(
 ) -> Result<Option<Candidate>, NoMemory>
     requires can { CanOffer (offered offer.now) slots.now }
     requires free { AllByRecursion (MayTry slots.now) wanted.now }
-    requires wanted { filter (may_take (offered offer.now) slots.now) wanted.now ≡ takers (offered offer.now) slots.now }
+    requires wanted { filter (may_take (offered offer.now) slots.now) wanted.now
+        ≡ takers (offered offer.now) slots.now }
     requires within { place < length row.old }
     requires leaf { (node_at row.old place).routes ≡ [] }
 
@@ -242,7 +254,8 @@ fn visit_leaf_at<L: Ledger>(
     ensures number { (node_at row.new place).number ≡ (node_at row.old place).number }
     ensures behind { IsBehind slots.now offer.now.number (node_at row.new place).routes }
     ensures best { IfOk result (λ b. b ≡ least (new_matches (offered offer.now) slots.now ([] ∷ []))) }
-    ensures grows { IfOk result (λ b. b ≡ None → Grows (offered offer.now) slots.now (growing (offered offer.now) slots.now) [] (node_at row.new place).routes) }
+    ensures grows { IfOk result (λ b. b ≡ None → Grows (offered offer.now) slots.now (growing (offered offer.now)
+        slots.now) [] (node_at row.new place).routes) }
     ensures counted { count.new ≡ count.old + length (node_at row.new place).routes }
     ensures stepped { steps.new ≡ steps.old + length wanted.now }
 {
@@ -274,7 +287,8 @@ pub fn visit_rows<L: Ledger>(
 ) -> Result<Option<Candidate>, NoMemory>
     requires can { CanOffer (offered offer.now) slots.now }
     requires free { AllByRecursion (MayTry slots.now) wanted.now }
-    requires wanted { filter (may_take (offered offer.now) slots.now) wanted.now ≡ takers (offered offer.now) slots.now }
+    requires wanted { filter (may_take (offered offer.now) slots.now) wanted.now
+        ≡ takers (offered offer.now) slots.now }
     requires few { length rows.old.items ≤ 8 }
     requires sound { AreSound rows.old.items }
     requires lead { LeadOn (offered offer.now) slots.now (rows_routes 0 rows.old.items) }
@@ -284,10 +298,14 @@ pub fn visit_rows<L: Ledger>(
     ensures sound { AreSound rows.new.items }
     ensures free_left { AreOpen slots.now (rows_routes 0 rows.new.items) }
     ensures lasting { Lasts offer.now.number (rows_routes 0 rows.old.items) (rows_routes 0 rows.new.items) }
-    ensures best { IfOk result (λ b. b ≡ least (new_matches (offered offer.now) slots.now ([] ∷ seen (offered offer.now) (rows_routes 0 rows.old.items)))) }
-    ensures grows { IfOk result (λ b. b ≡ None → Grows (offered offer.now) slots.now (growing (offered offer.now) slots.now) (rows_routes 0 rows.old.items) (rows_routes 0 rows.new.items)) }
-    ensures counted { count.new + length (rows_routes 0 rows.old.items) ≡ count.old + length (rows_routes 0 rows.new.items) }
-    ensures stepped { steps.new ≤ steps.old + (length wanted.now + tries_behind (offered offer.now) slots.now (rows_routes 0 rows.old.items)) }
+    ensures best { IfOk result (λ b. b ≡ least (new_matches (offered offer.now) slots.now ([] ∷ seen (offered offer.now)
+        (rows_routes 0 rows.old.items)))) }
+    ensures grows { IfOk result (λ b. b ≡ None → Grows (offered offer.now) slots.now (growing (offered offer.now)
+        slots.now) (rows_routes 0 rows.old.items) (rows_routes 0 rows.new.items)) }
+    ensures counted { count.new + length (rows_routes 0 rows.old.items)
+        ≡ count.old + length (rows_routes 0 rows.new.items) }
+    ensures stepped { steps.new ≤ steps.old + (length wanted.now + tries_behind (offered offer.now) slots.now
+        (rows_routes 0 rows.old.items)) }
 {
     let able = takers(offer, slots, wanted, steps);
     if able.len() == 0 {
@@ -303,8 +321,8 @@ pub fn visit_rows<L: Ledger>(
     Ok(None)
 }
 
-// Offers the number to a path, and to all that go on from it by the rows. No node is added for it at the path itself, so that
-// none has to be taken out again where a row behind has the match.
+// Offers the number to a path, and to all that go on from it by the rows. No node is added for it at the path itself,
+// so that none has to be taken out again where a row behind has the match.
 #[cycle(visit)]
 fn visit_each<L: Ledger>(
     alloc: Global,
@@ -326,8 +344,10 @@ fn visit_each<L: Ledger>(
     ensures less { OnOk result (AreLess offer.now.number rows.new) }
     ensures free_left { AreOpen slots.now (rows_routes 0 rows.new) }
     ensures lasting { Lasts offer.now.number (rows_routes 0 rows.old) (rows_routes 0 rows.new) }
-    ensures best { IfOk result (λ b. b ≡ least (new_matches (offered offer.now) slots.now ([] ∷ seen (offered offer.now) (rows_routes 0 rows.old)))) }
-    ensures grows { IfOk result (λ b. b ≡ None → Grows (offered offer.now) slots.now [] (rows_routes 0 rows.old) (rows_routes 0 rows.new)) }
+    ensures best { IfOk result (λ b. b ≡ least (new_matches (offered offer.now) slots.now ([] ∷ seen (offered offer.now)
+        (rows_routes 0 rows.old)))) }
+    ensures grows { IfOk result (λ b. b ≡ None → Grows (offered offer.now) slots.now [] (rows_routes 0 rows.old)
+        (rows_routes 0 rows.new)) }
     ensures counted { count.new + length (rows_routes 0 rows.old) ≡ count.old + length (rows_routes 0 rows.new) }
     ensures stepped { steps.new ≤ steps.old + tries_behind (offered offer.now) slots.now (rows_routes 0 rows.old) }
 {
@@ -364,9 +384,12 @@ fn visit_row<L: Ledger>(
     ensures free_left { AreOpen slots.now (row_routes pattern row.new) }
     ensures numbers { map (λ node. node.number) row.new ≡ map (λ node. node.number) row.old }
     ensures lasting { Lasts offer.now.number (row_routes pattern row.old) (row_routes pattern row.new) }
-    ensures best { IfOk result (λ b. b ≡ least (new_matches (offered offer.now) slots.now (seen (offered offer.now) (row_routes pattern row.old)))) }
-    ensures grows { IfOk result (λ b. b ≡ None → Grows (offered offer.now) slots.now [] (row_routes pattern row.old) (row_routes pattern row.new)) }
-    ensures counted { count.new + length (row_routes pattern row.old) ≡ count.old + length (row_routes pattern row.new) }
+    ensures best { IfOk result (λ b. b ≡ least (new_matches (offered offer.now) slots.now (seen (offered offer.now)
+        (row_routes pattern row.old)))) }
+    ensures grows { IfOk result (λ b. b ≡ None → Grows (offered offer.now) slots.now [] (row_routes pattern row.old)
+        (row_routes pattern row.new)) }
+    ensures counted { count.new + length (row_routes pattern row.old)
+        ≡ count.old + length (row_routes pattern row.new) }
     ensures stepped { steps.new ≤ steps.old + tries_behind (offered offer.now) slots.now (row_routes pattern row.old) }
 {
     if wanted.len() == 0 {
@@ -410,7 +433,8 @@ fn visit_at<L: Ledger>(
 ) -> Result<Option<Candidate>, NoMemory>
     requires can { CanOffer (offered offer.now) slots.now }
     requires free { AllByRecursion (MayTry slots.now) wanted.now }
-    requires wanted { filter (may_take (offered offer.now) slots.now) wanted.now ≡ takers (offered offer.now) slots.now }
+    requires wanted { filter (may_take (offered offer.now) slots.now) wanted.now
+        ≡ takers (offered offer.now) slots.now }
     requires within { place < length row.old }
     requires ordered { IsOrderedNode (node_at row.old place) }
     requires lead { LeadOn (offered offer.now) slots.now (node_at row.old place).routes }
@@ -421,10 +445,14 @@ fn visit_at<L: Ledger>(
     ensures ordered { IsOrderedNode (node_at row.new place) }
     ensures free_left { AreOpen slots.now (node_at row.new place).routes }
     ensures lasting { Lasts offer.now.number (node_at row.old place).routes (node_at row.new place).routes }
-    ensures best { IfOk result (λ b. b ≡ least (new_matches (offered offer.now) slots.now ([] ∷ seen (offered offer.now) (node_at row.old place).routes))) }
-    ensures grows { IfOk result (λ b. b ≡ None → Grows (offered offer.now) slots.now (growing (offered offer.now) slots.now) (node_at row.old place).routes (node_at row.new place).routes) }
-    ensures counted { count.new + length (node_at row.old place).routes ≡ count.old + length (node_at row.new place).routes }
-    ensures stepped { steps.new ≤ steps.old + (length wanted.now + tries_behind (offered offer.now) slots.now (node_at row.old place).routes) }
+    ensures best { IfOk result (λ b. b ≡ least (new_matches (offered offer.now) slots.now ([] ∷ seen (offered offer.now)
+        (node_at row.old place).routes))) }
+    ensures grows { IfOk result (λ b. b ≡ None → Grows (offered offer.now) slots.now (growing (offered offer.now)
+        slots.now) (node_at row.old place).routes (node_at row.new place).routes) }
+    ensures counted { count.new + length (node_at row.old place).routes
+        ≡ count.old + length (node_at row.new place).routes }
+    ensures stepped { steps.new ≤ steps.old + (length wanted.now + tries_behind (offered offer.now) slots.now
+        (node_at row.old place).routes) }
 {
     match &mut row.nodes {
         Nodes::Empty => Ok(None),
@@ -450,7 +478,8 @@ fn visit_node<L: Ledger>(
 ) -> Result<Option<Candidate>, NoMemory>
     requires can { CanOffer (offered offer.now) slots.now }
     requires free { AllByRecursion (MayTry slots.now) wanted.now }
-    requires wanted { filter (may_take (offered offer.now) slots.now) wanted.now ≡ takers (offered offer.now) slots.now }
+    requires wanted { filter (may_take (offered offer.now) slots.now) wanted.now
+        ≡ takers (offered offer.now) slots.now }
     requires ordered { IsOrderedNode node.old }
     requires lead { LeadOn (offered offer.now) slots.now node.old.routes }
     requires free_left { AreOpen slots.now node.old.routes }
@@ -459,10 +488,13 @@ fn visit_node<L: Ledger>(
     ensures ordered { IsOrderedNode node.new }
     ensures free_left { AreOpen slots.now node.new.routes }
     ensures lasting { Lasts offer.now.number node.old.routes node.new.routes }
-    ensures best { IfOk result (λ b. b ≡ least (new_matches (offered offer.now) slots.now ([] ∷ seen (offered offer.now) node.old.routes))) }
-    ensures grows { IfOk result (λ b. b ≡ None → Grows (offered offer.now) slots.now (growing (offered offer.now) slots.now) node.old.routes node.new.routes) }
+    ensures best { IfOk result (λ b. b ≡ least (new_matches (offered offer.now) slots.now ([] ∷ seen (offered offer.now)
+        node.old.routes))) }
+    ensures grows { IfOk result (λ b. b ≡ None → Grows (offered offer.now) slots.now (growing (offered offer.now)
+        slots.now) node.old.routes node.new.routes) }
     ensures counted { count.new + length node.old.routes ≡ count.old + length node.new.routes }
-    ensures stepped { steps.new ≤ steps.old + (length wanted.now + tries_behind (offered offer.now) slots.now node.old.routes) }
+    ensures stepped { steps.new ≤ steps.old + (length wanted.now + tries_behind (offered offer.now) slots.now
+        node.old.routes) }
 {
     match &mut node.shape {
         Shape::Leaf(_) => {

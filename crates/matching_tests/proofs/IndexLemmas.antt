@@ -12,28 +12,28 @@ use Rattle.match_tree.specs.Offering.{AreIndexed, CanOffer}
 use Rattle.match_tree.specs.Tree.{Tree, offer_to}
 use Rattle.matching_tests.specs.Samples.{HasAll, HasUpTo}
 
-assigned_recorded : (letters : List Message) (kinds : List ℕ) (slots : Assignment) (q m : ℕ) → SlotsSuit letters kinds slots → number_at slots q ≡ Some m → IsRecorded letters m
-assigned_recorded letters [] [] q m suits at = absurd cc
-assigned_recorded letters [] (slot ∷ slots) q m suits at = absurd suits
-assigned_recorded letters (kind ∷ kinds) [] q m suits at = absurd suits
-assigned_recorded letters (kind ∷ kinds) (None ∷ slots) zero m suits at = absurd cc
-assigned_recorded letters (kind ∷ kinds) (Some n ∷ slots) zero m suits at = let same : n ≡ m = cc in subst (λ (x : ℕ). IsRecorded letters x) same suits.0
-assigned_recorded letters (kind ∷ kinds) (None ∷ slots) (suc q) m suits at = assigned_recorded letters kinds slots q m suits at
-assigned_recorded letters (kind ∷ kinds) (Some n ∷ slots) (suc q) m suits at = assigned_recorded letters kinds slots q m suits.3 at
+assigned_recorded : (messages : List Message) (kinds : List ℕ) (slots : Assignment) (q m : ℕ) → SlotsSuit messages kinds slots → number_at slots q ≡ Some m → IsRecorded messages m
+assigned_recorded messages [] [] q m suits at = absurd cc
+assigned_recorded messages [] (slot ∷ slots) q m suits at = absurd suits
+assigned_recorded messages (kind ∷ kinds) [] q m suits at = absurd suits
+assigned_recorded messages (kind ∷ kinds) (None ∷ slots) zero m suits at = absurd cc
+assigned_recorded messages (kind ∷ kinds) (Some n ∷ slots) zero m suits at = let same : n ≡ m = cc in subst (λ (x : ℕ). IsRecorded messages x) same suits.0
+assigned_recorded messages (kind ∷ kinds) (None ∷ slots) (suc q) m suits at = assigned_recorded messages kinds slots q m suits at
+assigned_recorded messages (kind ∷ kinds) (Some n ∷ slots) (suc q) m suits at = assigned_recorded messages kinds slots q m suits.3 at
 
-pub all_indexed : (index : Index) (letters : List Message) (t : Tree) (number : ℕ) → HasAll index letters → AllByRecursion (CanOffer (offer_to t letters number)) t.paths → AllByRecursion (AreIndexed index letters) t.paths
-all_indexed index letters t number has can = each t.paths can
+pub all_indexed : (index : Index) (messages : List Message) (t : Tree) (number : ℕ) → HasAll index messages → AllByRecursion (CanOffer (offer_to t messages number)) t.paths → AllByRecursion (AreIndexed index messages) t.paths
+all_indexed index messages t number has can = each t.paths can
   where
-    each : (paths : List Assignment) → AllByRecursion (CanOffer (offer_to t letters number)) paths → AllByRecursion (AreIndexed index letters) paths
+    each : (paths : List Assignment) → AllByRecursion (CanOffer (offer_to t messages number)) paths → AllByRecursion (AreIndexed index messages) paths
     each [] h = tt
-    each (path ∷ paths) h = ((λ q m at. has m (assigned_recorded letters t.definition.patterns path q m h.0.suits at)), each paths h.1)
+    each (path ∷ paths) h = ((λ q m at. has m (assigned_recorded messages t.definition.patterns path q m h.0.suits at)), each paths h.1)
 
 -- one message more
-pub more_indexed : (index now : Index) (letters : List Message) (last : ℕ) → now.fields ≡ index.fields → Keeps index.entries now.entries → Has now letters (last + 1) → HasUpTo index letters last → HasUpTo now letters (last + 1)
-more_indexed index now letters last same keeps newest has number recorded up = elim (cases_lt last number) [
-  | inl above ↦ let is : last + 1 ≡ number = omega arith in subst (λ (n : ℕ). Has now letters n) is newest
+pub more_indexed : (index now : Index) (messages : List Message) (last : ℕ) → now.fields ≡ index.fields → Keeps index.entries now.entries → Has now messages (last + 1) → HasUpTo index messages last → HasUpTo now messages (last + 1)
+more_indexed index now messages last same keeps newest has number recorded up = elim (cases_lt last number) [
+  | inl above ↦ let is : last + 1 ≡ number = omega arith in subst (λ (n : ℕ). Has now messages n) is newest
   | inr within ↦ old (has number recorded within)
 ]
   where
-    old : Has index letters number → Has now letters number
+    old : Has index messages number → Has now messages number
     old h place indexed get of_kind = keeps _ (h place indexed (ap (λ (fields : List IndexedField). slice_get fields place) (sym same) ∙ get) of_kind)

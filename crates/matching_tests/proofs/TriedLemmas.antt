@@ -22,13 +22,13 @@ use Rattle.matching_tests.proofs.SampleLemmas.{opening_can, samples_suit}
 -- ---- what a message adds
 
 -- the paths that are kept where the number completes no match
-pub kept_grows : (t before after : Tree) (letters : List Message) (n : ℕ) (q : Assignment → Bool) (reserve : Option Reserve) → IsReserved (offer_to t letters n) t.paths reserve → before.paths ≡ filter q t.paths
-    → MatchOption reserve ⊥ (λ r. (r.best ≡ None) × SameMembers after.paths (before.paths ++ r.aside)) → GrowsBy (offer_to t letters n) t.paths after.paths
-kept_grows t before after letters n q None reserved left gains = absurd gains
-kept_grows t before after letters n q (Some r) reserved left gains = one
+pub kept_grows : (t before after : Tree) (messages : List Message) (n : ℕ) (q : Assignment → Bool) (reserve : Option Reserve) → IsReserved (offer_to t messages n) t.paths reserve → before.paths ≡ filter q t.paths
+    → MatchOption reserve ⊥ (λ r. (r.best ≡ None) × SameMembers after.paths (before.paths ++ r.aside)) → GrowsBy (offer_to t messages n) t.paths after.paths
+kept_grows t before after messages n q None reserved left gains = absurd gains
+kept_grows t before after messages n q (Some r) reserved left gains = one
   where
     o : Offered
-    o = offer_to t letters n
+    o = offer_to t messages n
 
     grown : Assignment → List Assignment
     grown path = map (λ p. with_number path p o.number) (growing o path)
@@ -42,23 +42,23 @@ kept_grows t before after letters n q (Some r) reserved left gains = one
     ]
 
 -- the paths that are left where a match fires
-pub left_grows : (t after : Tree) (letters : List Message) (n : ℕ) (p q : Assignment → Bool) → after.paths ≡ filter p (filter q t.paths) → GrowsBy (offer_to t letters n) t.paths after.paths
-left_grows t after letters n p q left = one
+pub left_grows : (t after : Tree) (messages : List Message) (n : ℕ) (p q : Assignment → Bool) → after.paths ≡ filter p (filter q t.paths) → GrowsBy (offer_to t messages n) t.paths after.paths
+left_grows t after messages n p q left = one
   where
-    one : (x : Assignment) → IsIn x after.paths → IsIn x (t.paths ++ extensions (offer_to t letters n) t.paths)
+    one : (x : Assignment) → IsIn x after.paths → IsIn x (t.paths ++ extensions (offer_to t messages n) t.paths)
     one x m =
         let first = (IsIn-filter_from p x (filter q t.paths) (subst (λ xs. IsIn x xs) left m)).0 in
-        IsIn-append_left x t.paths (extensions (offer_to t letters n) t.paths) (IsIn-filter_from q x t.paths first).0
+        IsIn-append_left x t.paths (extensions (offer_to t messages n) t.paths) (IsIn-filter_from q x t.paths first).0
 
 -- ---- the row
 
 -- a number of the row, offered to the pair
 abbrev offered : ℕ → ℕ → Offered
-offered rule n = record { letters = row; index = no_index; definition = pair; rule = rule; number = n; oldest = oldest_seen pair.window n }
+offered rule n = record { messages = row; index = no_index; definition = pair; rule = rule; number = n; oldest = oldest_seen pair.window n }
 
-same_offer : (t : Tree) (letters : List Message) (n : ℕ) → letters ≡ row → t.definition ≡ pair → offer_to t letters n ≡ offered t.rule n
-same_offer t letters n same definition =
-    λ i. record { letters = same i; index = no_index; definition = definition i; rule = t.rule; number = n; oldest = oldest_seen (definition i).window n }
+same_offer : (t : Tree) (messages : List Message) (n : ℕ) → messages ≡ row → t.definition ≡ pair → offer_to t messages n ≡ offered t.rule n
+same_offer t messages n same definition =
+    λ i. record { messages = same i; index = no_index; definition = definition i; rule = t.rule; number = n; oldest = oldest_seen (definition i).window n }
 
 pair_suits : DefinitionSuits row pair
 pair_suits =
@@ -68,8 +68,8 @@ pair_suits =
     let ints : AreInts row = (refl, (refl, (refl, (refl, tt)))) in
     samples_suit row pair (omega arith) (omega arith) ints samples
 
-pub first_can : (t : Tree) (letters : List Message) → letters ≡ row → t ≡ record { definition = pair; rule = 1; paths = empty_of pair ∷ []; reserve = None } → AllByRecursion (CanOffer (offer_to t letters 1)) t.paths
-first_can t letters same opening = opening_can row letters t pair same opening pair_suits (omega arith)
+pub first_can : (t : Tree) (messages : List Message) → messages ≡ row → t ≡ record { definition = pair; rule = 1; paths = empty_of pair ∷ []; reserve = None } → AllByRecursion (CanOffer (offer_to t messages 1)) t.paths
+first_can t messages same opening = opening_can row messages t pair same opening pair_suits (omega arith)
 
 pub first_among : (t : Tree) → t ≡ record { definition = pair; rule = 1; paths = empty_of pair ∷ []; reserve = None } → AreAmong t.paths kept
 first_among t opening = subst (λ (u : Tree). AreAmong u.paths kept) (sym opening) one
@@ -87,11 +87,11 @@ adds_none rule (suc (suc zero)) some few x m = absurd m
 adds_none rule (suc (suc (suc zero))) some few x m = absurd m
 adds_none rule (suc (suc (suc (suc n)))) some few x m = absurd (omega (arith, few))
 
-pub among_next : (t after : Tree) (letters : List Message) (n : ℕ) → letters ≡ row → t.definition ≡ pair → 1 ≤ n → n < 4 → AreAmong t.paths kept → GrowsBy (offer_to t letters n) t.paths after.paths → AreAmong after.paths kept
-among_next t after letters n same definition some few among grows = one
+pub among_next : (t after : Tree) (messages : List Message) (n : ℕ) → messages ≡ row → t.definition ≡ pair → 1 ≤ n → n < 4 → AreAmong t.paths kept → GrowsBy (offer_to t messages n) t.paths after.paths → AreAmong after.paths kept
+among_next t after messages n same definition some few among grows = one
   where
     o : Offered
-    o = offer_to t letters n
+    o = offer_to t messages n
 
     grown : Assignment → List Assignment
     grown path = map (λ p. with_number path p o.number) (growing o path)
@@ -102,16 +102,16 @@ among_next t after letters n same definition some few among grows = one
       | inr new ↦
           let w = IsIn-flat_map_from grown x t.paths new in
           let wide : IsIn x (extensions o kept) = IsIn-flat_map grown (w.0) x kept (among (w.0) w.1) w.2 in
-          adds_none t.rule n some few x (subst (λ (q : Offered). IsIn x (extensions q kept)) (same_offer t letters n same definition) wide)
+          adds_none t.rule n some few x (subst (λ (q : Offered). IsIn x (extensions q kept)) (same_offer t messages n same definition) wide)
     ]
 
 two_tries : (rule : ℕ) → tries (offered rule 4) kept ≡ 2
 two_tries rule = refl
 
 -- the fourth message is tried at what is kept, twice at most
-pub tried_twice : (t : Tree) (letters : List Message) → letters ≡ row → t.definition ≡ pair → AreOnce t.paths → AreAmong t.paths kept → tries (offer_to t letters 4) t.paths ≤ 2
-tried_twice t letters same definition once among =
-    let o = offer_to t letters 4 in
+pub tried_twice : (t : Tree) (messages : List Message) → messages ≡ row → t.definition ≡ pair → AreOnce t.paths → AreAmong t.paths kept → tries (offer_to t messages 4) t.paths ≤ 2
+tried_twice t messages same definition once among =
+    let o = offer_to t messages 4 in
     let few : tries o t.paths ≤ tries o kept = once_sum (λ (path : Assignment). length (tried o path)) t.paths kept once among in
-    let two : tries o kept ≡ 2 = ap (λ (q : Offered). tries q kept) (same_offer t letters 4 same definition) ∙ two_tries t.rule in
+    let two : tries o kept ≡ 2 = ap (λ (q : Offered). tries q kept) (same_offer t messages 4 same definition) ∙ two_tries t.rule in
     omega (arith, few, two)

@@ -18,12 +18,12 @@ AreSamples conjuncts = AllByRecursion (λ c. AllByRecursion IsSampleNeed (needs_
 
 -- each message has an integer in its first field
 abbrev pub AreInts : List Message → Type 0
-AreInts letters = AllByRecursion (λ m. has_sort Sort.Int (slice_get m.fields 0) ≡ true) letters
+AreInts messages = AllByRecursion (λ m. has_sort Sort.Int (slice_get m.fields 0) ≡ true) messages
 
 -- the index has the messages up to this number
 abbrev pub HasUpTo : Index → List Message → ℕ → Type 0
-HasUpTo index letters last = (number : ℕ) → IsRecorded letters number → number ≤ last → Has index letters number
+HasUpTo index messages last = (number : ℕ) → IsRecorded messages number → number ≤ last → Has index messages number
 
 -- the index has all messages
 abbrev pub HasAll : Index → List Message → Type 0
-HasAll index letters = (number : ℕ) → IsRecorded letters number → Has index letters number
+HasAll index messages = (number : ℕ) → IsRecorded messages number → Has index messages number

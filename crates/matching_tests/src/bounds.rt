@@ -1,7 +1,7 @@
 use crate::made::{comparison, worded};
 use guard_bound::{Bound, Bounds, Same, bound_of, is_same, meets_all, same_of};
 use guard_eval::{Leaf, Operand, Place, Signed, Term, WordsLeaf};
-use join_base::{Items, Letters, Message, NoMemory, Relation};
+use join_base::{Items, Message, MessageList, NoMemory, Relation};
 use std::alloc::Global;
 use std::test::Fail;
 
@@ -32,18 +32,18 @@ fn words(pattern: u32) -> Operand {
     Operand::Words(WordsLeaf::Field(Place { pattern, field: 1 }))
 }
 
-fn push_letters(alloc: Global, letters: &mut Letters) -> Result<(), Fail> {
-    letters.push(worded(alloc, 0, 4, b"left")?)?;
-    letters.push(worded(alloc, 0, 5, b"right")?)?;
-    letters.push(worded(alloc, 0, 3, b"right")?)?;
+fn push_messages(alloc: Global, messages: &mut MessageList) -> Result<(), Fail> {
+    messages.push(worded(alloc, 0, 4, b"left")?)?;
+    messages.push(worded(alloc, 0, 5, b"right")?)?;
+    messages.push(worded(alloc, 0, 3, b"right")?)?;
     Ok(())
 }
 
 // Numbers 1 to 3 with 4, 5 and 3.
-fn letters(alloc: Global) -> Result<Letters, Fail> {
-    let mut letters = Items::new(alloc);
-    push_letters(alloc, &mut letters)?;
-    Ok(letters)
+fn messages(alloc: Global) -> Result<MessageList, Fail> {
+    let mut messages = Items::new(alloc);
+    push_messages(alloc, &mut messages)?;
+    Ok(messages)
 }
 
 // What is found for pattern 0, where pattern 1 has number 2.
@@ -56,8 +56,8 @@ fn bound_beside(
     let left = sum(alloc, left)?;
     let right = sum(alloc, [number(0), right])?;
     let conjunct = comparison(alloc, left, relation, right)?;
-    let letters = letters(alloc)?;
-    Ok(bound_of(letters.as_slice(), 2, 0, 1, &conjunct))
+    let messages = messages(alloc)?;
+    Ok(bound_of(messages.as_slice(), 2, 0, 1, &conjunct))
 }
 
 fn at(relation: Relation, value: i128) -> Option<Bound> {
@@ -120,17 +120,17 @@ fn bounds() -> Bounds {
     bounds
 }
 
-fn are_met(letters: &[Message]) -> bool {
+fn are_met(messages: &[Message]) -> bool {
     let bounds = bounds();
-    meets_all(letters, &bounds, 1)
-        && !meets_all(letters, &bounds, 2)
-        && !meets_all(letters, &bounds, 3)
+    meets_all(messages, &bounds, 1)
+        && !meets_all(messages, &bounds, 2)
+        && !meets_all(messages, &bounds, 3)
 }
 
 #[test]
 fn numbers_meet_all_bounds_or_fail_one(rt: HostRuntime) -> Result<(), Fail> {
-    let letters = letters(rt.alloc())?;
-    assert!(rt; are_met(letters.as_slice()));
+    let messages = messages(rt.alloc())?;
+    assert!(rt; are_met(messages.as_slice()));
     Ok(())
 }
 
@@ -138,11 +138,11 @@ fn numbers_meet_all_bounds_or_fail_one(rt: HostRuntime) -> Result<(), Fail> {
 fn are_same_where_equal(alloc: Global) -> Result<bool, Fail> {
     let equal = comparison(alloc, words(1), Relation::Equal, words(0))?;
     let same = same_of(0, 1, &equal);
-    let letters = letters(alloc)?;
+    let messages = messages(alloc)?;
     Ok(
         same == Some(Same { field: 1, other: 1 })
-            && !is_same(letters.as_slice(), 2, same, 1)
-            && is_same(letters.as_slice(), 2, same, 3)
+            && !is_same(messages.as_slice(), 2, same, 1)
+            && is_same(messages.as_slice(), 2, same, 3)
             && same_of(0, 2, &equal).is_none(),
     )
 }

@@ -19,7 +19,11 @@ fn sum_of(alloc: Global, leaf: Leaf) -> Result<Operand, NoMemory>
 
 /// The variable of a pattern's first field.
 pub fn variable(alloc: Global, pattern: u32) -> Result<Operand, NoMemory>
-    ensures { IfOk result (λ o. o ≡ Operand.Sum (record { minus = false; leaf = Leaf.Field (record { pattern = pattern; field = 0 }) } ∷ [])) }
+    ensures { IfOk result (λ o. o ≡ Operand.Sum (record {
+      minus = false;
+      leaf = Leaf.Field
+          (record { pattern = pattern; field = 0 });
+    } ∷ [])) }
 {
     sum_of(alloc, Leaf::Field(Place { pattern, field: 0 }))
 }
@@ -50,7 +54,10 @@ pub fn comparison(
 
 /// x == y, of two patterns.
 pub fn equality(alloc: Global) -> Result<Conjunct, NoMemory>
-    ensures { IfOk result (λ c. conjunct_condition c ≡ Either (Compares (Operand.Sum (record { minus = false; leaf = Leaf.Field (record { pattern = 0; field = 0 }) } ∷ [])) Relation.Equal (Operand.Sum (record { minus = false; leaf = Leaf.Field (record { pattern = 1; field = 0 }) } ∷ []))) Never) }
+    ensures { IfOk result (λ c. conjunct_condition c ≡ Either
+        (Compares (Operand.Sum (record { minus = false; leaf = Leaf.Field (record { pattern = 0; field = 0 }) } ∷ []))
+        Relation.Equal (Operand.Sum (record { minus = false; leaf = Leaf.Field (record { pattern = 1; field = 0 }) }
+        ∷ []))) Never) }
 {
     let left = variable(alloc, 0)?;
     let right = variable(alloc, 1)?;

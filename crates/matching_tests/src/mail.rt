@@ -26,7 +26,7 @@ fn receive(
     requires { came < greatest_stamp }
 {
     mailbox.reserve_one()?;
-    if mailbox.letters().len() >= 1000 || mailbox.latest() >= Stamped::GREATEST {
+    if mailbox.messages().len() >= 1000 || mailbox.latest() >= Stamped::GREATEST {
         return Err(NoMemory);
     }
     let fields = Fields::new(alloc);
@@ -60,12 +60,12 @@ fn live(mailbox: &Mailbox) -> [bool; 5] {
 
 // Whether so many messages were recorded, this is the latest stamp, and these of the numbers from 0 to 4 are live.
 fn has(mailbox: &Mailbox, recorded: usize, latest: u64, wanted: [bool; 5]) -> bool {
-    mailbox.letters().len() == recorded && mailbox.latest() == latest && live(mailbox) == wanted
+    mailbox.messages().len() == recorded && mailbox.latest() == latest && live(mailbox) == wanted
 }
 
 // Takes the last arrival back, if it is live, and gives its kind.
 fn retract(mailbox: &mut Mailbox) -> Option<u32> {
-    let last = mailbox.letters().len() as u32;
+    let last = mailbox.messages().len() as u32;
     if !mailbox.is_live(last) {
         return None;
     }
@@ -74,7 +74,7 @@ fn retract(mailbox: &mut Mailbox) -> Option<u32> {
 
 // Consumes the first and the third arrival.
 fn consume_two(mailbox: &mut Mailbox) {
-    if mailbox.letters().len() >= 3 {
+    if mailbox.messages().len() >= 3 {
         let mut numbers = Numbers::new();
         numbers.push(3);
         numbers.push(1);
@@ -98,7 +98,7 @@ fn stamps(
 
 // Whether a message of this kind is recorded at the place.
 fn has_kind(mailbox: &Mailbox, place: usize, kind: u32) -> bool {
-    match mailbox.letters().get(place) {
+    match mailbox.messages().get(place) {
         Some(message) => message.kind == kind,
         None => false,
     }
@@ -184,7 +184,7 @@ fn each_source_has_its_own_late_count(rt: HostRuntime) -> Result<(), Fail> {
 
 // Whether three arrivals are given, of which the second is left.
 fn is_second_left(parts: &Parts) -> bool {
-    let lists = parts.letters.len() == 3
+    let lists = parts.messages.len() == 3
         && parts.left.as_slice() == [2].as_slice()
         && parts.late.len() == 0;
     match parts.marks.as_slice() {

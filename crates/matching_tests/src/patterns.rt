@@ -3,7 +3,7 @@ ghost use Rattle.guard_eval.specs.Condition.{Compares, Either, Never};
 
 use crate::made::{equality, message};
 use guard_eval::{ConjunctList, Leaf, Operand};
-use join_base::{Items, Letters, NoMemory, Relation, Slots, Steps, Value};
+use join_base::{Items, MessageList, NoMemory, Relation, Slots, Steps, Value};
 use pattern_core::{Definition, complete, oldest_seen, try_extend};
 use std::alloc::Global;
 use std::marker::Brand;
@@ -29,7 +29,10 @@ fn pair(alloc: Global, window: Option<u32>) -> Result<Definition, NoMemory>
 // The definition of two kinds whose values are equal.
 fn equal_pair(alloc: Global) -> Result<Definition, NoMemory>
     ensures patterns { IfOk result (λ d. d.patterns ≡ 0 ∷ 1 ∷ []) }
-    ensures guard { IfOk result (λ d. d.conjuncts ≡ Either (Compares (Operand.Sum (record { minus = false; leaf = Leaf.Field (record { pattern = 0; field = 0 }) } ∷ [])) Relation.Equal (Operand.Sum (record { minus = false; leaf = Leaf.Field (record { pattern = 1; field = 0 }) } ∷ []))) Never ∷ []) }
+    ensures guard { IfOk result (λ d. d.conjuncts ≡ Either
+        (Compares (Operand.Sum (record { minus = false; leaf = Leaf.Field (record { pattern = 0; field = 0 }) } ∷ []))
+        Relation.Equal (Operand.Sum (record { minus = false; leaf = Leaf.Field (record { pattern = 1; field = 0 }) }
+        ∷ []))) Never ∷ []) }
 {
     let mut definition = pair(alloc, None)?;
     definition.conjuncts.push(equality(alloc)?)?;
@@ -37,14 +40,19 @@ fn equal_pair(alloc: Global) -> Result<Definition, NoMemory>
 }
 
 // Two messages of the first kind with two values, and one of the second kind with the second value.
-fn three(alloc: Global, first: i64, second: i64) -> Result<Letters, NoMemory>
-    ensures { IfOk result (λ l. l ≡ record { kind = 0; fields = Value.Int first ∷ [] } ∷ record { kind = 0; fields = Value.Int second ∷ [] } ∷ record { kind = 1; fields = Value.Int second ∷ [] } ∷ []) }
+fn three(alloc: Global, first: i64, second: i64) -> Result<MessageList, NoMemory>
+    ensures { IfOk result (λ l. l ≡ record { kind = 0; fields = Value.Int first ∷ [] }
+        ∷ record { kind = 0; fields = Value.Int second ∷ [] } ∷ record {
+          kind = 1;
+          fields = Value.Int second
+              ∷ [];
+        } ∷ []) }
 {
-    let mut letters = Items::new(alloc);
-    letters.push(message(alloc, 0, first)?)?;
-    letters.push(message(alloc, 0, second)?)?;
-    letters.push(message(alloc, 1, second)?)?;
-    Ok(letters)
+    let mut messages = Items::new(alloc);
+    messages.push(message(alloc, 0, first)?)?;
+    messages.push(message(alloc, 0, second)?)?;
+    messages.push(message(alloc, 1, second)?)?;
+    Ok(messages)
 }
 
 // Whether the second pattern may take the third message beside this one of the first two.
@@ -57,10 +65,10 @@ fn joins<L: Ledger>(alloc: Global, front: u32, blank: Blank) -> Result<bool, NoM
 {
     let mut steps = Steps::<L>::new(blank);
     let definition = equal_pair(alloc)?;
-    let letters = three(alloc, 1, 2)?;
+    let messages = three(alloc, 1, 2)?;
     let mut slots = Slots::new(2);
     slots.fill(0, front);
-    Ok(try_extend(&definition, &slots, 1, 3, letters.as_slice(), &mut steps))
+    Ok(try_extend(&definition, &slots, 1, 3, messages.as_slice(), &mut steps))
 }
 
 #[test]
@@ -74,12 +82,12 @@ fn a_pattern_takes_a_message_where_the_guard_is_true(rt: HostRuntime) -> Result<
 // Whether two messages whose values are equal are a complete match, and one of them is none.
 fn is_complete_with_both(alloc: Global) -> Result<bool, NoMemory> {
     let definition = equal_pair(alloc)?;
-    let letters = three(alloc, 1, 2)?;
+    let messages = three(alloc, 1, 2)?;
     let mut slots = Slots::new(2);
     slots.fill(0, 2);
-    let one = complete(&definition, &slots, letters.as_slice());
+    let one = complete(&definition, &slots, messages.as_slice());
     slots.fill(1, 3);
-    Ok(!one && complete(&definition, &slots, letters.as_slice()))
+    Ok(!one && complete(&definition, &slots, messages.as_slice()))
 }
 
 #[test]

@@ -179,7 +179,7 @@ fn is_word(alloc: Global, text: &str) -> Result<bool, NoMemory> {
     Ok(Word::from_text(alloc, text)?.as_str() == text)
 }
 
-fn letters(alloc: Global, count: usize) -> Result<Bytes, NoMemory> {
+fn messages(alloc: Global, count: usize) -> Result<Bytes, NoMemory> {
     let mut bytes = Bytes::new(alloc);
     for _ in 0..count {
         bytes.push_all(b"k")?;
@@ -189,8 +189,8 @@ fn letters(alloc: Global, count: usize) -> Result<Bytes, NoMemory> {
 
 // Whether a text has at most 120 bytes, and a line may have more.
 fn are_bounded(alloc: Global) -> Result<bool, NoMemory> {
-    let most = letters(alloc, 120)?;
-    let more = letters(alloc, 121)?;
+    let most = messages(alloc, 120)?;
+    let more = messages(alloc, 121)?;
     Ok(
         text_of(alloc, most.bytes()) == Ok(120)
             && text_of(alloc, more.bytes()) == Err(TextFault::TooLong)

@@ -10,7 +10,7 @@ ghost use Rattle.match_tree.specs.Offering.{CanOffer};
 use crate::listing::{Arrival, Join, is_listed, numbers};
 use crate::made;
 use guard_eval::ConjunctList;
-use join_base::{Items, Letters, Message, NoMemory, Relation, Sort, Steps};
+use join_base::{Items, Message, MessageList, NoMemory, Relation, Sort, Steps};
 use match_tree::MatchTree;
 use pattern_core::{Candidate, Definition};
 use std::alloc::Global;
@@ -80,16 +80,16 @@ fn message(alloc: Global, arrival: Arrival) -> Result<Message, NoMemory>
 }
 
 // The messages, and one more that is never offered.
-fn letters(alloc: Global, arrivals: &[Arrival]) -> Result<Letters, NoMemory>
+fn messages(alloc: Global, arrivals: &[Arrival]) -> Result<MessageList, NoMemory>
     ensures ints { IfOk result (λ ls. AreInts ls) }
     ensures count { IfOk result (λ ls. length ls ≡ length arrivals.now + 1) }
 {
-    let mut letters = Items::new(alloc);
+    let mut messages = Items::new(alloc);
     for arrival in arrivals {
-        letters.push(message(alloc, *arrival)?)?;
+        messages.push(message(alloc, *arrival)?)?;
     }
-    letters.push(message(alloc, Arrival { kind: 9, value: 0 })?)?;
-    Ok(letters)
+    messages.push(message(alloc, Arrival { kind: 9, value: 0 })?)?;
+    Ok(messages)
 }
 
 // An index of the first fields, without a number.
@@ -106,13 +106,13 @@ fn first_fields(alloc: Global) -> Result<ValueIndex, NoMemory> {
 }
 
 // An index that has all messages, also those that are not offered yet, and those that have fired.
-pub fn index_of(alloc: Global, letters: &[Message]) -> Result<ValueIndex, NoMemory>
-    requires few { length letters.now < 100 }
-    ensures { IfOk result (λ index. HasAll index letters.now) }
+pub fn index_of(alloc: Global, messages: &[Message]) -> Result<ValueIndex, NoMemory>
+    requires few { length messages.now < 100 }
+    ensures { IfOk result (λ index. HasAll index messages.now) }
 {
     let mut index = first_fields(alloc)?;
-    for place in 0..letters.len() as u32 {
-        index.insert(letters, place + 1)?;
+    for place in 0..messages.len() as u32 {
+        index.insert(messages, place + 1)?;
     }
     Ok(index)
 }
@@ -122,30 +122,30 @@ pub fn index_of(alloc: Global, letters: &[Message]) -> Result<ValueIndex, NoMemo
 // Offers a message to the tree. Where it completes a match, that fires, and else the tree keeps the message.
 pub fn arrive<L: Ledger>(
     tree: &mut MatchTree,
-    letters: &[Message],
+    messages: &[Message],
     index: &ValueIndex,
     number: u32,
     steps: &mut Steps<L>,
 ) -> Result<Option<Candidate>, NoMemory>
     requires few { number < 2 ^ 32 - 1 }
-    requires recorded { number < length letters.now }
+    requires recorded { number < length messages.now }
     requires sees { oldest_seen tree.old.definition.window number ≤ number }
     requires settled { tree.old.reserve ≡ None }
-    requires can { AllByRecursion (CanOffer (offer_to tree.old letters.now number)) tree.old.paths }
-    requires indexed { HasAll index.now letters.now }
+    requires can { AllByRecursion (CanOffer (offer_to tree.old messages.now number)) tree.old.paths }
+    requires indexed { HasAll index.now messages.now }
     ensures definition { tree.new.definition ≡ tree.old.definition }
     ensures settled { OnOk result (tree.new.reserve ≡ None) }
-    ensures can { OnOk result (AllByRecursion (CanOffer (offer_to tree.new letters.now (number + 1))) tree.new.paths) }
-    ensures grows { OnOk result (GrowsBy (offer_to tree.old letters.now number) tree.old.paths tree.new.paths) }
+    ensures can { OnOk result (AllByRecursion (CanOffer (offer_to tree.new messages.now (number + 1))) tree.new.paths) }
+    ensures grows { OnOk result (GrowsBy (offer_to tree.old messages.now number) tree.old.paths tree.new.paths) }
 {
-    tree.reserve_for(letters, index, number, steps)?;
+    tree.reserve_for(messages, index, number, steps)?;
     tree.expire(number);
     let found = tree.best_with();
     match &found {
         None => tree.extend(number),
         Some(best) => {
             tree.forget();
-            tree.prune(letters, index, number, &best.taken);
+            tree.prune(messages, index, number, &best.taken);
         }
     }
     Ok(found)
@@ -165,22 +165,22 @@ fn offer_each<L: Ledger>(
     tree: &mut MatchTree,
     join: Join,
     arrivals: &[Arrival],
-    letters: &[Message],
+    messages: &[Message],
     index: &ValueIndex,
     steps: &mut Steps<L>,
 ) -> Result<Outcome, NoMemory>
     requires few { length arrivals.now < 16 }
-    requires recorded { length arrivals.now < length letters.now }
+    requires recorded { length arrivals.now < length messages.now }
     requires sees { SeesLatest tree.old.definition.window }
     requires settled { tree.old.reserve ≡ None }
-    requires can { AllByRecursion (CanOffer (offer_to tree.old letters.now 1)) tree.old.paths }
-    requires indexed { HasAll index.now letters.now }
+    requires can { AllByRecursion (CanOffer (offer_to tree.old messages.now 1)) tree.old.paths }
+    requires indexed { HasAll index.now messages.now }
 {
     let mut live = [true; 16];
     let mut last = None;
     let mut agrees = true;
     for number in 1..arrivals.len() as u32 + 1 {
-        let found = arrive(tree, letters, index, number, steps)?;
+        let found = arrive(tree, messages, index, number, steps)?;
         let same = is_listed(join, arrivals, &mut live, number, &found, tree.partials());
         agrees = agrees && same;
         if found.is_some() {
@@ -210,8 +210,8 @@ fn play<L: Ledger>(
 {
     let mut steps = Steps::<L>::new(blank);
     let definition = definition(alloc, join)?;
-    let letters = letters(alloc, arrivals)?;
-    let shown = letters.as_slice();
+    let messages = messages(alloc, arrivals)?;
+    let shown = messages.as_slice();
     let index = index_of(alloc, shown)?;
     let mut tree = MatchTree::new(alloc, &definition, 1)?;
     offer_each(&mut tree, join, arrivals, shown, &index, &mut steps)

@@ -11,7 +11,7 @@ ghost use Rattle.match_tree.specs.Offering.{CanOffer};
 use crate::made;
 use crate::trees::{arrive, index_of};
 use guard_eval::{Conjunct, ConjunctList};
-use join_base::{Items, Letters, Message, NoMemory, Relation, Steps};
+use join_base::{Items, Message, MessageList, NoMemory, Relation, Steps};
 use match_tree::MatchTree;
 use pattern_core::Definition;
 use std::alloc::Global;
@@ -52,48 +52,48 @@ fn pair(alloc: Global) -> Result<Definition, NoMemory>
     })
 }
 
-fn push(letters: &mut Letters, alloc: Global, kind: u32, value: i64) -> Result<(), NoMemory>
-    ensures { OnOk result (letters.new ≡ letters.old ++ record { kind = kind; fields = Value.Int value ∷ [] } ∷ []) }
+fn push(messages: &mut MessageList, alloc: Global, kind: u32, value: i64) -> Result<(), NoMemory>
+    ensures { OnOk result (messages.new ≡ messages.old ++ record { kind = kind; fields = Value.Int value ∷ [] } ∷ []) }
 {
     let message = made::message(alloc, kind, value)?;
-    letters.push(message)
+    messages.push(message)
 }
 
-fn push_row(letters: &mut Letters, alloc: Global) -> Result<(), NoMemory>
-    requires empty { letters.old ≡ [] }
-    ensures row { OnOk result (letters.new ≡ row) }
+fn push_row(messages: &mut MessageList, alloc: Global) -> Result<(), NoMemory>
+    requires empty { messages.old ≡ [] }
+    ensures row { OnOk result (messages.new ≡ row) }
 {
-    push(letters, alloc, 0, 1)?;
-    push(letters, alloc, 0, 2)?;
-    push(letters, alloc, 0, 3)?;
-    push(letters, alloc, 1, 7)
+    push(messages, alloc, 0, 1)?;
+    push(messages, alloc, 0, 2)?;
+    push(messages, alloc, 0, 3)?;
+    push(messages, alloc, 1, 7)
 }
 
-fn letters_of_row(alloc: Global) -> Result<Letters, NoMemory>
-    ensures { IfOk result (λ letters. letters ≡ row) }
+fn messages_of_row(alloc: Global) -> Result<MessageList, NoMemory>
+    ensures { IfOk result (λ messages. messages ≡ row) }
 {
-    let mut letters = Items::new(alloc);
-    push_row(&mut letters, alloc)?;
-    Ok(letters)
+    let mut messages = Items::new(alloc);
+    push_row(&mut messages, alloc)?;
+    Ok(messages)
 }
 
 // Brings the tree the first three messages of the row.
 fn bring_three<L: Ledger>(
     tree: &mut MatchTree,
-    letters: &[Message],
+    messages: &[Message],
     index: &ValueIndex,
     steps: &mut Steps<L>,
 ) -> Result<(), NoMemory>
     requires opening { tree.old ≡ record { definition = pair; rule = 1; paths = empty_of pair ∷ []; reserve = None } }
-    requires letters { letters.now ≡ row }
-    requires indexed { HasAll index.now letters.now }
+    requires messages { messages.now ≡ row }
+    requires indexed { HasAll index.now messages.now }
     ensures definition { OnOk result (tree.new.definition ≡ pair) }
     ensures settled { OnOk result (tree.new.reserve ≡ None) }
-    ensures can { OnOk result (AllByRecursion (CanOffer (offer_to tree.new letters.now 4)) tree.new.paths) }
+    ensures can { OnOk result (AllByRecursion (CanOffer (offer_to tree.new messages.now 4)) tree.new.paths) }
     ensures among { OnOk result (AreAmong tree.new.paths kept) }
 {
     for number in 1..4 {
-        arrive(tree, letters, index, number, steps)?;
+        arrive(tree, messages, index, number, steps)?;
     }
     Ok(())
 }
@@ -101,21 +101,21 @@ fn bring_three<L: Ledger>(
 // Offers the fourth message, which is tried twice: at the empty partial match, and at that of the first message.
 fn offer_fourth<L: Ledger>(
     tree: &mut MatchTree,
-    letters: &[Message],
+    messages: &[Message],
     index: &ValueIndex,
     steps: &mut Steps<L>,
 ) -> Result<(), NoMemory>
     requires definition { tree.old.definition ≡ pair }
     requires settled { tree.old.reserve ≡ None }
-    requires letters { letters.now ≡ row }
-    requires indexed { HasAll index.now letters.now }
-    requires can { AllByRecursion (CanOffer (offer_to tree.old letters.now 4)) tree.old.paths }
+    requires messages { messages.now ≡ row }
+    requires indexed { HasAll index.now messages.now }
+    requires can { AllByRecursion (CanOffer (offer_to tree.old messages.now 4)) tree.old.paths }
     requires among { AreAmong tree.old.paths kept }
     ensures twice { steps.new ≤ steps.old + 2 }
 {
     // That none stands twice is told here.
     let _ = tree.partials();
-    tree.reserve_for(letters, index, 4, steps)
+    tree.reserve_for(messages, index, 4, steps)
 }
 
 // How many partial matches the tree keeps of the first three messages. The fourth is offered then.
@@ -126,8 +126,8 @@ fn kept_of_three<L: Ledger>(alloc: Global, blank: Blank) -> Result<u64, NoMemory
 {
     let mut steps = Steps::<L>::new(blank);
     let definition = pair(alloc)?;
-    let letters = letters_of_row(alloc)?;
-    let shown = letters.as_slice();
+    let messages = messages_of_row(alloc)?;
+    let shown = messages.as_slice();
     let index = index_of(alloc, shown)?;
     let mut tree = MatchTree::new(alloc, &definition, 1)?;
     bring_three(&mut tree, shown, &index, &mut steps)?;

@@ -18,21 +18,21 @@ undecided n [] = refl
 undecided n (need ∷ needs) = λ i. number_at-empty n need.0.pattern i && list_all (is_filled (replicate n None)) needs
 
 -- without a number no conjunct is decided
-pub agreeable_empty : (letters : List Message) (conjuncts : List Condition) (n : ℕ) → is_agreeable letters conjuncts (replicate n None) ≡ true
-agreeable_empty letters [] n = refl
-agreeable_empty letters (c ∷ conjuncts) n =
-    (λ i. (not (undecided n (needs_of c) i) || is_true letters (replicate n None) c) && is_agreeable letters conjuncts (replicate n None)) ∙ agreeable_empty letters conjuncts n
+pub agreeable_empty : (messages : List Message) (conjuncts : List Condition) (n : ℕ) → is_agreeable messages conjuncts (replicate n None) ≡ true
+agreeable_empty messages [] n = refl
+agreeable_empty messages (c ∷ conjuncts) n =
+    (λ i. (not (undecided n (needs_of c) i) || is_true messages (replicate n None) c) && is_agreeable messages conjuncts (replicate n None)) ∙ agreeable_empty messages conjuncts n
 
-module _ (letters : List Message) (slots longer : Assignment) (extends : Extends slots longer) where
-  agrees_one : (c : Condition) (b : Bool) → is_decided slots c ≡ b → is_true letters longer c ≡ true → (not b || is_true letters slots c) ≡ true
+module _ (messages : List Message) (slots longer : Assignment) (extends : Extends slots longer) where
+  agrees_one : (c : Condition) (b : Bool) → is_decided slots c ≡ b → is_true messages longer c ≡ true → (not b || is_true messages slots c) ≡ true
   agrees_one c false decided holds = refl
   agrees_one c true decided holds =
       let filled = (both_true (has_some (needs_of c)) (list_all (is_filled slots) (needs_of c)) decided).1 in
-      sym (is_true-extended letters slots longer extends c filled) ∙ holds
+      sym (is_true-extended messages slots longer extends c filled) ∙ holds
 
   -- what makes every conjunct true extends an agreeable assignment alone
-  pub agreeable_from_true : (conjuncts : List Condition) → makes_all_true letters conjuncts longer ≡ true → is_agreeable letters conjuncts slots ≡ true
+  pub agreeable_from_true : (conjuncts : List Condition) → makes_all_true messages conjuncts longer ≡ true → is_agreeable messages conjuncts slots ≡ true
   agreeable_from_true [] holds = refl
   agreeable_from_true (c ∷ conjuncts) holds =
-      let parts = both_true (is_true letters longer c) (makes_all_true letters conjuncts longer) holds in
-      (λ i. agrees_one c (is_decided slots c) refl parts.0 i && is_agreeable letters conjuncts slots) ∙ agreeable_from_true conjuncts parts.1
+      let parts = both_true (is_true messages longer c) (makes_all_true messages conjuncts longer) holds in
+      (λ i. agrees_one c (is_decided slots c) refl parts.0 i && is_agreeable messages conjuncts slots) ∙ agreeable_from_true conjuncts parts.1

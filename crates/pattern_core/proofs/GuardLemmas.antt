@@ -7,9 +7,9 @@ use Rattle.std.proofs.lemmas.List.{drop_more}
 use Rattle.join_base.specs.declared.message.Message.{Message}
 use Rattle.join_base.specs.declared.message.Value.{Value}
 use Rattle.join_base.specs.declared.message.Sort.{Sort}
-use Rattle.guard_eval.specs.Meaning.{Assignment, Need, letter_at, number_at, is_slot_filled, is_filled, is_of_sort, has_sort}
+use Rattle.guard_eval.specs.Meaning.{Assignment, Need, recorded_message, number_at, is_slot_filled, is_filled, is_of_sort, has_sort}
 use Rattle.guard_eval.specs.Ready.{AreReady, HavePlaces, IsReady}
-use Rattle.guard_eval.proofs.ReadyLemmas.{each_at, letter_at-recorded}
+use Rattle.guard_eval.proofs.ReadyLemmas.{each_at, recorded_message-recorded}
 use Rattle.guard_eval.proofs.ExtendLemmas.{both_true}
 use Rattle.pattern_core.specs.Matches.{is_of_kind, is_full}
 use Rattle.pattern_core.specs.Suits.{IsRecorded, SlotsSuit, KindHas, NeedSuits}
@@ -23,26 +23,26 @@ same_number : (a b : ℕ) → (a == b) ≡ true → a ≡ b
 same_number a b h = grind (arith, nat_tests)
 
 -- the number of a filled pattern
-pub record Fills (letters : List Message) (kinds : List ℕ) (slots : Assignment) (p : ℕ) : Type 0 where
+pub record Fills (messages : List Message) (kinds : List ℕ) (slots : Assignment) (p : ℕ) : Type 0 where
   pub number : ℕ
   pub filled : slice_get slots p ≡ Some (Some number)
-  pub recorded : IsRecorded letters number
-  pub of_kind : is_of_kind (letter_at letters number) (slice_index kinds p) ≡ true
+  pub recorded : IsRecorded messages number
+  pub of_kind : is_of_kind (recorded_message messages number) (slice_index kinds p) ≡ true
 
 -- a value of the type at the field of a message
-pub record HasValue (letters : List Message) (number field : ℕ) (type : Sort) : Type 0 where
+pub record HasValue (messages : List Message) (number field : ℕ) (type : Sort) : Type 0 where
   pub message : Message
   pub value : Value
-  pub recorded : slice_get letters (number - 1) ≡ Some message
+  pub recorded : slice_get messages (number - 1) ≡ Some message
   pub has : slice_get message.fields field ≡ Some value
   pub of_type : is_of_sort type value ≡ true
 
-module _ (letters : List Message) where
-  pub have_places : (kinds : List ℕ) (slots : Assignment) (needs : List Need) → length slots ≡ length kinds → AllByRecursion (NeedSuits letters kinds) needs → HavePlaces slots needs
+module _ (messages : List Message) where
+  pub have_places : (kinds : List ℕ) (slots : Assignment) (needs : List Need) → length slots ≡ length kinds → AllByRecursion (NeedSuits messages kinds) needs → HavePlaces slots needs
   have_places kinds slots [] same suits = tt
   have_places kinds slots (need ∷ needs) same suits = let within = suits.0.0 in (omega arith, have_places kinds slots needs same suits.1)
 
-  fills : (kinds : List ℕ) (slots : Assignment) (p : ℕ) → SlotsSuit letters kinds slots → is_slot_filled (number_at slots p) ≡ true → Fills letters kinds slots p
+  fills : (kinds : List ℕ) (slots : Assignment) (p : ℕ) → SlotsSuit messages kinds slots → is_slot_filled (number_at slots p) ≡ true → Fills messages kinds slots p
   fills [] [] p suits filled = absurd cc
   fills [] (slot ∷ slots) p suits filled = absurd suits
   fills (kind ∷ kinds) [] p suits filled = absurd suits
@@ -62,14 +62,14 @@ module _ (letters : List Message) where
   message_of (Some m) kind h = (m, refl, same_number m.kind kind h)
 
   -- a recorded message of the kind has a value of the type at the field
-  value_at_number : (number kind field : ℕ) (type : Sort) → IsRecorded letters number → is_of_kind (letter_at letters number) kind ≡ true → KindHas letters kind field type → HasValue letters number field type
+  value_at_number : (number kind field : ℕ) (type : Sort) → IsRecorded messages number → is_of_kind (recorded_message messages number) kind ≡ true → KindHas messages kind field type → HasValue messages number field type
   value_at_number number kind field type recorded of_kind has =
-      let found = message_of (slice_get letters (number - 1)) kind (ap (λ (o : Option Message). is_of_kind o kind) (sym (letter_at-recorded letters number recorded.0)) ∙ of_kind) in
-      let typed = each_at (λ (m : Message). m.kind ≡ kind → has_sort type (slice_get m.fields field) ≡ true) letters (number - 1) found.0 found.1 has found.2 in
+      let found = message_of (slice_get messages (number - 1)) kind (ap (λ (o : Option Message). is_of_kind o kind) (sym (recorded_message-recorded messages number recorded.0)) ∙ of_kind) in
+      let typed = each_at (λ (m : Message). m.kind ≡ kind → has_sort type (slice_get m.fields field) ≡ true) messages (number - 1) found.0 found.1 has found.2 in
       let value = value_of type (slice_get found.0.fields field) typed in
       record { message = found.0; value = value.0; recorded = found.1; has = value.1; of_type = value.2 }
 
-  ready_one : (kinds : List ℕ) (slots : Assignment) (need : Need) → SlotsSuit letters kinds slots → NeedSuits letters kinds need → is_filled slots need ≡ true → IsReady letters slots need.0 need.1
+  ready_one : (kinds : List ℕ) (slots : Assignment) (need : Need) → SlotsSuit messages kinds slots → NeedSuits messages kinds need → is_filled slots need ≡ true → IsReady messages slots need.0 need.1
   ready_one kinds slots need suits needs filled =
       let f = fills kinds slots need.0.pattern suits filled in
       let v = value_at_number f.number (slice_index kinds need.0.pattern) need.0.field need.1 f.recorded f.of_kind needs.1 in
@@ -85,7 +85,7 @@ module _ (letters : List Message) where
       }
 
   -- what evaluation asks for is there where the patterns are filled
-  pub ready_where_filled : (kinds : List ℕ) (slots : Assignment) (needs : List Need) → SlotsSuit letters kinds slots → AllByRecursion (NeedSuits letters kinds) needs → list_all (is_filled slots) needs ≡ true → AreReady letters slots needs
+  pub ready_where_filled : (kinds : List ℕ) (slots : Assignment) (needs : List Need) → SlotsSuit messages kinds slots → AllByRecursion (NeedSuits messages kinds) needs → list_all (is_filled slots) needs ≡ true → AreReady messages slots needs
   ready_where_filled kinds slots [] suits needs filled = tt
   ready_where_filled kinds slots (need ∷ more) suits needs filled =
       let parts = both_true (is_filled slots need) (list_all (is_filled slots) more) filled in
@@ -104,7 +104,7 @@ filled_where_full slots (need ∷ needs) places full =
     (λ i. here i && list_all (is_filled slots) needs) ∙ filled_where_full slots needs places.1 full
 
 -- what evaluation asks for is there where no pattern is empty
-pub ready_where_full : (letters : List Message) (kinds : List ℕ) (slots : Assignment) (needs : List Need) → SlotsSuit letters kinds slots → AllByRecursion (NeedSuits letters kinds) needs → is_full slots ≡ true → AreReady letters slots needs
-ready_where_full letters kinds slots needs suits each full =
-    ready_where_filled letters kinds slots needs suits each
-    (filled_where_full slots needs (have_places letters kinds slots needs (length-SlotsSuit letters kinds slots suits) each) full)
+pub ready_where_full : (messages : List Message) (kinds : List ℕ) (slots : Assignment) (needs : List Need) → SlotsSuit messages kinds slots → AllByRecursion (NeedSuits messages kinds) needs → is_full slots ≡ true → AreReady messages slots needs
+ready_where_full messages kinds slots needs suits each full =
+    ready_where_filled messages kinds slots needs suits each
+    (filled_where_full slots needs (have_places messages kinds slots needs (length-SlotsSuit messages kinds slots suits) each) full)

@@ -3,22 +3,22 @@ use Rattle.std.proofs.Common.{◌≡◌, inl, inr, ℕ, zero, suc, ◌+◌, List
 use Rattle.std.specs.Prelude.{All, ◌==◌}
 use Rattle.std.proofs.lemmas.Bool.Decides.{nat_tests}
 use Rattle.join_base.specs.declared.message.Message.{Message}
-use Rattle.guard_eval.specs.Meaning.{Assignment, letter_at, is_slot_filled}
+use Rattle.guard_eval.specs.Meaning.{Assignment, recorded_message, is_slot_filled}
 use Rattle.pattern_core.specs.Assigns.{Assigns}
 use Rattle.pattern_core.specs.Members.{IsIn}
 use Rattle.pattern_core.specs.Matches.{is_of_kind, holds_number, slot_is, is_full}
 use Rattle.pattern_core.specs.Suits.{IsRecorded, SlotsSuit}
 
-pub length-SlotsSuit : (letters : List Message) (kinds : List ℕ) (slots : Assignment) → SlotsSuit letters kinds slots → length slots ≡ length kinds
-length-SlotsSuit letters [] [] h = refl
-length-SlotsSuit letters [] (slot ∷ slots) h = absurd h
-length-SlotsSuit letters (kind ∷ kinds) [] h = absurd h
-length-SlotsSuit letters (kind ∷ kinds) (None ∷ slots) h = ap suc (length-SlotsSuit letters kinds slots h)
-length-SlotsSuit letters (kind ∷ kinds) (Some n ∷ slots) h = ap suc (length-SlotsSuit letters kinds slots h.3)
+pub length-SlotsSuit : (messages : List Message) (kinds : List ℕ) (slots : Assignment) → SlotsSuit messages kinds slots → length slots ≡ length kinds
+length-SlotsSuit messages [] [] h = refl
+length-SlotsSuit messages [] (slot ∷ slots) h = absurd h
+length-SlotsSuit messages (kind ∷ kinds) [] h = absurd h
+length-SlotsSuit messages (kind ∷ kinds) (None ∷ slots) h = ap suc (length-SlotsSuit messages kinds slots h)
+length-SlotsSuit messages (kind ∷ kinds) (Some n ∷ slots) h = ap suc (length-SlotsSuit messages kinds slots h.3)
 
-pub suits_empty : (letters : List Message) (kinds : List ℕ) → SlotsSuit letters kinds (replicate (length kinds) None)
-suits_empty letters [] = tt
-suits_empty letters (kind ∷ kinds) = suits_empty letters kinds
+pub suits_empty : (messages : List Message) (kinds : List ℕ) → SlotsSuit messages kinds (replicate (length kinds) None)
+suits_empty messages [] = tt
+suits_empty messages (kind ∷ kinds) = suits_empty messages kinds
 
 both_false : (a b : Bool) → (a || b) ≡ false → (a ≡ false) × (b ≡ false)
 both_false true b e = absurd cc
@@ -38,31 +38,31 @@ holds_further (slot ∷ slots) (suc p) n m held other =
     λ i. here i || later i
 
 -- slots with one number more
-pub suits_further : (letters : List Message) (kinds : List ℕ) (slots : Assignment) (p n : ℕ) → SlotsSuit letters kinds slots → slice_get slots p ≡ Some None → IsRecorded letters n → is_of_kind (letter_at letters n) (slice_index kinds p) ≡ true → holds_number slots n ≡ false
-    → SlotsSuit letters kinds (slice_set slots p (Some n))
-suits_further letters [] [] p n suits empty recorded kind apart = absurd cc
-suits_further letters [] (slot ∷ slots) p n suits empty recorded kind apart = absurd suits
-suits_further letters (k ∷ kinds) [] p n suits empty recorded kind apart = absurd suits
-suits_further letters (k ∷ kinds) (None ∷ slots) zero n suits empty recorded kind apart = (recorded, kind, apart, suits)
-suits_further letters (k ∷ kinds) (Some m ∷ slots) zero n suits empty recorded kind apart = absurd cc
-suits_further letters (k ∷ kinds) (None ∷ slots) (suc p) n suits empty recorded kind apart = suits_further letters kinds slots p n suits empty recorded kind apart
-suits_further letters (k ∷ kinds) (Some m ∷ slots) (suc p) n suits empty recorded kind apart =
+pub suits_further : (messages : List Message) (kinds : List ℕ) (slots : Assignment) (p n : ℕ) → SlotsSuit messages kinds slots → slice_get slots p ≡ Some None → IsRecorded messages n → is_of_kind (recorded_message messages n) (slice_index kinds p) ≡ true → holds_number slots n ≡ false
+    → SlotsSuit messages kinds (slice_set slots p (Some n))
+suits_further messages [] [] p n suits empty recorded kind apart = absurd cc
+suits_further messages [] (slot ∷ slots) p n suits empty recorded kind apart = absurd suits
+suits_further messages (k ∷ kinds) [] p n suits empty recorded kind apart = absurd suits
+suits_further messages (k ∷ kinds) (None ∷ slots) zero n suits empty recorded kind apart = (recorded, kind, apart, suits)
+suits_further messages (k ∷ kinds) (Some m ∷ slots) zero n suits empty recorded kind apart = absurd cc
+suits_further messages (k ∷ kinds) (None ∷ slots) (suc p) n suits empty recorded kind apart = suits_further messages kinds slots p n suits empty recorded kind apart
+suits_further messages (k ∷ kinds) (Some m ∷ slots) (suc p) n suits empty recorded kind apart =
     let parts = both_false (n == m) (holds_number slots n) apart in
-    (suits.0, suits.1, holds_further slots p n m suits.2 (apart_too n m parts.0), suits_further letters kinds slots p n suits.3 empty recorded kind parts.1)
+    (suits.0, suits.1, holds_further slots p n m suits.2 (apart_too n m parts.0), suits_further messages kinds slots p n suits.3 empty recorded kind parts.1)
 
-pub recorded_of : (letters : List Message) (live : List ℕ) (n : ℕ) → All (IsRecorded letters) live → IsIn n live → IsRecorded letters n
-recorded_of letters [] n h m = absurd m
-recorded_of letters (x ∷ live) n h (inl e) = subst (IsRecorded letters) e (h 0 0 (omega arith))
-recorded_of letters (x ∷ live) n h (inr m) = recorded_of letters live n (λ k d l. h (suc k) d (omega arith)) m
+pub recorded_of : (messages : List Message) (live : List ℕ) (n : ℕ) → All (IsRecorded messages) live → IsIn n live → IsRecorded messages n
+recorded_of messages [] n h m = absurd m
+recorded_of messages (x ∷ live) n h (inl e) = subst (IsRecorded messages) e (h 0 0 (omega arith))
+recorded_of messages (x ∷ live) n h (inr m) = recorded_of messages live n (λ k d l. h (suc k) d (omega arith)) m
 
 -- an assignment of recorded numbers suits
-pub suits_from_assigns : (letters : List Message) (live kinds : List ℕ) (slots : Assignment) → All (IsRecorded letters) live → Assigns letters live kinds slots → SlotsSuit letters kinds slots
-suits_from_assigns letters live [] [] recorded assigns = tt
-suits_from_assigns letters live [] (slot ∷ slots) recorded assigns = absurd assigns
-suits_from_assigns letters live (k ∷ kinds) [] recorded assigns = absurd assigns
-suits_from_assigns letters live (k ∷ kinds) (None ∷ slots) recorded assigns = suits_from_assigns letters live kinds slots recorded assigns
-suits_from_assigns letters live (k ∷ kinds) (Some n ∷ slots) recorded assigns =
-    (recorded_of letters live n recorded assigns.0.is_live, assigns.0.of_kind, assigns.0.apart, suits_from_assigns letters live kinds slots recorded assigns.1)
+pub suits_from_assigns : (messages : List Message) (live kinds : List ℕ) (slots : Assignment) → All (IsRecorded messages) live → Assigns messages live kinds slots → SlotsSuit messages kinds slots
+suits_from_assigns messages live [] [] recorded assigns = tt
+suits_from_assigns messages live [] (slot ∷ slots) recorded assigns = absurd assigns
+suits_from_assigns messages live (k ∷ kinds) [] recorded assigns = absurd assigns
+suits_from_assigns messages live (k ∷ kinds) (None ∷ slots) recorded assigns = suits_from_assigns messages live kinds slots recorded assigns
+suits_from_assigns messages live (k ∷ kinds) (Some n ∷ slots) recorded assigns =
+    (recorded_of messages live n recorded assigns.0.is_live, assigns.0.of_kind, assigns.0.apart, suits_from_assigns messages live kinds slots recorded assigns.1)
 
 pub not_full : (slots : Assignment) (i : ℕ) → slice_get slots i ≡ Some None → is_full slots ≡ false
 not_full [] i e = absurd cc

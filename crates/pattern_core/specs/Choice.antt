@@ -30,8 +30,8 @@ NumberedFrom from (first ∷ more) rule definition = ((from ≡ rule) × (first 
 
 -- the complete matches of the definitions, of which the first has this number
 abbrev pub matches_from : List Message → List ℕ → ℕ → List Definition → List Candidate
-matches_from letters live rule [] = []
-matches_from letters live rule (definition ∷ definitions) = map (candidate_of rule) (complete_matches letters live definition) ++ matches_from letters live (rule + 1) definitions
+matches_from messages live rule [] = []
+matches_from messages live rule (definition ∷ definitions) = map (candidate_of rule) (complete_matches messages live definition) ++ matches_from messages live (rule + 1) definitions
 
 -- the lesser of the two by the key, the first where they tie
 abbrev pub lesser : Candidate → Option Candidate → Option Candidate
@@ -48,7 +48,7 @@ least [] = None
 least (candidate ∷ candidates) = lesser candidate (least candidates)
 
 abbrev pub choice : List Message → List ℕ → List Definition → Option Candidate
-choice letters live definitions = least (matches_from letters live 1 definitions)
+choice messages live definitions = least (matches_from messages live 1 definitions)
 
 -- the best of the candidates of which P holds, or none where it holds of none
 abbrev pub IsBestOf : (Candidate → Type 0) → Option Candidate → Type 0
@@ -61,17 +61,17 @@ pub record IsLeast (candidates : List Candidate) (chosen : Candidate) : Type 0 w
   pub none_smaller : (other : Candidate) → IsIn other candidates → is_gt (key_cmp chosen other) ≡ false
 
 -- a candidate is a complete match of the definition with its number: its numbers are live and seen, of the kinds of the patterns and each another, and every conjunct is true
-pub record IsMatch (letters : List Message) (live : List ℕ) (definitions : List Definition) (candidate : Candidate) : Type 0 where
+pub record IsMatch (messages : List Message) (live : List ℕ) (definitions : List Definition) (candidate : Candidate) : Type 0 where
   pub definition : Definition
   pub numbered : NumberedFrom 1 definitions candidate.rule definition
-  pub assigns : Assigns letters (seen_of definition (length letters) live) definition.patterns (slots_of candidate.taken)
-  pub true_guard : makes_all_true letters definition.conjuncts (slots_of candidate.taken) ≡ true
+  pub assigns : Assigns messages (seen_of definition (length messages) live) definition.patterns (slots_of candidate.taken)
+  pub true_guard : makes_all_true messages definition.conjuncts (slots_of candidate.taken) ≡ true
 
 -- the choice in words: it is a complete match, and no complete match of any definition has a smaller key
 abbrev pub IsChosen : List Message → List ℕ → List Definition → Option Candidate → Type 0
-IsChosen letters live definitions None = (other : Candidate) → ¬ IsMatch letters live definitions other
-IsChosen letters live definitions (Some chosen) =
-    IsMatch letters live definitions chosen × ((other : Candidate) → IsMatch letters live definitions other → is_gt (key_cmp chosen other) ≡ false)
+IsChosen messages live definitions None = (other : Candidate) → ¬ IsMatch messages live definitions other
+IsChosen messages live definitions (Some chosen) =
+    IsMatch messages live definitions chosen × ((other : Candidate) → IsMatch messages live definitions other → is_gt (key_cmp chosen other) ≡ false)
 
 -- the chosen one is the least; none is chosen only where there is none
 abbrev pub IsChoice : List Candidate → Option Candidate → Type 0

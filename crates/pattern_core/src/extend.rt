@@ -1,30 +1,30 @@
 //! Whether a message may stand at a pattern, and whether an assignment is a match.
 ghost use Rattle.std.specs.Prelude.{◌≡◌, ◌+◌, ◌&&◌, Some, None, true, false, length, slice_get, slice_set, slice_index};
-ghost use Rattle.guard_eval.specs.Meaning.{letter_at};
+ghost use Rattle.guard_eval.specs.Meaning.{recorded_message};
 ghost use Rattle.pattern_core.specs.Matches.{is_of_kind, holds_number, is_agreeable, is_complete_match, is_full, makes_all_true};
 ghost use Rattle.pattern_core.specs.Suits.{DefinitionSuits, IsRecorded, SlotsSuit};
 
 use crate::definition::Definition;
 use guard_eval::{decided, holds};
-use join_base::{Message, Slots, Steps, letter};
+use join_base::{Message, Slots, Steps, recorded_message};
 use std::sync::ledger::Ledger;
 
 /// Whether a recorded message has the kind.
-pub fn has_kind(letters: &[Message], number: u32, kind: u32) -> bool
-    requires { IsRecorded letters.now number }
-    ensures { result ≡ is_of_kind (letter_at letters.now number) kind }
+pub fn has_kind(messages: &[Message], number: u32, kind: u32) -> bool
+    requires { IsRecorded messages.now number }
+    ensures { result ≡ is_of_kind (recorded_message messages.now number) kind }
 {
-    letter(letters, number).kind == kind
+    recorded_message(messages, number).kind == kind
 }
 
 /// Whether every decided conjunct is true.
-pub fn agrees(definition: &Definition, slots: &Slots, letters: &[Message]) -> bool
-    requires definition { DefinitionSuits letters.now definition.now }
-    requires suits { SlotsSuit letters.now definition.now.patterns slots.now }
-    ensures { result ≡ is_agreeable letters.now definition.now.conjuncts slots.now }
+pub fn agrees(definition: &Definition, slots: &Slots, messages: &[Message]) -> bool
+    requires definition { DefinitionSuits messages.now definition.now }
+    requires suits { SlotsSuit messages.now definition.now.patterns slots.now }
+    ensures { result ≡ is_agreeable messages.now definition.now.conjuncts slots.now }
 {
     for conjunct in definition.conjuncts.as_slice() {
-        if decided(conjunct, slots) && !holds(conjunct, slots, letters) {
+        if decided(conjunct, slots) && !holds(conjunct, slots, messages) {
             return false;
         }
     }
@@ -38,24 +38,25 @@ pub fn try_extend<L: Ledger>(
     slots: &Slots,
     pattern: u32,
     number: u32,
-    letters: &[Message],
+    messages: &[Message],
     steps: &mut Steps<L>,
 ) -> bool
-    requires definition { DefinitionSuits letters.now definition.now }
-    requires suits { SlotsSuit letters.now definition.now.patterns slots.now }
-    requires agreeable { is_agreeable letters.now definition.now.conjuncts slots.now ≡ true }
+    requires definition { DefinitionSuits messages.now definition.now }
+    requires suits { SlotsSuit messages.now definition.now.patterns slots.now }
+    requires agreeable { is_agreeable messages.now definition.now.conjuncts slots.now ≡ true }
     requires empty { slice_get slots.now pattern ≡ Some None }
-    requires recorded { IsRecorded letters.now number }
+    requires recorded { IsRecorded messages.now number }
     requires apart { holds_number slots.now number ≡ false }
 
     ensures counted { steps.new ≡ steps.old + 1 }
-    ensures answer { result ≡ (is_of_kind (letter_at letters.now number) (slice_index definition.now.patterns pattern) && is_agreeable letters.now definition.now.conjuncts (slice_set slots.now pattern (Some number))) }
+    ensures answer { result ≡ (is_of_kind (recorded_message messages.now number) (slice_index definition.now.patterns
+        pattern) && is_agreeable messages.now definition.now.conjuncts (slice_set slots.now pattern (Some number))) }
 {
     steps.tick();
-    if !has_kind(letters, number, *definition.patterns.at(pattern as usize)) {
+    if !has_kind(messages, number, *definition.patterns.at(pattern as usize)) {
         return false;
     }
-    agrees(definition, &slots.with(pattern, number), letters)
+    agrees(definition, &slots.with(pattern, number), messages)
 }
 
 /// Whether no pattern is empty.
@@ -72,14 +73,14 @@ pub fn is_full(patterns: u32, slots: &Slots) -> bool
 }
 
 // Whether every conjunct is true where no pattern is empty.
-fn all_hold(definition: &Definition, slots: &Slots, letters: &[Message]) -> bool
-    requires definition { DefinitionSuits letters.now definition.now }
-    requires suits { SlotsSuit letters.now definition.now.patterns slots.now }
+fn all_hold(definition: &Definition, slots: &Slots, messages: &[Message]) -> bool
+    requires definition { DefinitionSuits messages.now definition.now }
+    requires suits { SlotsSuit messages.now definition.now.patterns slots.now }
     requires full { is_full slots.now ≡ true }
-    ensures { result ≡ makes_all_true letters.now definition.now.conjuncts slots.now }
+    ensures { result ≡ makes_all_true messages.now definition.now.conjuncts slots.now }
 {
     for conjunct in definition.conjuncts.as_slice() {
-        if !holds(conjunct, slots, letters) {
+        if !holds(conjunct, slots, messages) {
             return false;
         }
     }
@@ -88,12 +89,12 @@ fn all_hold(definition: &Definition, slots: &Slots, letters: &[Message]) -> bool
 
 /// Whether the assignment is a complete match: no pattern is empty, and every conjunct is true, those without a
 /// variable too.
-pub fn complete(definition: &Definition, slots: &Slots, letters: &[Message]) -> bool
-    requires definition { DefinitionSuits letters.now definition.now }
-    requires suits { SlotsSuit letters.now definition.now.patterns slots.now }
-    requires agreeable { is_agreeable letters.now definition.now.conjuncts slots.now ≡ true }
+pub fn complete(definition: &Definition, slots: &Slots, messages: &[Message]) -> bool
+    requires definition { DefinitionSuits messages.now definition.now }
+    requires suits { SlotsSuit messages.now definition.now.patterns slots.now }
+    requires agreeable { is_agreeable messages.now definition.now.conjuncts slots.now ≡ true }
 
-    ensures { result ≡ is_complete_match letters.now definition.now slots.now }
+    ensures { result ≡ is_complete_match messages.now definition.now slots.now }
 {
-    is_full(definition.patterns.len() as u32, slots) && all_hold(definition, slots, letters)
+    is_full(definition.patterns.len() as u32, slots) && all_hold(definition, slots, messages)
 }

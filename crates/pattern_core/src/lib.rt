@@ -1,13 +1,14 @@
 //! Definitions of an actor, the assignments of a definition, and the choice.
 //!
-//! - `try_extend` says whether a message may stand at a pattern beside others, and counts one step; `complete` whether an assignment
-//!   is a complete match; `has_kind` and `is_full` are parts of these.
+//! - `try_extend` says whether a message may stand at a pattern beside others, and counts one step; `complete` whether
+//!   an assignment is a complete match; `has_kind` and `is_full` are parts of these.
 //! - `oldest_seen` says from which arrival on a window shows the messages.
 //! - `fair_cmp` is the order of candidates, and `better` the lesser of two.
 //! - `choice_law` ties the choice to its words: a complete match, and none of any definition has a smaller key.
 //!
-//! A contract sees assignments as lists of optional numbers, and matches as lists that compute (`assignments`, `complete_matches`,
-//! `choice`). A definition and an assignment have to suit the recorded messages (`DefinitionSuits`, `SlotsSuit`).
+//! A contract sees assignments as lists of optional numbers, and matches as lists that compute (`assignments`,
+//! `complete_matches`, `choice`). A definition and an assignment have to suit the recorded messages (`DefinitionSuits`,
+//! `SlotsSuit`).
 #![tactic(auto)]
 
 mod candidate;

@@ -13,7 +13,7 @@ use Rattle.script_types.specs.declared.plan.Plan.{Plan}
 use Rattle.script_faults.specs.Faults.{actor_faults, faults_of}
 use Rattle.script_plan.specs.PlanOf.{actor_of, kind_of, plan_of}
 use Rattle.script_plan.proofs.SmallLemmas.{each_append}
-use Rattle.script_places.specs.Law.{PlacesDoNotMatter}
+use Rattle.place_law.specs.Law.{PlacesDoNotMatter}
 use Rattle.script_check.proofs.NumberLemmas.{right_none}
 use Rattle.script_check.proofs.SmallLemmas.{each_none, each_one}
 use Rattle.plan_text.specs.PlanText.{actor_lines, kind_line, plan_text}

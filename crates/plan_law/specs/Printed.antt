@@ -9,7 +9,7 @@ use Rattle.script_grammar.specs.Grammar.{IsScript}
 use Rattle.script_reader.specs.Spells.{Spells}
 use Rattle.script_types.specs.declared.plan.Plan.{Plan}
 use Rattle.script_check.specs.Types.{Types}
-use Rattle.script_places.specs.Law.{kind_of}
+use Rattle.place_law.specs.Law.{kind_of}
 use Rattle.plan_text.specs.PlanText.{plan_text}
 
 -- tokens without their places

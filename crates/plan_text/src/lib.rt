@@ -5,8 +5,8 @@
 //!   variables of a pattern. Without memory some of the text may stay appended.
 //!
 //! A contract sees the text as a function of the plan (`plan_text`, specs/PlanText), with an empty name where a number
-//! names nothing. Its parts are `condition_text` (specs/GuardText), `pattern_text` and `variable_name` (specs/PlanNames).
-//! That the text reads back as the plan is a law of `plan_law`.
+//! names nothing. Its parts are `condition_text` (specs/GuardText), `pattern_text` and `variable_name`
+//! (specs/PlanNames). That the text reads back as the plan is a law of `plan_law`.
 #![tactic(auto)]
 
 mod guards;

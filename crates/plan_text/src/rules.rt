@@ -57,7 +57,8 @@ fn write_patterns(
     kinds: &[u32],
     variables: &[Row],
 ) -> Result<(), NoMemory>
-    ensures { OnOk result (text.new ≡ text.old ++ join_by (pattern_text plan.now) (codes " & ") (patterns_of kinds.now variables.now)) }
+    ensures { OnOk result (text.new ≡ text.old ++ join_by (pattern_text plan.now) (codes " & ") (patterns_of kinds.now
+        variables.now)) }
 {
     match kinds {
         [] => Ok(()),

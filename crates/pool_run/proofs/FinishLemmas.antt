@@ -9,7 +9,7 @@ use Rattle.script_types.specs.declared.plan.Plan.{Plan}
 use Rattle.fair_semantics.specs.declared.run.ActorRun.{ActorRun}
 use Rattle.fair_semantics.specs.declared.run.Limits.{Limits}
 use Rattle.fair_semantics.specs.declared.run.Run.{Run}
-use Rattle.cell_links.specs.declared.poster.Poster as ends
+use Rattle.cell_links.specs.declared.feed_links.FeedLinks as ends
 use Rattle.cell_links.specs.Ends.{PosterTag, poster_links, poster_tag, sent_to}
 use Rattle.actor_cells.specs.declared.cell.Cell.{Cell}
 use Rattle.actor_cells.specs.declared.cell.CellTag.{CellTag}

@@ -7,7 +7,7 @@ use Rattle.turn_lock.specs.View.{new_view, with_one_more, joined}
 use Rattle.actor_pool.specs.declared.helper.Helper.{Helper}
 use Rattle.actor_pool.specs.declared.pool.Pool.{Pool}
 use Rattle.actor_pool.specs.Beside.{Fitting, FitsSeen}
-use Rattle.actor_pool.specs.Helpers.{SeatView, IsHelperOf, IsFirstHelper, GoesOn, seat_of}
+use Rattle.actor_pool.specs.Helpers.{SeatView, IsHelperOf, IsFirstHelper, HelperGoesOn, seat_of}
 use Rattle.pool_run.specs.declared.parts.HelperBack.{HelperBack}
 use Rattle.pool_run.specs.Parts.{IsBack, IsSpare}
 
@@ -55,5 +55,5 @@ pub last-of : {X : Type 0} (l ys : List X) (r : Option X) (x : X) → l ≡ ys +
 last-of l ys r x is some = is ∙ ap (λ q. ys ++ option_to_list q) some
 
 -- what a thread gives back: a helper that went on, with what stands beside it
-pub back-of : {B : Type 0} (p : Pool) (fits : Fitting B) (given : Helper) (back : HelperBack B) → IsSpare p given → GoesOn p given back.helper → FitsSeen fits (seat_of back.helper) back.beside → IsBack p fits given back
+pub back-of : {B : Type 0} (p : Pool) (fits : Fitting B) (given : Helper) (back : HelperBack B) → IsSpare p given → HelperGoesOn p given back.helper → FitsSeen fits (seat_of back.helper) back.beside → IsBack p fits given back
 back-of p fits given back spare on seen = record { spare = record { own = on.own; other = on.role ∙ spare.other }; tags = on.tags; seen = seen }

@@ -7,7 +7,7 @@ use Rattle.fair_semantics.specs.declared.run.ActorRun.{ActorRun}
 use Rattle.fair_semantics.specs.declared.run.Limits.{Limits}
 use Rattle.fair_semantics.specs.declared.run.Run.{Run}
 use Rattle.fair_semantics.specs.Linked.{IsLinked, feed_posts}
-use Rattle.run_order.specs.Order.{IsScheduled}
+use Rattle.run_order_law.specs.Order.{IsScheduled}
 use Rattle.schedule_law.specs.Reached.{FeedsFit}
 use Rattle.turn_lock.specs.View.{seen_of}
 use Rattle.cell_links.specs.Ends.{sent_to}

@@ -1,7 +1,7 @@
 //! From a whole pool to the run.
 ghost use Rattle.std.specs.Prelude.{◌≡◌, ◌<◌, ℕ, length, IfOk};
 ghost use Rattle.script_types.specs.Typed.{IsTyped};
-ghost use Rattle.run_fits.specs.FitsLaw.{RulesFit};
+ghost use Rattle.run_fit_law.specs.FitsLaw.{RulesFit};
 ghost use Rattle.fair_semantics.specs.Fits.{IsFrom1To};
 ghost use Rattle.actor_turn.specs.Held.{AreLimits};
 ghost use Rattle.actor_pool.specs.Helpers.{seat_of};

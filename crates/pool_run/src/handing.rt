@@ -32,7 +32,8 @@ pub(crate) fn feed_parts<R, B: Beside<R> + Drop>(
     ensures first { IfOk result (λ parts. IsFirstHelper pool.now (length parts.items) helper.new) }
     ensures tags { (seat_of helper.new).tags ≡ (seat_of helper.old).tags }
     ensures parts { IfOk result (λ parts. All (IsPart pool.now B.fits) parts.items) }
-    ensures known { IfOk result (λ parts. All (λ part. HasTags (seat_of helper.old).tags (part_helper part)) parts.items) }
+    ensures known { IfOk result (λ parts. All (λ part. HasTags (seat_of helper.old).tags (part_helper part))
+        parts.items) }
     ensures posters { IfOk result (λ parts. map part_poster parts.items ≡ posters.items) }
     ensures posts { IfOk result (λ parts. map part_posts parts.items ≡ feeds) }
 {
@@ -65,11 +66,13 @@ pub(crate) fn work_parts<R, S: TicketSource + Drop, B: Beside<R> + Drop>(
     requires first { (out : ℕ) × IsFirstHelper pool.now out helper.old }
     requires ready { All (IsReady S.belongs B.fits (actor_count pool.now)) workers.items }
     ensures own { IsHelperOf pool.now helper.new }
-    ensures first { IfOk result (λ parts. (out : ℕ) → IsFirstHelper pool.now out helper.old → IsFirstHelper pool.now (out + length parts.items) helper.new) }
+    ensures first { IfOk result (λ parts. (out : ℕ) → IsFirstHelper pool.now out helper.old
+        → IsFirstHelper pool.now (out + length parts.items) helper.new) }
     ensures tags { (seat_of helper.new).tags ≡ (seat_of helper.old).tags }
     ensures count { IfOk result (λ parts. length parts.items ≡ length workers.items) }
     ensures parts { IfOk result (λ parts. All (IsWorker pool.now S.belongs B.fits) parts.items) }
-    ensures known { IfOk result (λ parts. All (λ part. HasTags (seat_of helper.old).tags (worker_helper part)) parts.items) }
+    ensures known { IfOk result (λ parts. All (λ part. HasTags (seat_of helper.old).tags (worker_helper part))
+        parts.items) }
 {
     let mut parts = Vec::new(alloc);
     while let Some((source, beside)) = workers.pop() {

@@ -4,7 +4,7 @@ ghost use Rattle.std.specs.List.{AllByRecursion};
 ghost use Rattle.script_types.specs.Typed.{IsTyped};
 ghost use Rattle.fair_semantics.specs.Fits.{IsFrom1To, PostFits};
 ghost use Rattle.fair_semantics.specs.Linked.{IsLinked};
-ghost use Rattle.run_order.specs.Order.{IsScheduled};
+ghost use Rattle.run_order_law.specs.Order.{IsScheduled};
 ghost use Rattle.actor_turn.specs.Held.{AreLimits};
 ghost use Rattle.actor_pool.specs.Beside.{FitsOpening};
 ghost use Rattle.pool_run.specs.Running.{FitsRun, IsReady};

@@ -100,7 +100,8 @@ fn run_workers<
         requires cross { IsSync R.row × IsSync G.row × IsSend S.row × IsSend B.row }
         requires few { length parts.items ≤ 64 }
         requires parts { All (IsWorker pool.now S.belongs B.fits) parts.items }
-        ensures { IfOk result (λ back. AllZip (IsBack pool.entry.now B.fits) (map worker_helper parts.items) back.items) }
+        ensures { IfOk result (λ back. AllZip (IsBack pool.entry.now B.fits)
+            (map worker_helper parts.items) back.items) }
     { run_workers(rt, alloc, pool, gate, parts) };
     let own = move || -> Result<HelperBack<B>, NoMemory>
         requires { IsWorker pool.now S.belongs B.fits part }

@@ -12,13 +12,13 @@ use Rattle.join_base.specs.declared.message.Stamped.{Stamped}
 use Rattle.script_types.specs.declared.plan.Rule.{Rule}
 use Rattle.fair_semantics.specs.Step.{Setting, State}
 use Rattle.fair_semantics.specs.Linked.{same_source}
-use Rattle.run_order.proofs.EventLemmas.{same_number}
-use Rattle.run_order.proofs.SourceLemmas.{is_itself}
+use Rattle.run_order_law.proofs.EventLemmas.{same_number}
+use Rattle.run_order_law.proofs.SourceLemmas.{is_itself}
 use Rattle.actor_turn.specs.Held.{Held, History, first_of, new_entries, posts_behind, posts_for, without_first}
 use Rattle.actor_turn.proofs.PostsLemmas.{length-posts_behind}
 use Rattle.actor_cells.specs.Lawful.{IsAmong}
 use Rattle.actor_cells.proofs.CellLemmas.{prefix-refl}
-use Rattle.pool_settling.specs.Standing.{GoesOn, StandsBy, actor_count, feed_count}
+use Rattle.pool_settling.specs.Standing.{HistoryGoesOn, StandsBy, actor_count, feed_count}
 use Rattle.pool_settling.specs.Ends.{GoOn}
 use Rattle.pool_settling.specs.Rounds.{AreMembers, Brings, BringsPosts, Came, IsMember, OutboxHasNone, StandAs, StandFed}
 use Rattle.pool_settling.specs.Work.{all_weight, all_work, given_of, late_sum, weight_of, work_of}
@@ -47,16 +47,16 @@ module _ (helds : List Held) (k : ℕ) (before after : Held) (at : slice_get hel
           let is_after : after ≡ held = some_is after held (sym (set_get helds k after (slice_get_within helds k before at)) ∙ ap (slice_get nows) (sym e) ∙ is) in
           subst (λ (x : ℕ × Held). P x.0 x.1) (λ i. (sym e i, is_after i)) mine
 
-  pub go_set : GoesOn before after → GoOn helds nows
-  go_set on = record { count = length-set helds k after; each = λ actor x y ex ey. each_set (λ actor held. (x : Held) → slice_get helds actor ≡ Some x → GoesOn x held) others mine actor y ey x ex }
+  pub go_set : HistoryGoesOn before after → GoOn helds nows
+  go_set on = record { count = length-set helds k after; each = λ actor x y ex ey. each_set (λ actor held. (x : Held) → slice_get helds actor ≡ Some x → HistoryGoesOn x held) others mine actor y ey x ex }
     where
-      others : (actor : ℕ) (held : Held) → ¬ (actor ≡ k) → slice_get helds actor ≡ Some held → (x : Held) → slice_get helds actor ≡ Some x → GoesOn x held
-      others actor held other is x ex = subst (GoesOn x) (some_is x held (sym ex ∙ is)) (on_refl x)
+      others : (actor : ℕ) (held : Held) → ¬ (actor ≡ k) → slice_get helds actor ≡ Some held → (x : Held) → slice_get helds actor ≡ Some x → HistoryGoesOn x held
+      others actor held other is x ex = subst (HistoryGoesOn x) (some_is x held (sym ex ∙ is)) (on_refl x)
 
-      mine : (x : Held) → slice_get helds k ≡ Some x → GoesOn x after
-      mine x ex = subst (λ (h : Held). GoesOn h after) (some_is before x (sym at ∙ ex)) on
+      mine : (x : Held) → slice_get helds k ≡ Some x → HistoryGoesOn x after
+      mine x ex = subst (λ (h : Held). HistoryGoesOn h after) (some_is before x (sym at ∙ ex)) on
 
-  pub members_set : AreMembers helds → GoesOn before after → length after.outbox ≡ length before.outbox → AreMembers nows
+  pub members_set : AreMembers helds → HistoryGoesOn before after → length after.outbox ≡ length before.outbox → AreMembers nows
   members_set members on boxes =
       subst (λ (n : ℕ). (actor : ℕ) (held : Held) → slice_get nows actor ≡ Some held → IsMember n held) (sym (length-set helds k after))
       (each_set (λ actor held. IsMember (length helds) held) (λ actor held other is. members actor held is) record {
@@ -129,7 +129,7 @@ takes_none target before after first taken = by (posts_for before.outbox target)
     by (p ∷ posts) e f t = absurd cc
 
 module _ (target : ℕ) (post : Stamped) (posts : List Stamped) (before after : Held) (takes : Takes target post posts before after) where
-  took_on : GoesOn before after
+  took_on : HistoryGoesOn before after
   took_on = record {
     told = takes.setting;
     feeds = ap (λ (s : State). length s.late.feeds) takes.state;
@@ -221,7 +221,7 @@ module _ (helds : List Held) (members : AreMembers helds) (sender target : ℕ) 
     abbrev last : List Held
     last = set mid target c
 
-    step_on : GoesOn b c
+    step_on : HistoryGoesOn b c
     step_on = stepped_on (Actor sender) post b c step
 
     on : GoOn helds last

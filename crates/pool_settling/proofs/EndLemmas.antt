@@ -10,8 +10,8 @@ use Rattle.join_base.specs.declared.message.Source.TheVariants.{Actor}
 use Rattle.script_types.specs.declared.plan.Rule.{Rule}
 use Rattle.fair_semantics.specs.Step.{Setting}
 use Rattle.fair_semantics.specs.Linked.{same_source}
-use Rattle.run_order.proofs.EventLemmas.{same_number, same_source_is}
-use Rattle.run_order.proofs.SourceLemmas.{is_itself, itself}
+use Rattle.run_order_law.proofs.EventLemmas.{same_number, same_source_is}
+use Rattle.run_order_law.proofs.SourceLemmas.{is_itself, itself}
 use Rattle.post_ring.specs.declared.link_in.LinkIn.{LinkIn}
 use Rattle.post_ring.specs.declared.link_out.LinkOut.{LinkOut}
 use Rattle.post_ring.specs.Links.{received, sent, identity_in, identity_out}
@@ -22,7 +22,7 @@ use Rattle.actor_cells.proofs.LinkLemmas.{has_count}
 use Rattle.join_base.specs.Late.{HasCount}
 use Rattle.pool_settling.specs.declared.ends.Sender.{Sender}
 use Rattle.pool_settling.specs.declared.ends.Receiver.{Receiver}
-use Rattle.pool_settling.specs.Standing.{Arrives, GoesOn, StandsBy, actor_count, came_with, feed_count}
+use Rattle.pool_settling.specs.Standing.{Arrives, HistoryGoesOn, StandsBy, actor_count, came_with, feed_count}
 use Rattle.pool_settling.specs.Ends.{AreStanding, Entry, GivenAsCame, GoOn, HasAll, IsDrainedAt, IsKnownTo, IsServed, Serves, entries, entry_of, keys_of, received_in, receiver_key, receiver_keys, sent_in}
 use Rattle.pool_settling.specs.Work.{HaveSmallBodies, weight_of}
 use Rattle.pool_settling.proofs.StandLemmas.{on_refl, on_trans, stands_same}
@@ -241,15 +241,15 @@ module _ (es : List Entry) (rs : List Receiver) (helds : List Held) (standing : 
   go_on : GoOn helds now_helds
   go_on = record { count = length-set helds r.target after; each = on }
     where
-      on : (actor : ℕ) (x y : Held) → slice_get helds actor ≡ Some x → slice_get now_helds actor ≡ Some y → GoesOn x y
+      on : (actor : ℕ) (x y : Held) → slice_get helds actor ≡ Some x → slice_get now_helds actor ≡ Some y → HistoryGoesOn x y
       on actor x y ex ey = by (same_or_not actor r.target)
         where
-          by : (actor ≡ r.target) ⊎ (¬ (actor ≡ r.target)) → GoesOn x y
-          by (inr other) = subst (GoesOn x) (some_is x y (sym ex ∙ sym (set_get_other helds r.target actor after other) ∙ ey)) (on_refl x)
+          by : (actor ≡ r.target) ⊎ (¬ (actor ≡ r.target)) → HistoryGoesOn x y
+          by (inr other) = subst (HistoryGoesOn x) (some_is x y (sym ex ∙ sym (set_get_other helds r.target actor after other) ∙ ey)) (on_refl x)
           by (inl e) =
               let ix : before ≡ x = some_is before x (sym at ∙ ap (slice_get helds) (sym e) ∙ ex) in
               let iy : after ≡ y = some_is after y (sym (set_get helds r.target after target_within) ∙ ap (slice_get now_helds) (sym e) ∙ ey) in
-              subst (λ (p : Held × Held). GoesOn p.0 p.1) (λ i. (ix i, iy i)) arrives.on
+              subst (λ (p : Held × Held). HistoryGoesOn p.0 p.1) (λ i. (ix i, iy i)) arrives.on
 
   pub on_drained : GoOn helds now_helds
   on_drained = go_on
@@ -290,7 +290,7 @@ module _ (es : List Entry) (rs : List Receiver) (helds : List Held) (standing : 
 -- ---- lists of actors
 
 pub go_refl : (helds : List Held) → GoOn helds helds
-go_refl helds = record { count = refl; each = λ actor x y ex ey. subst (GoesOn x) (some_is x y (sym ex ∙ ey)) (on_refl x) }
+go_refl helds = record { count = refl; each = λ actor x y ex ey. subst (HistoryGoesOn x) (some_is x y (sym ex ∙ ey)) (on_refl x) }
 
 pub go_trans : (a b c : List Held) → GoOn a b → GoOn b c → GoOn a c
 go_trans a b c p q = record { count = q.count ∙ p.count; each = λ actor x z ex ez. let m = there b actor (let l = within a actor x ex in let n = p.count in omega (arith, l, n)) in on_trans x m.0 z (p.each actor x m.0 ex m.1) (q.each actor m.0 z m.1 ez) }

@@ -10,8 +10,8 @@ use Rattle.join_base.specs.declared.message.Message.{Message}
 use Rattle.join_base.specs.declared.message.Source.TheVariants.{Feed, Actor}
 use Rattle.join_base.specs.declared.message.Stamped.{Stamped}
 use Rattle.fair_semantics.specs.Linked.{feed_posts, post_for}
-use Rattle.run_order.proofs.EventLemmas.{same_number}
-use Rattle.run_order.proofs.SourceLemmas.{is_itself, not_equal}
+use Rattle.run_order_law.proofs.EventLemmas.{same_number}
+use Rattle.run_order_law.proofs.SourceLemmas.{is_itself, not_equal}
 use Rattle.actor_turn.specs.Held.{Held}
 use Rattle.pool_settling.specs.Standing.{StandsBy, feed_count}
 use Rattle.pool_settling.specs.Ends.{GoOn}

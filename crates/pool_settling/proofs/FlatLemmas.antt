@@ -5,18 +5,18 @@ use Rattle.std.proofs.lemmas.List.{append-nil, get_or-map, length-map, map-appen
 use Rattle.join_base.specs.declared.message.Source.{Source}
 use Rattle.join_base.specs.declared.message.Source.TheVariants.{Feed, Actor}
 use Rattle.fair_semantics.specs.Linked.{same_source}
-use Rattle.run_order.proofs.EventLemmas.{same_number}
-use Rattle.run_order.proofs.SourceLemmas.{is_itself, itself}
+use Rattle.run_order_law.proofs.EventLemmas.{same_number}
+use Rattle.run_order_law.proofs.SourceLemmas.{is_itself, itself}
 use Rattle.post_ring.specs.Links.{received, sent}
 use Rattle.cell_links.specs.declared.ends.Inward.{Inward}
 use Rattle.cell_links.specs.declared.ends.LinkTags.{LinkTags}
 use Rattle.cell_links.specs.declared.ends.Outward.{Outward}
-use Rattle.cell_links.specs.declared.poster.Poster.{Poster}
+use Rattle.cell_links.specs.declared.feed_links.FeedLinks.{FeedLinks}
 use Rattle.cell_links.specs.Ends.{inward_tag, outward_tag, poster_links, poster_tag, sent_to}
 use Rattle.cell_links.specs.Wiring.{AreLinked, Joins, Key, feed_keys, inward_key, inward_keys, outward_key, outward_keys, sending_keys}
 use Rattle.actor_cells.specs.declared.cell.Cell.{Cell}
 use Rattle.actor_cells.specs.Lawful.{cell_tag, received_from}
-use Rattle.cell_settling.specs.Settled.{cell_sent, poster_sent, went}
+use Rattle.settling_law.specs.Settled.{cell_sent, poster_sent, went}
 use Rattle.pool_settling.specs.declared.ends.Sender.{Sender}
 use Rattle.pool_settling.specs.declared.ends.Receiver.{Receiver}
 use Rattle.pool_settling.specs.Flat.{fed_from, receiver_of, receivers_from, sender_of, senders_from}
@@ -25,7 +25,7 @@ use Rattle.pool_settling.proofs.EndLemmas.{test_is, test_itself, tests, within_m
 
 -- ---- one more poster, or cell
 
-pub fed_from-push : (k n : ℕ) (posters : List Poster) (p : Poster) → n ≡ k + length posters → fed_from k (posters ++ p ∷ []) ≡ fed_from k posters ++ map (sender_of (Feed n)) (poster_links p)
+pub fed_from-push : (k n : ℕ) (posters : List FeedLinks) (p : FeedLinks) → n ≡ k + length posters → fed_from k (posters ++ p ∷ []) ≡ fed_from k posters ++ map (sender_of (Feed n)) (poster_links p)
 fed_from-push k n [] p at = append-nil _ ∙ ap (λ (m : ℕ). map (sender_of (Feed m)) (poster_links p)) (sym (let e : n ≡ k = omega (arith, at) in e))
 fed_from-push k n (q ∷ posters) p at =
     let rest = fed_from-push (k + 1) n posters p (omega (arith, at)) in
@@ -71,7 +71,7 @@ keys-senders i (c ∷ cells) =
     map-append key_of (map (sender_of (Actor i)) c.outward.items) (senders_from (i + 1) cells)
     ∙ (λ t. map-both key_of (sender_of (Actor i)) (outward_key (Actor i)) outward_tag (λ w. refl) c.outward.items t ++ keys-senders (i + 1) cells t)
 
-keys-feeds : (k : ℕ) (posters : List Poster) → map key_of (fed_from k posters) ≡ feed_keys k (map poster_tag posters)
+keys-feeds : (k : ℕ) (posters : List FeedLinks) → map key_of (fed_from k posters) ≡ feed_keys k (map poster_tag posters)
 keys-feeds k [] = refl
 keys-feeds k (p ∷ posters) =
     map-append key_of (map (sender_of (Feed k)) (poster_links p)) (fed_from (k + 1) posters)
@@ -81,7 +81,7 @@ keys-entries : (senders : List Sender) → keys_of (entries senders) ≡ map key
 keys-entries [] = refl
 keys-entries (s ∷ senders) = λ i. key_of s ∷ keys-entries senders i
 
-pub keys-sending : (posters : List Poster) (cells : List Cell) → keys_of (entries (fed_from 1 posters ++ senders_from 0 cells)) ≡ sending_keys (links_of cells) (map poster_tag posters)
+pub keys-sending : (posters : List FeedLinks) (cells : List Cell) → keys_of (entries (fed_from 1 posters ++ senders_from 0 cells)) ≡ sending_keys (links_of cells) (map poster_tag posters)
 keys-sending posters cells =
     keys-entries (fed_from 1 posters ++ senders_from 0 cells) ∙ map-append key_of (fed_from 1 posters) (senders_from 0 cells) ∙ (λ i. keys-feeds 1 posters i ++ keys-senders 0 cells i)
 
@@ -146,13 +146,13 @@ went_skip own source target rest n (w ∷ ws) =
     ap (λ (b : Bool). if b && (w.target == target) then sent w.link else sent_in (entries (map (sender_of own) ws ++ rest)) source target) n ∙ went_skip own source target rest n ws
 
 -- of feeds
-fed_skip : (k : ℕ) (posters : List Poster) (rest : List Sender) (source : Source) (target : ℕ) → ((j : ℕ) → k < j + 1 → same_source (Feed j) source ≡ false) → sent_in (entries (fed_from k posters ++ rest)) source target ≡ sent_in (entries rest) source target
+fed_skip : (k : ℕ) (posters : List FeedLinks) (rest : List Sender) (source : Source) (target : ℕ) → ((j : ℕ) → k < j + 1 → same_source (Feed j) source ≡ false) → sent_in (entries (fed_from k posters ++ rest)) source target ≡ sent_in (entries rest) source target
 fed_skip k [] rest source target n = refl
 fed_skip k (p ∷ posters) rest source target n =
     ap (λ (x : List Sender). sent_in (entries x) source target) (append_assoc (map (sender_of (Feed k)) (poster_links p)) (fed_from (k + 1) posters) rest)
     ∙ went_skip (Feed k) source target (fed_from (k + 1) posters ++ rest) (n k (omega arith)) (poster_links p) ∙ fed_skip (k + 1) posters rest source target (λ j l. n j (omega (arith, l)))
 
-fed_at : (start k : ℕ) (posters : List Poster) (rest : List Sender) (target : ℕ) → ((j : ℕ) → sent_in (entries rest) (Feed j) target ≡ []) → sent_in (entries (fed_from start posters ++ rest)) (Feed (start + k)) target ≡ poster_sent (slice_get posters k) target
+fed_at : (start k : ℕ) (posters : List FeedLinks) (rest : List Sender) (target : ℕ) → ((j : ℕ) → sent_in (entries rest) (Feed j) target ≡ []) → sent_in (entries (fed_from start posters ++ rest)) (Feed (start + k)) target ≡ poster_sent (slice_get posters k) target
 fed_at start k [] rest target none = none (start + k)
 fed_at start zero (p ∷ posters) rest target none =
     let n : start + 0 ≡ start = omega arith in
@@ -184,7 +184,7 @@ posted_at i (suc k) (c ∷ cells) target =
     went_skip (Actor i) (Actor (i + suc k)) target (senders_from (i + 1) cells) (apart i (i + suc k) (λ e. omega (arith, e))) c.outward.items
     ∙ ap (λ (m : ℕ). sent_in (entries (senders_from (i + 1) cells)) (Actor m) target) (sym n) ∙ posted_at (i + 1) k cells target
 
-pub went_is : (posters : List Poster) (cells : List Cell) (source : Source) (target : ℕ) → sent_in (entries (fed_from 1 posters ++ senders_from 0 cells)) source target ≡ went posters cells source target
+pub went_is : (posters : List FeedLinks) (cells : List Cell) (source : Source) (target : ℕ) → sent_in (entries (fed_from 1 posters ++ senders_from 0 cells)) source target ≡ went posters cells source target
 went_is posters cells (Feed zero) target = fed_skip 1 posters (senders_from 0 cells) (Feed zero) target (λ j l. apart j 0 (λ e. omega (arith, l, e))) ∙ posted_none 0 cells 0 target
 went_is posters cells (Feed (suc k)) target =
     let n : suc k ≡ 1 + k = omega arith in

@@ -26,16 +26,16 @@ use Rattle.fair_semantics.specs.Fits.{IsFrom1To, SourceFits}
 use Rattle.fair_semantics.specs.Linked.{IsLinked, arrived, entry_posts, feed_posts, given_by, numbers_from, posts_in, posts_of, sources}
 use Rattle.fair_semantics.specs.Schedule.{System}
 use Rattle.fair_semantics.proofs.ListLemmas.{mapped_at}
-use Rattle.run_fits.specs.FitsLaw.{RulesFit}
-use Rattle.run_order.specs.Order.{shown}
-use Rattle.run_order.proofs.EventLemmas.{same_number}
-use Rattle.run_order.proofs.LawLemmas.{runs_are_schedules}
+use Rattle.run_fit_law.specs.FitsLaw.{RulesFit}
+use Rattle.run_order_law.specs.Order.{shown}
+use Rattle.run_order_law.proofs.EventLemmas.{same_number}
+use Rattle.run_order_law.proofs.LawLemmas.{runs_are_schedules}
 use Rattle.schedule_law.specs.Given.{AreFair, IsFairOf, sent_by}
 use Rattle.schedule_law.specs.Reached.{IsServable, NothingWaits}
 use Rattle.schedule_law.proofs.FairLemmas.{fair_is_linked}
 use Rattle.schedule_law.proofs.WorkLemmas.{small_rules}
 use Rattle.actor_turn.specs.Held.{AreLimits, Held}
-use Rattle.cell_links.specs.declared.poster.Poster.{Poster}
+use Rattle.cell_links.specs.declared.feed_links.FeedLinks.{FeedLinks}
 use Rattle.cell_links.specs.Ends.{sent_to}
 use Rattle.actor_cells.specs.declared.cell.Cell.{Cell}
 use Rattle.actor_cells.specs.History.{bare}
@@ -43,7 +43,7 @@ use Rattle.actor_cells.specs.Lawful.{IsAmong, cell_tag, held_in, history_of}
 use Rattle.actor_cells.proofs.CellLemmas.{prefix-trans}
 use Rattle.actor_cells.proofs.HistoryLemmas.{bare-arrived, prefix-bare}
 use Rattle.actor_cells.specs.Tags.{AreTagsOf, IsTagOf}
-use Rattle.cell_settling.specs.Settled.{cell_sent, poster_sent, went}
+use Rattle.settling_law.specs.Settled.{cell_sent, poster_sent, went}
 use Rattle.pool_settling.specs.Standing.{actor_count, feed_count}
 use Rattle.pool_settling.specs.Drained.{AreDrained}
 use Rattle.pool_settling.specs.Ends.{GoOn}
@@ -84,7 +84,7 @@ of_on plan limits feeds olds nows are on = record {
 
 -- ---- drained actors
 
-module _ (plan : Plan) (limits : Limits) (posters : List Poster) (cells : List Cell) (helds : List Held) (tags : AreTagsOf plan limits (length posters) (map cell_tag cells)) (drained : AreDrained posters cells helds) where
+module _ (plan : Plan) (limits : Limits) (posters : List FeedLinks) (cells : List Cell) (helds : List Held) (tags : AreTagsOf plan limits (length posters) (map cell_tag cells)) (drained : AreDrained posters cells helds) where
   cell_count : length cells ≡ length plan.actors
   cell_count = sym (length-map cells cell_tag) ∙ tags.count
 
@@ -315,7 +315,7 @@ runs_given (h ∷ helds) =
 
 -- ---- from drained actors to the run
 
-module _ (plan : Plan) (limits : Limits) (posters : List Poster) (cells : List Cell) (rest : List (List (ℕ × Message))) (typed : IsTyped plan) (limited : AreLimits limits) (rules : (actor : ℕ) → actor < length plan.actors → RulesFit plan limits actor)
+module _ (plan : Plan) (limits : Limits) (posters : List FeedLinks) (cells : List Cell) (rest : List (List (ℕ × Message))) (typed : IsTyped plan) (limited : AreLimits limits) (rules : (actor : ℕ) → actor < length plan.actors → RulesFit plan limits actor)
     (count : IsFrom1To 16 (length posters)) (few : length rest ≤ length posters) (tags : AreTagsOf plan limits (length posters) (map cell_tag cells)) (first second third : List Held) (drained : AreDrained posters cells first) (fed : IsFedRest rest first second)
     (second_on : GoOn first second) (brought : BringsPosts second third) (none : (sender : ℕ) → sender < length third → OutboxIsEmpty third sender) (run : Run) (is : run ≡ record { version = 2; limits = limits; feeds = length posters; actors = map run_in third }) where
   on : GoOn first third
@@ -333,7 +333,7 @@ module _ (plan : Plan) (limits : Limits) (posters : List Poster) (cells : List C
   each_fed : (feeds : List (List (ℕ × Message))) → AreFeedsWith plan posters rest feeds → (k actor : ℕ) → actor < length plan.actors → all actor (suc k) ≡ feed_posts actor (slice_get feeds k)
   each_fed feeds these k actor l = by (slice_get posters k) refl
     where
-      by : (o : Option Poster) → slice_get posters k ≡ o → poster_sent o actor ++ feed_posts actor (slice_get rest k) ≡ feed_posts actor (slice_get feeds k)
+      by : (o : Option FeedLinks) → slice_get posters k ≡ o → poster_sent o actor ++ feed_posts actor (slice_get rest k) ≡ feed_posts actor (slice_get feeds k)
       by (Some poster) e = sym (these.each k actor poster l e)
       by None e =
           let past = none_past posters k e in

@@ -11,7 +11,7 @@ use Rattle.fair_semantics.specs.declared.run.Outcome.{Outcome}
 use Rattle.fair_semantics.specs.Step.{Setting, State, fair_step}
 use Rattle.fair_semantics.specs.Linked.{arrived, entry_posts, same_source, sources}
 use Rattle.fair_semantics.proofs.SizeLemmas.{Sized, sized}
-use Rattle.run_order.proofs.EventLemmas.{same_source_is}
+use Rattle.run_order_law.proofs.EventLemmas.{same_source_is}
 use Rattle.post_ring.specs.declared.link_out.LinkOut.{LinkOut}
 use Rattle.post_ring.specs.Links.{has_met, received, waiting}
 use Rattle.post_ring.specs.Looks.{IsEmptyLook, IsTake}
@@ -22,7 +22,7 @@ use Rattle.actor_cells.proofs.CellLemmas.{prefix-refl, prefix-trans}
 use Rattle.actor_cells.proofs.HistoryLemmas.{history-more, history-on}
 use Rattle.actor_cells.proofs.LinkLemmas.{among}
 use Rattle.actor_cells.proofs.StateLemmas.{NoOthers, Stands, grows, one_none, one_of, stands_more}
-use Rattle.pool_settling.specs.Standing.{Arrives, GoesOn, StandsBy, actor_count, came_with, feed_count}
+use Rattle.pool_settling.specs.Standing.{Arrives, HistoryGoesOn, StandsBy, actor_count, came_with, feed_count}
 use Rattle.pool_settling.specs.Work.{HasSmallBodies, late_sum, weight_of}
 use Rattle.pool_settling.proofs.WorkLemmas.{step_weight}
 
@@ -70,7 +70,7 @@ module _ (source : Source) (post : Stamped) (before after : Held) (step : Steps 
   boxes : after.outbox ≡ posts_behind 0 new before.outbox
   boxes = step.outbox ∙ ap (λ (es : List Entry). posts_behind 0 es before.outbox) (ap (λ (s : State). drop (length before.state.entries) s.entries) step.state ∙ (grows before.setting before.state source post).behind)
 
-  pub stepped_on : GoesOn before after
+  pub stepped_on : HistoryGoesOn before after
   stepped_on = record { told = step.told; feeds = feeds; actors = actors; history = history-on before source post.message post.stamp after.history step.history }
 
   -- at most one more was given, with what is left
@@ -134,10 +134,10 @@ module _ (source : Source) (post : Stamped) (before after : Held) (step : Steps 
 
 -- ---- some arrivals
 
-pub on_refl : (held : Held) → GoesOn held held
+pub on_refl : (held : Held) → HistoryGoesOn held held
 on_refl held = record { told = refl; feeds = refl; actors = refl; history = prefix-refl held.history }
 
-pub on_trans : (a b c : Held) → GoesOn a b → GoesOn b c → GoesOn a c
+pub on_trans : (a b c : Held) → HistoryGoesOn a b → HistoryGoesOn b c → HistoryGoesOn a c
 on_trans a b c p q = record { told = q.told ∙ p.told; feeds = q.feeds ∙ p.feeds; actors = q.actors ∙ p.actors; history = prefix-trans a.history b.history c.history p.history q.history }
 
 pub came_same : (came : Source → List Stamped) (source : Source) (those : List Stamped) → came source ≡ those → (other : Source) → came_with came source those other ≡ came other

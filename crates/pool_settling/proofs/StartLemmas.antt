@@ -10,18 +10,18 @@ use Rattle.join_base.specs.declared.message.Source.TheVariants.{Actor}
 use Rattle.join_base.specs.declared.message.Stamped.{Stamped}
 use Rattle.fair_semantics.specs.Linked.{same_source}
 use Rattle.fair_semantics.proofs.ListLemmas.{each_at, each_from_All, mapped_at}
-use Rattle.run_order.proofs.EventLemmas.{same_source_is}
+use Rattle.run_order_law.proofs.EventLemmas.{same_source_is}
 use Rattle.post_ring.specs.Links.{received}
 use Rattle.actor_turn.specs.Held.{Held}
 use Rattle.cell_links.specs.declared.ends.Inward.{Inward}
-use Rattle.cell_links.specs.declared.poster.Poster.{Poster}
+use Rattle.cell_links.specs.declared.feed_links.FeedLinks.{FeedLinks}
 use Rattle.cell_links.specs.Ends.{inward_tag, poster_tag, sent_to}
 use Rattle.cell_links.specs.Wiring.{AreLinked, Key}
 use Rattle.actor_cells.specs.declared.cell.Cell.{Cell}
 use Rattle.actor_cells.specs.AllLawful.{AreLawful}
 use Rattle.actor_cells.specs.Lawful.{IsAmong, IsLawful, cell_tag, held_in, received_from}
 use Rattle.actor_cells.specs.Prepared.{AreWired}
-use Rattle.cell_settling.specs.Settled.{cell_sent, went}
+use Rattle.settling_law.specs.Settled.{cell_sent, went}
 use Rattle.pool_settling.specs.declared.ends.Receiver.{Receiver}
 use Rattle.pool_settling.specs.declared.ends.Sender.{Sender}
 use Rattle.pool_settling.specs.Standing.{StandsBy, actor_count, feed_count}
@@ -94,7 +94,7 @@ came_by_keys es (r ∷ rs) all =
     let b = sum_by-cons (λ (k : Key). length (sent_in es k.0 k.1)) (receiver_key r) (receiver_keys rs) in
     omega (arith, here, later, a, b)
 
-went_by_keys : (posters : List Poster) (cells : List Cell) (rs : List Receiver) → sent_by_keys (entries (fed_from 1 posters ++ senders_from 0 cells)) (receiver_keys rs) ≡ sum_by (λ (r : Receiver). length (went posters cells r.source r.target)) rs
+went_by_keys : (posters : List FeedLinks) (cells : List Cell) (rs : List Receiver) → sent_by_keys (entries (fed_from 1 posters ++ senders_from 0 cells)) (receiver_keys rs) ≡ sum_by (λ (r : Receiver). length (went posters cells r.source r.target)) rs
 went_by_keys posters cells [] = refl
 went_by_keys posters cells (r ∷ rs) =
     let es : List Entry = entries (fed_from 1 posters ++ senders_from 0 cells) in
@@ -104,7 +104,7 @@ went_by_keys posters cells (r ∷ rs) =
     let b = sum_by-cons (λ (k : Key). length (sent_in es k.0 k.1)) (receiver_key r) (receiver_keys rs) in
     omega (arith, here, later, a, b)
 
-module _ (posters : List Poster) (cells : List Cell) (wired : AreWired (map cell_tag cells) (map poster_tag posters)) (lawful : AreLawful cells) where
+module _ (posters : List FeedLinks) (cells : List Cell) (wired : AreWired (map cell_tag cells) (map poster_tag posters)) (lawful : AreLawful cells) where
   abbrev es : List Entry
   es = entries (fed_from 1 posters ++ senders_from 0 cells)
 

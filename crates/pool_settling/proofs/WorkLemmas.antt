@@ -24,7 +24,7 @@ use Rattle.fair_semantics.specs.declared.run.Outcome.TheVariants as outcome
 use Rattle.fair_semantics.specs.declared.run.Entry.{Entry}
 use Rattle.fair_semantics.specs.declared.run.Firing.{Firing}
 use Rattle.fair_semantics.specs.Body.{effects_of, statement_effects, stops}
-use Rattle.fair_semantics.specs.Step.{Arrival, Setting, State, Stepped, body_at, body_of, by_choice, definitions_of, entry_with, fair_step, firing_of, is_refused, is_running, letters_with, live_with, recorded, running_step, step_by}
+use Rattle.fair_semantics.specs.Step.{Arrival, Setting, State, Stepped, body_at, body_of, by_choice, definitions_of, entry_with, fair_step, firing_of, is_refused, is_running, messages_with, live_with, recorded, running_step, step_by}
 use Rattle.fair_semantics.proofs.ListLemmas.{each_at}
 use Rattle.fair_semantics.proofs.TakenLemmas.{or_parts}
 use Rattle.schedule_law.proofs.WorkLemmas.{AreSmall}
@@ -35,18 +35,18 @@ use Rattle.pool_settling.specs.Work.{late_sum}
 
 -- ---- a body makes a post at most with each statement
 
-module _ (letters : List Message) (taken : List ℕ) (stamp : ℕ) where
-  one_post : (s : Statement) → length (sent_by stamp (statement_effects letters taken s)) ≤ 1
+module _ (messages : List Message) (taken : List ℕ) (stamp : ℕ) where
+  one_post : (s : Statement) → length (sent_by stamp (statement_effects messages taken s)) ≤ 1
   one_post (statement.Print items) = omega arith
   one_post (statement.Post target kind operands) = omega arith
   one_post statement.Stop = omega arith
   one_post (statement.Reply pattern operand) = omega arith
 
-  posts_few : (body : List Statement) → length (sent_by stamp (effects_of letters taken body)) ≤ length body
+  posts_few : (body : List Statement) → length (sent_by stamp (effects_of messages taken body)) ≤ length body
   posts_few [] = omega arith
   posts_few (s ∷ body) =
-      let parts = filter_map-append (post_of stamp) (statement_effects letters taken s) (effects_of letters taken body) in
-      let long = length-append (sent_by stamp (statement_effects letters taken s)) (sent_by stamp (effects_of letters taken body)) in
+      let parts = filter_map-append (post_of stamp) (statement_effects messages taken s) (effects_of messages taken body) in
+      let long = length-append (sent_by stamp (statement_effects messages taken s)) (sent_by stamp (effects_of messages taken body)) in
       let one = one_post s in
       let more = posts_few body in
       subst (λ (ps : List (ℕ × Stamped)). length ps ≤ length (s ∷ body)) (sym parts) (omega arith)
@@ -170,11 +170,11 @@ module _ (setting : Setting) (small : AreSmall setting.rules) (outbox : List (Li
       let few = is.few in
       (omega (arith, boxes, n, room, few), omega (arith, boxes, n, late, room, few))
 
-  fired_few : (arrival : Arrival) (c : Candidate) → count_of (posts_behind 0 (entry_with arrival (firing_of setting.rules (letters_with arrival) (Some c)) ∷ []) outbox) ≤ count_of outbox + 16
+  fired_few : (arrival : Arrival) (c : Candidate) → count_of (posts_behind 0 (entry_with arrival (firing_of setting.rules (messages_with arrival) (Some c)) ∷ []) outbox) ≤ count_of outbox + 16
   fired_few arrival c =
-      let firing : Firing = record { rule = c.rule; taken = c.taken; effects = effects_of (letters_with arrival) c.taken (body_at setting.rules c.rule) } in
+      let firing : Firing = record { rule = c.rule; taken = c.taken; effects = effects_of (messages_with arrival) c.taken (body_at setting.rules c.rule) } in
       let entry : Entry = entry_with arrival (Some firing) in
-      let few : length (sent_by entry.stamp firing.effects) ≤ length (body_at setting.rules c.rule) = posts_few (letters_with arrival) c.taken entry.stamp (body_at setting.rules c.rule) in
+      let few : length (sent_by entry.stamp firing.effects) ≤ length (body_at setting.rules c.rule) = posts_few (messages_with arrival) c.taken entry.stamp (body_at setting.rules c.rule) in
       let body = small_body setting.rules c.rule small in
       let all = all_more (sent_by entry.stamp firing.effects) outbox in
       let is : count_of (delivered (sent_by entry.stamp firing.effects) outbox) ≡ count_of (posts_behind 0 (entry ∷ []) outbox) = ap count_of (fired_posts entry firing entry.stamp outbox refl refl) in
@@ -184,7 +184,7 @@ module _ (setting : Setting) (small : AreSmall setting.rules) (outbox : List (Li
   unfired_few arrival = let is : count_of outbox ≡ count_of (posts_behind 0 (entry_with arrival None ∷ []) outbox) = ap count_of (unfired_posts 0 (entry_with arrival None) outbox refl) in omega (arith, is)
 
   recorded_one : (arrival : Arrival) (o : Option Candidate) → length arrival.state.entries < most → IsRecorded arrival.state (by_choice setting arrival o).0
-  recorded_one arrival None room = by (nat_lt setting.limits.partials (partial_count (letters_with arrival) (live_with arrival) (definitions_of setting.rules)))
+  recorded_one arrival None room = by (nat_lt setting.limits.partials (partial_count (messages_with arrival) (live_with arrival) (definitions_of setting.rules)))
     where
       by : (b : Bool) → let stepped : Stepped = if b then (recorded arrival None [] ending.Jammed, outcome.Jammed) else (recorded arrival None (live_with arrival) ending.Running, outcome.Kept) in IsRecorded arrival.state stepped.0
       by true = record { entry = entry_with arrival None; entries = refl; late = refl; room = room; few = unfired_few arrival }
@@ -192,7 +192,7 @@ module _ (setting : Setting) (small : AreSmall setting.rules) (outbox : List (Li
   recorded_one arrival (Some c) room = by (stops (body_at setting.rules c.rule))
     where
       firing : Option Firing
-      firing = firing_of setting.rules (letters_with arrival) (Some c)
+      firing = firing_of setting.rules (messages_with arrival) (Some c)
 
       by : (b : Bool) → IsRecorded arrival.state (if b then recorded arrival firing [] ending.Stopped else recorded arrival firing (without (live_with arrival) c.taken) ending.Running)
       by true = record { entry = entry_with arrival firing; entries = refl; late = refl; room = room; few = fired_few arrival c }
@@ -207,7 +207,7 @@ module _ (setting : Setting) (small : AreSmall setting.rules) (outbox : List (Li
           let arrival : Arrival = record { state = state; source = source; message = message; stamp = stamp } in
           let full : nat_le setting.limits.arrivals (length state.entries) ≡ false = (or_parts _ _ e).0 in
           let room : length state.entries < setting.limits.arrivals = grind (arith, nat_tests) in
-          let chosen : Option Candidate = choice (letters_with arrival) (live_with arrival) (definitions_of setting.rules) in
+          let chosen : Option Candidate = choice (messages_with arrival) (live_with arrival) (definitions_of setting.rules) in
           one_new state (by_choice setting arrival chosen).0 (recorded_one arrival chosen room)
 
       by : (b : Bool) → AddsNoWork state (step_by b setting state source message stamp).0 × AddsOne state (step_by b setting state source message stamp).0

@@ -11,7 +11,7 @@ use Rattle.cell_links.specs.Wiring.{Key}
 use Rattle.actor_cells.specs.Lawful.{IsAmong}
 use Rattle.pool_settling.specs.declared.ends.Sender.{Sender}
 use Rattle.pool_settling.specs.declared.ends.Receiver.{Receiver}
-use Rattle.pool_settling.specs.Standing.{GoesOn, StandsBy, actor_count, feed_count}
+use Rattle.pool_settling.specs.Standing.{HistoryGoesOn, StandsBy, actor_count, feed_count}
 use Rattle.pool_settling.specs.Work.{HaveSmallBodies, all_weight}
 
 abbrev pub receiver_key : Receiver → Key
@@ -66,7 +66,7 @@ pub record AreStanding (es : List Entry) (receivers : List Receiver) (helds : Li
 -- each actor goes on from what it was
 pub record GoOn (olds nows : List Held) : Type 0 where
   pub count : length nows ≡ length olds
-  pub each : (actor : ℕ) (before after : Held) → slice_get olds actor ≡ Some before → slice_get nows actor ≡ Some after → GoesOn before after
+  pub each : (actor : ℕ) (before after : Held) → slice_get olds actor ≡ Some before → slice_get nows actor ≡ Some after → HistoryGoesOn before after
 
 -- how many messages came to the receivers
 abbrev pub came_count : List Receiver → ℕ

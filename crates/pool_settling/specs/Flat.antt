@@ -6,11 +6,11 @@ use Rattle.join_base.specs.declared.message.Source.TheVariants.{Feed, Actor}
 use Rattle.actor_turn.specs.Held.{Held}
 use Rattle.cell_links.specs.declared.ends.Inward.{Inward}
 use Rattle.cell_links.specs.declared.ends.Outward.{Outward}
-use Rattle.cell_links.specs.declared.poster.Poster.{Poster}
+use Rattle.cell_links.specs.declared.feed_links.FeedLinks.{FeedLinks}
 use Rattle.cell_links.specs.Ends.{poster_links}
 use Rattle.actor_cells.specs.declared.cell.Cell.{Cell}
 use Rattle.actor_cells.specs.Lawful.{held_in}
-use Rattle.cell_settling.specs.Settled.{went}
+use Rattle.settling_law.specs.Settled.{went}
 use Rattle.pool_settling.specs.declared.ends.Sender.{Sender}
 use Rattle.pool_settling.specs.declared.ends.Receiver.{Receiver}
 use Rattle.pool_settling.specs.Ends.{came_count}
@@ -31,12 +31,12 @@ senders_from i [] = []
 senders_from i (c ∷ cells) = map (sender_of (Actor i)) c.outward.items ++ senders_from (i + 1) cells
 
 -- the senders of posters whose feeds are numbered from k on
-abbrev pub fed_from : ℕ → List Poster → List Sender
+abbrev pub fed_from : ℕ → List FeedLinks → List Sender
 fed_from k [] = []
 fed_from k (p ∷ posters) = map (sender_of (Feed k)) (poster_links p) ++ fed_from (k + 1) posters
 
 -- how many messages went over the links to cells, and how many of them came
-abbrev pub went_count : List Poster → List Cell → ℕ
+abbrev pub went_count : List FeedLinks → List Cell → ℕ
 went_count posters cells = sum_by (λ (r : Receiver). length (went posters cells r.source r.target)) (receivers_from 0 cells)
 
 abbrev pub received_count : List Cell → ℕ

@@ -34,7 +34,7 @@ pub record StandsBy (came : Source → List Stamped) (went : ℕ → List Stampe
   pub posted : (target : ℕ) → target < actor_count held → went target ++ posts_for held.outbox target ≡ flat_map (entry_posts target) held.state.entries
 
 -- the actor was told the same, and its history goes on from what it was
-pub record GoesOn (before after : Held) : Type 0 where
+pub record HistoryGoesOn (before after : Held) : Type 0 where
   pub told : after.setting ≡ before.setting
   pub feeds : feed_count after ≡ feed_count before
   pub actors : actor_count after ≡ actor_count before
@@ -47,5 +47,5 @@ came_with came source posts other = if same_source source other then posts else 
 -- of a source these have come, where it were those
 pub record Arrives (source : Source) (those these : List Stamped) (before after : Held) : Type 0 where
   pub stands : (came : Source → List Stamped) (went : ℕ → List Stamped) → came source ≡ those → IsAmong (feed_count before) (actor_count before) source → StandsBy came went before → StandsBy (came_with came source these) went after
-  pub on : GoesOn before after
+  pub on : HistoryGoesOn before after
   pub weight : HasSmallBodies before → weight_of after + length those ≤ weight_of before + length these

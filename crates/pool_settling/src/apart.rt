@@ -5,7 +5,7 @@ ghost use Rattle.pool_settling.specs.Flat.{actors_in, receiver_of, receivers_fro
 use crate::ends::{Receiver, Sender};
 use actor_cells::Cell;
 use actor_turn::Actor;
-use cell_links::{Inward, Outward, Poster};
+use cell_links::{FeedLinks, Inward, Outward};
 use join_base::{NoMemory, Source};
 
 fn add_receivers(
@@ -45,7 +45,7 @@ fn add_senders(
 }
 
 /// Adds the senders of the posters, whose feeds are numbered from 1.
-pub fn take_posters(posters: Vec<Poster>, senders: &mut Vec<Sender>) -> Result<(), NoMemory>
+pub fn take_posters(posters: Vec<FeedLinks>, senders: &mut Vec<Sender>) -> Result<(), NoMemory>
     requires few { length posters.items ≤ 16 }
     ensures senders { OnOk result (senders.new.items ≡ senders.old.items ++ fed_from 1 posters.items) }
 {

@@ -15,7 +15,7 @@ use crate::apart::{take_cells, take_posters};
 use crate::ends::{Receiver, Sender};
 use actor_cells::Cell;
 use actor_turn::Actor;
-use cell_links::Poster;
+use cell_links::FeedLinks;
 use join_base::{NoMemory, Source, Stamped, Steps};
 use post_ring::{LinkIn, LinkOut, meet};
 use std::alloc::Global;
@@ -33,7 +33,8 @@ fn drain<L: Ledger>(
     requires one { identity_in first.old ≡ identity_out second.old }
     requires known { HasCount actor.old.state.late source }
     ensures first { (identity_in first.new ≡ identity_in first.old) × (sent first.new ≡ sent first.old) }
-    ensures second { OnOk result ((identity_out second.new ≡ identity_out second.old) × (received second.new ≡ sent first.old)) }
+    ensures second { OnOk result ((identity_out second.new ≡ identity_out second.old) × (received second.new
+        ≡ sent first.old)) }
     ensures arrived { OnOk result (Arrives source (received second.old) (received second.new) actor.old actor.new) }
 {
     meet(first, second);
@@ -83,10 +84,12 @@ fn drain_at<L: Ledger>(
     requires wired { AreLinked (keys_of (entries senders.old.items)) (receiver_keys receivers.old.items) }
     requires standing { AreStanding (entries senders.old.items) receivers.old.items actors.old.items }
     ensures senders { entries senders.new.items ≡ entries senders.old.items }
-    ensures drained { OnOk result (IsDrainedAt (entries senders.old.items) place receivers.old.items receivers.new.items) }
+    ensures drained { OnOk result (IsDrainedAt (entries senders.old.items) place receivers.old.items
+        receivers.new.items) }
     ensures standing { OnOk result (AreStanding (entries senders.old.items) receivers.new.items actors.new.items) }
     ensures on { OnOk result (GoOn actors.old.items actors.new.items) }
-    ensures given { OnOk result (GivenAsCame actors.old.items actors.new.items receivers.old.items receivers.new.items) }
+    ensures given { OnOk result (GivenAsCame actors.old.items actors.new.items receivers.old.items
+        receivers.new.items) }
 {
     let receiver = &mut receivers[place];
     let source = receiver.source;
@@ -119,7 +122,8 @@ fn drain_all<L: Ledger>(
     ensures drained { OnOk result (All (HasAll (entries senders.old.items)) receivers.new.items) }
     ensures standing { OnOk result (AreStanding (entries senders.old.items) receivers.new.items actors.new.items) }
     ensures on { OnOk result (GoOn actors.old.items actors.new.items) }
-    ensures given { OnOk result (GivenAsCame actors.old.items actors.new.items receivers.old.items receivers.new.items) }
+    ensures given { OnOk result (GivenAsCame actors.old.items actors.new.items receivers.old.items
+        receivers.new.items) }
 {
     for place in 0..receivers.len() {
         drain_at(alloc, senders, receivers, place, actors, steps)?;
@@ -133,7 +137,7 @@ fn drain_all<L: Ledger>(
 pub fn drain_links<L: Ledger>(
     alloc: Global,
     cells: Vec<Cell>,
-    posters: Vec<Poster>,
+    posters: Vec<FeedLinks>,
     steps: &mut Steps<L>,
 ) -> Result<Vec<Actor>, NoMemory>
     requires few { (length cells.items ≤ 32) × (length posters.items ≤ 16) }

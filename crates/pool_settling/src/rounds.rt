@@ -114,7 +114,8 @@ fn bring_round<L: Ledger>(
     requires members { AreMembers actors.old.items }
     requires few { length actors.old.items ≤ 32 }
     ensures brought { IfOk result (λ found. Brings found actors.old.items actors.new.items) }
-    ensures none { IfOk result (λ found. found ≡ false → (sender : ℕ) → sender < length actors.new.items → OutboxIsEmpty actors.new.items sender) }
+    ensures none { IfOk result (λ found. found ≡ false → (sender : ℕ) → sender < length actors.new.items
+        → OutboxIsEmpty actors.new.items sender) }
 {
     let mut found = false;
     for sender in 0..actors.len() {
@@ -133,7 +134,8 @@ pub fn bring_posts<L: Ledger>(
     requires members { AreMembers actors.old.items }
     requires few { length actors.old.items ≤ 32 }
     ensures brought { OnOk result (BringsPosts actors.old.items actors.new.items) }
-    ensures none { OnOk result ((sender : ℕ) → sender < length actors.new.items → OutboxIsEmpty actors.new.items sender) }
+    ensures none { OnOk result ((sender : ℕ) → sender < length actors.new.items
+        → OutboxIsEmpty actors.new.items sender) }
 {
     while bring_round(alloc, actors, steps)? {}
     Ok(())

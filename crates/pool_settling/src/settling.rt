@@ -2,7 +2,7 @@
 ghost use Rattle.std.specs.Prelude.{◌≡◌, ℕ, ◌<◌, ◌≤◌, [], length, map, IfOk};
 ghost use Rattle.script_types.specs.Typed.{IsTyped};
 ghost use Rattle.fair_semantics.specs.Fits.{IsFrom1To};
-ghost use Rattle.run_fits.specs.FitsLaw.{RulesFit};
+ghost use Rattle.run_fit_law.specs.FitsLaw.{RulesFit};
 ghost use Rattle.actor_turn.specs.Held.{AreLimits};
 ghost use Rattle.cell_links.specs.Ends.{poster_tag};
 ghost use Rattle.actor_cells.specs.AllLawful.{AreLawful};
@@ -14,7 +14,7 @@ ghost use Rattle.pool_settling.specs.Settling.{GoesOnFrom, IsLinkedToAll, IsSche
 use crate::draining::drain_links;
 use crate::rounds::{bring_posts, bring_rest, into_runs};
 use actor_cells::Cell;
-use cell_links::Poster;
+use cell_links::FeedLinks;
 use fair_semantics::{Limits, LogVersion, Run};
 use join_base::{FeedList, NoMemory, Steps};
 use script_types::Plan;
@@ -35,7 +35,7 @@ pub fn settle_with<L: Ledger>(
     plan: &Plan,
     limits: Limits,
     cells: Vec<Cell>,
-    posters: Vec<Poster>,
+    posters: Vec<FeedLinks>,
     rest: FeedList,
     steps: &mut Steps<L>,
 ) -> Result<Run, NoMemory>
@@ -72,7 +72,7 @@ pub fn settle<L: Ledger>(
     plan: &Plan,
     limits: Limits,
     cells: Vec<Cell>,
-    posters: Vec<Poster>,
+    posters: Vec<FeedLinks>,
     steps: &mut Steps<L>,
 ) -> Result<Run, NoMemory>
     requires typed { IsTyped plan.now }

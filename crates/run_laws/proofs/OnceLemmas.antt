@@ -16,7 +16,7 @@ use Rattle.fair_semantics.specs.declared.run.Firing.{Firing}
 use Rattle.fair_semantics.specs.declared.run.Outcome.TheVariants as outcome
 use Rattle.fair_semantics.specs.Body.{stops}
 use Rattle.fair_semantics.specs.Fair.{Sent, after_all}
-use Rattle.fair_semantics.specs.Step.{Arrival, Setting, State, Stepped, body_at, by_choice, definitions_of, entry_with, fair_step, firing_of, is_refused, is_running, letters_with, live_with, number_of, opening, recorded, running_step, step_by}
+use Rattle.fair_semantics.specs.Step.{Arrival, Setting, State, Stepped, body_at, by_choice, definitions_of, entry_with, fair_step, firing_of, is_refused, is_running, messages_with, live_with, number_of, opening, recorded, running_step, step_by}
 use Rattle.fair_semantics.proofs.ChainLemmas.{arrival_of}
 use Rattle.fair_semantics.proofs.ListLemmas.{each_append}
 use Rattle.run_laws.specs.Replies.{one_where, replies_of, taken_by, taken_in, times}
@@ -93,28 +93,28 @@ module _ (arrival : Arrival) (h : IsOnce arrival.state) where
 module _ (setting : Setting) (actors : ℕ) (sorts : Sorts) (typed : AllByRecursion (IsTypedRule actors sorts) setting.rules) where
   module _ (arrival : Arrival) (h : IsOnce arrival.state) where
     kept_once : IsOnce (by_choice setting arrival None).0
-    kept_once = by (nat_lt setting.limits.partials (partial_count (letters_with arrival) (live_with arrival) (definitions_of setting.rules)))
+    kept_once = by (nat_lt setting.limits.partials (partial_count (messages_with arrival) (live_with arrival) (definitions_of setting.rules)))
       where
         by : (b : Bool) → let stepped : Stepped = if b then (recorded arrival None [] ending.Jammed, outcome.Jammed) else (recorded arrival None (live_with arrival) ending.Running, outcome.Kept) in IsOnce stepped.0
         by true = recorded_once arrival h None [] ending.Jammed (λ n. omega arith) (λ n. omega arith)
         by false = recorded_once arrival h None (live_with arrival) ending.Running (λ n. omega arith) (λ n. omega arith)
 
-    fired_once : (c : Candidate) → choice (letters_with arrival) (live_with arrival) (definitions_of setting.rules) ≡ Some c → IsOnce (by_choice setting arrival (Some c)).0
+    fired_once : (c : Candidate) → choice (messages_with arrival) (live_with arrival) (definitions_of setting.rules) ≡ Some c → IsOnce (by_choice setting arrival (Some c)).0
     fired_once c some = by (stops (body_at setting.rules c.rule))
       where
         firing : Option Firing
-        firing = firing_of setting.rules (letters_with arrival) (Some c)
+        firing = firing_of setting.rules (messages_with arrival) (Some c)
 
         fires : (n : ℕ) → FiresOnce (live_with arrival) firing n
-        fires n = subst (λ (o : Option Candidate). FiresOnce (live_with arrival) (firing_of setting.rules (letters_with arrival) o) n) some
-            (fires_once actors sorts setting.rules typed (letters_with arrival) (live_with arrival) (choice (letters_with arrival) (live_with arrival) (definitions_of setting.rules))
-            (choice_is_chosen (letters_with arrival) (live_with arrival) (definitions_of setting.rules)) n)
+        fires n = subst (λ (o : Option Candidate). FiresOnce (live_with arrival) (firing_of setting.rules (messages_with arrival) o) n) some
+            (fires_once actors sorts setting.rules typed (messages_with arrival) (live_with arrival) (choice (messages_with arrival) (live_with arrival) (definitions_of setting.rules))
+            (choice_is_chosen (messages_with arrival) (live_with arrival) (definitions_of setting.rules)) n)
 
         by : (b : Bool) → IsOnce (if b then recorded arrival firing [] ending.Stopped else recorded arrival firing (without (live_with arrival) c.taken) ending.Running)
         by true = recorded_once arrival h firing [] ending.Stopped (λ n. omega (arith, (fires n).among)) (λ n. (fires n).replies)
         by false = recorded_once arrival h firing (without (live_with arrival) c.taken) ending.Running (λ n. times_left n c.taken (live_with arrival) (fires n).among (fires n).once) (λ n. (fires n).replies)
 
-    chosen_once : (o : Option Candidate) → choice (letters_with arrival) (live_with arrival) (definitions_of setting.rules) ≡ o → IsOnce (by_choice setting arrival o).0
+    chosen_once : (o : Option Candidate) → choice (messages_with arrival) (live_with arrival) (definitions_of setting.rules) ≡ o → IsOnce (by_choice setting arrival o).0
     chosen_once None e = kept_once
     chosen_once (Some c) e = fired_once c e
 
@@ -128,7 +128,7 @@ module _ (setting : Setting) (actors : ℕ) (sorts : Sorts) (typed : AllByRecurs
 
       running : (b : Bool) → IsOnce (running_step b setting state sent.0 sent.1.message sent.1.stamp).0
       running true = record { once = λ n. omega (arith, h.once n); fresh = λ n l. omega (arith, h.fresh n l); replies = h.replies }
-      running false = chosen_once arrival h (choice (letters_with arrival) (live_with arrival) (definitions_of setting.rules)) refl
+      running false = chosen_once arrival h (choice (messages_with arrival) (live_with arrival) (definitions_of setting.rules)) refl
 
       by : (b : Bool) → IsOnce (step_by b setting state sent.0 sent.1.message sent.1.stamp).0
       by false = record { once = h.once; fresh = h.fresh; replies = h.replies }

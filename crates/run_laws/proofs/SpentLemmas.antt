@@ -23,7 +23,7 @@ use Rattle.fair_semantics.specs.Body.{stops}
 use Rattle.fair_semantics.specs.Fair.{Sent, after_all, setting_of}
 use Rattle.fair_semantics.specs.Fits.{PostFits}
 use Rattle.fair_semantics.specs.Linked.{count_of, posts_of, rest_of, rests_in_order, sources, IsLinked}
-use Rattle.fair_semantics.specs.Step.{Arrival, Setting, State, Stepped, body_at, by_choice, definitions_of, firing_of, fits, is_refused, is_running, latest_stamp, letters_with, live_with, opening, recorded}
+use Rattle.fair_semantics.specs.Step.{Arrival, Setting, State, Stepped, body_at, by_choice, definitions_of, firing_of, fits, is_refused, is_running, latest_stamp, messages_with, live_with, opening, recorded}
 use Rattle.fair_semantics.proofs.RestLemmas.{each_in_order, each_of_all, none_in}
 use Rattle.fair_semantics.proofs.TakenLemmas.{Taken, arrival_is, arrival_of, ended, next_of}
 use Rattle.log_replay.proofs.ActorLemmas.{after, before, before_count, came, few, rest, shown, start, taken}
@@ -50,12 +50,12 @@ IsUnspent state = state.ending ≡ ending.Spent → ⊥
 
 module _ (setting : Setting) where
   choice_unspent : (arrival : Arrival) (o : Option Candidate) → IsUnspent (by_choice setting arrival o).0
-  choice_unspent arrival None = by (nat_lt setting.limits.partials (partial_count (letters_with arrival) (live_with arrival) (definitions_of setting.rules)))
+  choice_unspent arrival None = by (nat_lt setting.limits.partials (partial_count (messages_with arrival) (live_with arrival) (definitions_of setting.rules)))
     where
       by : (b : Bool) → let stepped : Stepped = if b then (recorded arrival None [] ending.Jammed, outcome.Jammed) else (recorded arrival None (live_with arrival) ending.Running, outcome.Kept) in IsUnspent stepped.0
       by true e = absurd cc
       by false e = absurd cc
-  choice_unspent arrival (Some c) = by (stops (body_at setting.rules c.rule)) (firing_of setting.rules (letters_with arrival) (Some c))
+  choice_unspent arrival (Some c) = by (stops (body_at setting.rules c.rule)) (firing_of setting.rules (messages_with arrival) (Some c))
     where
       by : (b : Bool) (firing : Option Firing) → IsUnspent (if b then recorded arrival firing [] ending.Stopped else recorded arrival firing (without (live_with arrival) c.taken) ending.Running)
       by true firing e = absurd cc
@@ -64,7 +64,7 @@ module _ (setting : Setting) where
   next_unspent : (state : State) (s : Sent) → is_running state.ending ≡ true → is_refused setting state s.1.message s.1.stamp ≡ false → IsUnspent (next_of setting state s)
   next_unspent state s running r =
       let arrival : Arrival = arrival_of state s in
-      subst IsUnspent (sym (arrival_is setting state s running r)) (choice_unspent arrival (choice (letters_with arrival) (live_with arrival) (definitions_of setting.rules)))
+      subst IsUnspent (sym (arrival_is setting state s running r)) (choice_unspent arrival (choice (messages_with arrival) (live_with arrival) (definitions_of setting.rules)))
 
   -- a chain that records each message
   taken_unspent : (sent : List Sent) (state : State) → Taken setting state sent → IsUnspent state → IsUnspent (after_all setting state sent)

@@ -84,11 +84,11 @@ pub record StandsOnce (n : ℕ) (taken seen : List ℕ) : Type 0 where
   pub once : times n taken ≤ 1
   pub among : times n taken ≤ times n seen
 
-pub assigned_once : (letters : List Message) (seen kinds taken : List ℕ) (n : ℕ) → Assigns letters seen kinds (slots_of taken) → StandsOnce n taken seen
-assigned_once letters seen [] [] n a = record { once = omega arith; among = omega arith }
-assigned_once letters seen [] (m ∷ taken) n a = absurd a
-assigned_once letters seen (kind ∷ kinds) [] n a = absurd a
-assigned_once letters seen (kind ∷ kinds) (m ∷ taken) n a = by (n == m) refl (assigned_once letters seen kinds taken n a.1)
+pub assigned_once : (messages : List Message) (seen kinds taken : List ℕ) (n : ℕ) → Assigns messages seen kinds (slots_of taken) → StandsOnce n taken seen
+assigned_once messages seen [] [] n a = record { once = omega arith; among = omega arith }
+assigned_once messages seen [] (m ∷ taken) n a = absurd a
+assigned_once messages seen (kind ∷ kinds) [] n a = absurd a
+assigned_once messages seen (kind ∷ kinds) (m ∷ taken) n a = by (n == m) refl (assigned_once messages seen kinds taken n a.1)
   where
     by : (b : Bool) → (n == m) ≡ b → StandsOnce n taken seen → StandsOnce n (m ∷ taken) seen
     by true e later =

@@ -15,9 +15,9 @@ use Rattle.fair_semantics.specs.Step.{Setting, State, is_refused, is_running, la
 use Rattle.fair_semantics.specs.Fair.{Sent, after_all}
 use Rattle.fair_semantics.specs.Linked.{arrived_after, message_from, messages_of, same_source, stamp_at, taken_from}
 use Rattle.fair_semantics.proofs.ChainLemmas.{Records, adds}
-use Rattle.run_order.proofs.EventLemmas.{if_from, same_source_is, sent_from}
-use Rattle.run_order.proofs.ListLemmas.{at_front}
-use Rattle.run_order.proofs.WaitLemmas.{from_itself}
+use Rattle.run_order_law.proofs.EventLemmas.{if_from, same_source_is, sent_from}
+use Rattle.run_order_law.proofs.ListLemmas.{at_front}
+use Rattle.run_order_law.proofs.WaitLemmas.{from_itself}
 use Rattle.fair_semantics.proofs.TakenLemmas.{next_of}
 use Rattle.fair_semantics.proofs.TakenLemmas.{Taken, late_is, spent_is, taken_count}
 use Rattle.fair_semantics.proofs.CountedLemmas.{raised_by}

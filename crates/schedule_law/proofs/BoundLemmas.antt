@@ -15,8 +15,8 @@ use Rattle.fair_semantics.specs.Linked.{feed_posts, numbers_from, post_for, sour
 use Rattle.fair_semantics.specs.Schedule.{System, after_schedule, scheduled_step, system_at_first}
 use Rattle.fair_semantics.proofs.CountedLemmas.{Among}
 use Rattle.fair_semantics.proofs.ListLemmas.{each_map}
-use Rattle.run_order.proofs.EventLemmas.{Event, pair_of}
-use Rattle.run_order.proofs.SourceLemmas.{actor_among, contains_one, feed_among}
+use Rattle.run_order_law.proofs.EventLemmas.{Event, pair_of}
+use Rattle.run_order_law.proofs.SourceLemmas.{actor_among, contains_one, feed_among}
 use Rattle.schedule_law.specs.Reached.{IsReached}
 use Rattle.schedule_law.specs.WorkLeft.{arrivals_left, most_work, room_of, waiting_count, waiting_for, work_left}
 use Rattle.schedule_law.proofs.LawLemmas.{pairs_among}

@@ -18,10 +18,10 @@ use Rattle.fair_semantics.specs.Fair.{Sent, fair}
 use Rattle.fair_semantics.specs.Fits.{SourceFits}
 use Rattle.fair_semantics.specs.Linked.{arrived, given_by, rest_of, rests_by, rests_in_order, same_source, sources}
 use Rattle.fair_semantics.specs.Schedule.{System}
-use Rattle.run_order.proofs.EventLemmas.{if_from, sent_from}
-use Rattle.run_order.proofs.GivenLemmas.{arrived_all, given_all, rests_none}
-use Rattle.run_order.proofs.ListLemmas.{in_each}
-use Rattle.run_order.proofs.SourceLemmas.{NoneOf, OneOf, actor_among, feed_among, one_or_none}
+use Rattle.run_order_law.proofs.EventLemmas.{if_from, sent_from}
+use Rattle.run_order_law.proofs.GivenLemmas.{arrived_all, given_all, rests_none}
+use Rattle.run_order_law.proofs.ListLemmas.{in_each}
+use Rattle.run_order_law.proofs.SourceLemmas.{NoneOf, OneOf, actor_among, feed_among, one_or_none}
 use Rattle.schedule_law.specs.Given.{AreFair, FairIsLinked, IsFairOf, IsGiven, came_from, sent_by}
 use Rattle.schedule_law.specs.Reached.{IsServable}
 use Rattle.schedule_law.proofs.GivenLemmas.{given_is_linked, in_from}

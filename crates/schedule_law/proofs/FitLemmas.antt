@@ -19,10 +19,10 @@ use Rattle.fair_semantics.specs.Fits.{ActorRunFits, EffectFits, EntryFits, Firin
 use Rattle.fair_semantics.specs.Linked.{effect_for, entry_posts, feed_posts, firing_effects, numbers_from, post_for}
 use Rattle.fair_semantics.specs.Schedule.{System}
 use Rattle.fair_semantics.proofs.ListLemmas.{each_append, each_from}
-use Rattle.run_order.proofs.EventLemmas.{Event, IsSystemAt, made, sent_from, sent_to, state_at}
+use Rattle.run_order_law.proofs.EventLemmas.{Event, IsSystemAt, made, sent_from, sent_to, state_at}
 use Rattle.fair_semantics.proofs.CountedLemmas.{Among}
-use Rattle.run_fits.specs.FitsLaw.{SentFits}
-use Rattle.run_fits.proofs.LawLemmas.{fair_run_fits}
+use Rattle.run_fit_law.specs.FitsLaw.{SentFits}
+use Rattle.run_fit_law.proofs.LawLemmas.{fair_run_fits}
 use Rattle.schedule_law.specs.Reached.{FeedsFit, IsReached, IsServable, SchedulesAreLinked, ValuesFit}
 use Rattle.schedule_law.proofs.LawLemmas.{EachAmong, among, at, count, events, linked, next_each}
 use Rattle.schedule_law.proofs.ReachLemmas.{EachNext, IsNext}

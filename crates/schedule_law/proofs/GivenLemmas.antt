@@ -25,10 +25,10 @@ use Rattle.fair_semantics.proofs.CountedLemmas.{Among}
 use Rattle.fair_semantics.proofs.ListLemmas.{each_append}
 use Rattle.fair_semantics.proofs.StampLemmas.{posted_stamp}
 use Rattle.fair_semantics.proofs.FairLemmas.{after_all-append}
-use Rattle.run_order.proofs.EventLemmas.{Event, IsSystemAt, for_actor, if_to, made, sent_from, sent_to, state_at}
-use Rattle.run_order.proofs.ListLemmas.{each_in}
-use Rattle.run_order.proofs.OrderLemmas.{for_other, for_same, with_it}
-use Rattle.run_order.proofs.SourceLemmas.{itself, not_equal, is_itself}
+use Rattle.run_order_law.proofs.EventLemmas.{Event, IsSystemAt, for_actor, if_to, made, sent_from, sent_to, state_at}
+use Rattle.run_order_law.proofs.ListLemmas.{each_in}
+use Rattle.run_order_law.proofs.OrderLemmas.{for_other, for_same, with_it}
+use Rattle.run_order_law.proofs.SourceLemmas.{itself, not_equal, is_itself}
 use Rattle.schedule_law.specs.Given.{GivenIsLinked, IsGiven, came_from, if_from, sent_by}
 use Rattle.schedule_law.specs.Reached.{IsServable, ValuesFit}
 use Rattle.schedule_law.proofs.FitLemmas.{EventFine, IsFine, PostFine, RunsFit, entry_fine, fed_fine, runs_of}

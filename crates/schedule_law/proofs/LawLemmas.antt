@@ -19,10 +19,10 @@ use Rattle.fair_semantics.specs.Fits.{RunFits}
 use Rattle.fair_semantics.specs.Linked.{entry_posts, feed_posts, numbers_from, posts_in, posts_of, sources, IsLinked, IsLinkedActor}
 use Rattle.fair_semantics.specs.Schedule.{System, system_at_first}
 use Rattle.fair_semantics.proofs.ListLemmas.{each_append, each_from}
-use Rattle.run_order.specs.Order.{shown}
-use Rattle.run_order.proofs.EventLemmas.{Event, IsSystemAt, at_first, if_to, made, pair_of, sent_from, sent_to, state_at}
-use Rattle.run_order.proofs.ListLemmas.{nothing_here}
-use Rattle.run_order.proofs.SourceLemmas.{not_equal}
+use Rattle.run_order_law.specs.Order.{shown}
+use Rattle.run_order_law.proofs.EventLemmas.{Event, IsSystemAt, at_first, if_to, made, pair_of, sent_from, sent_to, state_at}
+use Rattle.run_order_law.proofs.ListLemmas.{nothing_here}
+use Rattle.run_order_law.proofs.SourceLemmas.{not_equal}
 use Rattle.fair_semantics.proofs.CountedLemmas.{Among}
 use Rattle.fair_semantics.proofs.NumberLemmas.{among_sources}
 use Rattle.fair_semantics.proofs.NumberLemmas.{count_numbers}

@@ -11,8 +11,8 @@ use Rattle.pattern_core.specs.Members.{IsIn}
 use Rattle.fair_semantics.specs.Step.{Setting, State, fits, is_refused, latest_stamp}
 use Rattle.fair_semantics.specs.Fair.{Sent}
 use Rattle.fair_semantics.specs.Linked.{behind_first, brought_first, greatest_start, rests_in_order, starts_unfit, starts_with}
-use Rattle.run_order.proofs.EventLemmas.{same_number}
-use Rattle.run_order.proofs.SourceLemmas.{is_itself}
+use Rattle.run_order_law.proofs.EventLemmas.{same_number}
+use Rattle.run_order_law.proofs.SourceLemmas.{is_itself}
 
 -- ---- the first of the rests that leads is brought to the front
 

@@ -9,8 +9,8 @@ use Rattle.join_base.specs.declared.message.Source.{Source}
 use Rattle.script_types.specs.declared.plan.Plan.{Plan}
 use Rattle.fair_semantics.specs.declared.run.Limits.{Limits}
 use Rattle.fair_semantics.specs.Schedule.{System, after_schedule, scheduled_step, system_at_first, taking}
-use Rattle.run_order.proofs.EventLemmas.{Event, IsSystemAt, made, pair_of, sent_from, sent_to}
-use Rattle.run_order.proofs.ServeLemmas.{next, next_is}
+use Rattle.run_order_law.proofs.EventLemmas.{Event, IsSystemAt, made, pair_of, sent_from, sent_to}
+use Rattle.run_order_law.proofs.ServeLemmas.{next, next_is}
 use Rattle.schedule_law.specs.Reached.{IsReached}
 
 module _ (plan : Plan) (limits : Limits) (feeds : List (List (ℕ × Message))) where

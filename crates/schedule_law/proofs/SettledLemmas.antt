@@ -18,11 +18,11 @@ use Rattle.fair_semantics.specs.Fair.{Sent, after_all}
 use Rattle.fair_semantics.specs.Linked.{arrived, count_of, given_by, messages_of, rest_of, rests_by, rests_in_order, same_source, sources, taken_from}
 use Rattle.fair_semantics.proofs.KeptLemmas.{late_list_zero}
 use Rattle.fair_semantics.proofs.ListLemmas.{each_replicate, each_append, each_right}
-use Rattle.run_order.proofs.EventLemmas.{if_from, same_source_is, sent_from}
-use Rattle.run_order.proofs.GivenLemmas.{arrived_all}
-use Rattle.run_order.proofs.RestLemmas.{all_from, one_apart, one_left_over, order_same}
-use Rattle.run_order.proofs.SourceLemmas.{OneOf, actor_among, feed_among}
-use Rattle.run_order.proofs.WaitLemmas.{from_itself}
+use Rattle.run_order_law.proofs.EventLemmas.{if_from, same_source_is, sent_from}
+use Rattle.run_order_law.proofs.GivenLemmas.{arrived_all}
+use Rattle.run_order_law.proofs.RestLemmas.{all_from, one_apart, one_left_over, order_same}
+use Rattle.run_order_law.proofs.SourceLemmas.{OneOf, actor_among, feed_among}
+use Rattle.run_order_law.proofs.WaitLemmas.{from_itself}
 use Rattle.fair_semantics.proofs.TakenLemmas.{not_late}
 use Rattle.fair_semantics.proofs.SizeLemmas.{Sized, none_counted, sized_opening}
 use Rattle.fair_semantics.proofs.CountedLemmas.{Among, counted, occurs, raised_by, sized_by}

@@ -19,8 +19,8 @@ use Rattle.fair_semantics.specs.Linked.{effect_for, entry_posts, firing_effects}
 use Rattle.fair_semantics.specs.Schedule.{System, after_schedule, scheduled_step, system_at_first}
 use Rattle.fair_semantics.proofs.ListLemmas.{each_append}
 use Rattle.fair_semantics.proofs.SizeLemmas.{Sized, sized, sized_opening}
-use Rattle.run_order.proofs.EventLemmas.{sent_to}
-use Rattle.run_order.proofs.SourceLemmas.{not_equal}
+use Rattle.run_order_law.proofs.EventLemmas.{sent_to}
+use Rattle.run_order_law.proofs.SourceLemmas.{not_equal}
 use Rattle.schedule_law.specs.Reached.{IsReached, IsServable}
 use Rattle.schedule_law.proofs.FitLemmas.{own_fits, runs_of}
 use Rattle.schedule_law.proofs.LawLemmas.{at, events}

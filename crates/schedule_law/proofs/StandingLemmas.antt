@@ -10,8 +10,8 @@ use Rattle.fair_semantics.specs.Linked.{IsLinked}
 use Rattle.fair_semantics.specs.Schedule.{System, after_schedule}
 use Rattle.fair_semantics.proofs.CountedLemmas.{Among}
 use Rattle.fair_semantics.proofs.ListLemmas.{each_append}
-use Rattle.run_order.specs.Order.{shown}
-use Rattle.run_order.proofs.EventLemmas.{Event, IsSystemAt, pair_of}
+use Rattle.run_order_law.specs.Order.{shown}
+use Rattle.run_order_law.proofs.EventLemmas.{Event, IsSystemAt, pair_of}
 use Rattle.schedule_law.specs.Reached.{IsServable, NothingWaits}
 use Rattle.schedule_law.proofs.FitLemmas.{EachFine, EventFine, each_fine, runs_fit_at, runs_of}
 use Rattle.schedule_law.proofs.LawLemmas.{EachAmong, OfActors, count_at, each_among, linked_at, of_pairs}

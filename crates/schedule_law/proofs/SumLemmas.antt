@@ -4,8 +4,8 @@ use Rattle.std.specs.Prelude.{if◌then◌else◌, ◌==◌, Contains}
 use Rattle.std.specs.List.{sum_by}
 use Rattle.std.proofs.lemmas.List.Sums.{sum_by-cons}
 use Rattle.fair_semantics.specs.Linked.{numbers_from}
-use Rattle.run_order.proofs.EventLemmas.{same_number}
-use Rattle.run_order.proofs.SourceLemmas.{not_equal}
+use Rattle.run_order_law.proofs.EventLemmas.{same_number}
+use Rattle.run_order_law.proofs.SourceLemmas.{not_equal}
 
 module _ {X : Type 0} where
   pub sum_same : (f g : X → ℕ) → ((x : X) → f x ≡ g x) → (xs : List X) → sum_by f xs ≡ sum_by g xs

@@ -30,28 +30,28 @@ use Rattle.fair_semantics.specs.Body.{effects_of, statement_effects, stops}
 use Rattle.fair_semantics.specs.Fair.{rules_of, setting_of}
 use Rattle.fair_semantics.specs.Linked.{effect_for, entry_posts, firing_effects, numbers_from, same_source, sources}
 use Rattle.fair_semantics.specs.Schedule.{System, left_waiting, newly_waiting, posts_made, state_after, taking}
-use Rattle.fair_semantics.specs.Step.{Arrival, Setting, State, Stepped, body_at, body_of, by_choice, definitions_of, entry_with, fair_step, firing_of, is_refused, is_running, letters_with, live_with, recorded, running_step, step_by}
+use Rattle.fair_semantics.specs.Step.{Arrival, Setting, State, Stepped, body_at, body_of, by_choice, definitions_of, entry_with, fair_step, firing_of, is_refused, is_running, messages_with, live_with, recorded, running_step, step_by}
 use Rattle.fair_semantics.proofs.ListLemmas.{each_at, each_from}
 use Rattle.fair_semantics.proofs.TakenLemmas.{or_parts}
-use Rattle.run_order.proofs.EventLemmas.{same_number, same_source_is}
-use Rattle.run_order.proofs.SourceLemmas.{is_itself, itself}
+use Rattle.run_order_law.proofs.EventLemmas.{same_number, same_source_is}
+use Rattle.run_order_law.proofs.SourceLemmas.{is_itself, itself}
 use Rattle.schedule_law.specs.WorkLeft.{StepsLeaveLess, arrivals_left, room_of, waiting_count, waiting_for, work_left}
 use Rattle.schedule_law.proofs.SumLemmas.{once, sum_both, sum_less, sum_map, sum_most, sum_none, sum_same}
 
 -- ---- what a body makes
 
-one_effect : (letters : List Message) (taken : List ℕ) (s : Statement) → length (statement_effects letters taken s) ≤ 1
-one_effect letters taken (statement.Print items) = omega arith
-one_effect letters taken (statement.Post target kind operands) = omega arith
-one_effect letters taken statement.Stop = omega arith
-one_effect letters taken (statement.Reply pattern operand) = omega arith
+one_effect : (messages : List Message) (taken : List ℕ) (s : Statement) → length (statement_effects messages taken s) ≤ 1
+one_effect messages taken (statement.Print items) = omega arith
+one_effect messages taken (statement.Post target kind operands) = omega arith
+one_effect messages taken statement.Stop = omega arith
+one_effect messages taken (statement.Reply pattern operand) = omega arith
 
-few_effects : (letters : List Message) (taken : List ℕ) (body : List Statement) → length (effects_of letters taken body) ≤ length body
-few_effects letters taken [] = omega arith
-few_effects letters taken (s ∷ body) =
-    let one = one_effect letters taken s in
-    let later = few_effects letters taken body in
-    let both = length-append (statement_effects letters taken s) (effects_of letters taken body) in
+few_effects : (messages : List Message) (taken : List ℕ) (body : List Statement) → length (effects_of messages taken body) ≤ length body
+few_effects messages taken [] = omega arith
+few_effects messages taken (s ∷ body) =
+    let one = one_effect messages taken s in
+    let later = few_effects messages taken body in
+    let both = length-append (statement_effects messages taken s) (effects_of messages taken body) in
     omega (arith, one, later, both)
 
 -- no body of these rules has more than 16 statements
@@ -85,23 +85,23 @@ module _ (setting : Setting) (small : AreSmall setting.rules) where
   abbrev HasSmall : Arrival → State → Type 0
   HasSmall arrival after = (entry : Entry) × ((after.entries ≡ arrival.state.entries ++ entry ∷ []) × (length (firing_effects entry.firing) ≤ 16))
 
-  chosen_small : (arrival : Arrival) (c : Candidate) → length (firing_effects (firing_of setting.rules (letters_with arrival) (Some c))) ≤ 16
+  chosen_small : (arrival : Arrival) (c : Candidate) → length (firing_effects (firing_of setting.rules (messages_with arrival) (Some c))) ≤ 16
   chosen_small arrival c =
-      let few = few_effects (letters_with arrival) c.taken (body_at setting.rules c.rule) in
+      let few = few_effects (messages_with arrival) c.taken (body_at setting.rules c.rule) in
       let most = small_body setting.rules c.rule small in
       omega (arith, few, most)
 
   recorded_small : (arrival : Arrival) (o : Option Candidate) → HasSmall arrival (by_choice setting arrival o).0
-  recorded_small arrival None = by (nat_lt setting.limits.partials (partial_count (letters_with arrival) (live_with arrival) (definitions_of setting.rules)))
+  recorded_small arrival None = by (nat_lt setting.limits.partials (partial_count (messages_with arrival) (live_with arrival) (definitions_of setting.rules)))
     where
       by : (b : Bool) → let stepped : Stepped = if b then (recorded arrival None [] ending.Jammed, outcome.Jammed) else (recorded arrival None (live_with arrival) ending.Running, outcome.Kept) in HasSmall arrival stepped.0
       by true = (entry_with arrival None, (refl, omega arith))
       by false = (entry_with arrival None, (refl, omega arith))
   recorded_small arrival (Some c) = by (stops (body_at setting.rules c.rule))
     where
-      by : (b : Bool) → HasSmall arrival (if b then recorded arrival (firing_of setting.rules (letters_with arrival) (Some c)) [] ending.Stopped else recorded arrival (firing_of setting.rules (letters_with arrival) (Some c)) (without (live_with arrival) c.taken) ending.Running)
-      by true = (entry_with arrival (firing_of setting.rules (letters_with arrival) (Some c)), (refl, chosen_small arrival c))
-      by false = (entry_with arrival (firing_of setting.rules (letters_with arrival) (Some c)), (refl, chosen_small arrival c))
+      by : (b : Bool) → HasSmall arrival (if b then recorded arrival (firing_of setting.rules (messages_with arrival) (Some c)) [] ending.Stopped else recorded arrival (firing_of setting.rules (messages_with arrival) (Some c)) (without (live_with arrival) c.taken) ending.Running)
+      by true = (entry_with arrival (firing_of setting.rules (messages_with arrival) (Some c)), (refl, chosen_small arrival c))
+      by false = (entry_with arrival (firing_of setting.rules (messages_with arrival) (Some c)), (refl, chosen_small arrival c))
 
   adds_few : (state : State) (source : Source) (message : Message) (stamp : ℕ) → AddsFew setting.limits.arrivals state (fair_step setting state source message stamp).0
   adds_few state source message stamp = by (is_running state.ending)
@@ -112,7 +112,7 @@ module _ (setting : Setting) (small : AreSmall setting.rules) where
           let arrival : Arrival = record { state = state; source = source; message = message; stamp = stamp } in
           let full : nat_le setting.limits.arrivals (length state.entries) ≡ false = (or_parts _ _ e).0 in
           let room : length state.entries < setting.limits.arrivals = grind (arith, nat_tests) in
-          inr (room, recorded_small arrival (choice (letters_with arrival) (live_with arrival) (definitions_of setting.rules)))
+          inr (room, recorded_small arrival (choice (messages_with arrival) (live_with arrival) (definitions_of setting.rules)))
 
       by : (b : Bool) → AddsFew setting.limits.arrivals state (step_by b setting state source message stamp).0
       by false = inl refl

@@ -13,7 +13,7 @@ use Rattle.fair_semantics.specs.Fits.{SourceFits}
 use Rattle.fair_semantics.specs.Linked.{IsLinked, entry_posts, feed_posts, given_by, messages_of, same_source, sources, taken_from}
 use Rattle.fair_semantics.specs.Schedule.{System, after_schedule}
 use Rattle.fair_semantics.specs.Step.{State, opening}
-use Rattle.run_order.specs.Order.{shown}
+use Rattle.run_order_law.specs.Order.{shown}
 use Rattle.schedule_law.specs.Reached.{IsServable, NothingWaits}
 
 abbrev pub if_from : Source → Sent → Option Stamped

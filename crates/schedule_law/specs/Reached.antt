@@ -9,8 +9,8 @@ use Rattle.fair_semantics.specs.declared.run.Limits.{Limits}
 use Rattle.fair_semantics.specs.Fits.{IsFrom1To, ValueFits}
 use Rattle.fair_semantics.specs.Linked.{IsLinked}
 use Rattle.fair_semantics.specs.Schedule.{System, after_schedule, system_at_first}
-use Rattle.run_fits.specs.FitsLaw.{LimitsFit, RulesFit}
-use Rattle.run_order.specs.Order.{shown}
+use Rattle.run_fit_law.specs.FitsLaw.{LimitsFit, RulesFit}
+use Rattle.run_order_law.specs.Order.{shown}
 
 -- some steps of actors of the plan lead from the first system to this one
 pub record IsReached (plan : Plan) (limits : Limits) (feeds : List (List (ℕ × Message))) (system : System) : Type 0 where

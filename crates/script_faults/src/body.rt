@@ -112,7 +112,8 @@ fn note_post(
     kind: &Spelt,
     operands: &[OperandDecl],
 )
-    ensures { found.new ≡ first_of found.old (post_faults scope.now.messages.now.decls.now scope.now.actors.now scope.now.variables.now target.now kind.now operands.now) }
+    ensures { found.new ≡ first_of found.old (post_faults scope.now.messages.now.decls.now scope.now.actors.now
+        scope.now.variables.now target.now kind.now operands.now) }
 {
     let is_unknown = scope.actors.number_of(target.name.bytes()).is_none();
     note_if(found, is_unknown, ScriptCause::UnknownActor, target.place);
@@ -124,7 +125,8 @@ fn note_post(
 
 // Notes the faults of a statement.
 fn note_statement(found: &mut Option<Fault>, scope: &Scope, statement: &StatementDecl)
-    ensures { found.new ≡ first_of found.old (statement_faults scope.now.messages.now.decls.now scope.now.actors.now scope.now.variables.now statement.now) }
+    ensures { found.new ≡ first_of found.old (statement_faults scope.now.messages.now.decls.now scope.now.actors.now
+        scope.now.variables.now statement.now) }
 {
     match statement {
         StatementDecl::Print { items, .. } => note_print(found, scope.variables, items.as_slice()),
@@ -140,7 +142,8 @@ fn note_statement(found: &mut Option<Fault>, scope: &Scope, statement: &Statemen
 }
 
 fn note_statements(found: &mut Option<Fault>, scope: &Scope, body: &[StatementDecl])
-    ensures { found.new ≡ first_of found.old (flat_map (statement_faults scope.now.messages.now.decls.now scope.now.actors.now scope.now.variables.now) body.now) }
+    ensures { found.new ≡ first_of found.old (flat_map (statement_faults scope.now.messages.now.decls.now
+        scope.now.actors.now scope.now.variables.now) body.now) }
 {
     for statement in body {
         note_statement(found, scope, statement);
@@ -170,7 +173,8 @@ fn note_stops(found: &mut Option<Fault>, body: &[StatementDecl])
 
 /// Notes the faults of a body.
 pub(crate) fn note_body(found: &mut Option<Fault>, scope: &Scope, body: &[StatementDecl])
-    ensures { found.new ≡ first_of found.old (body_faults scope.now.messages.now.decls.now scope.now.actors.now scope.now.variables.now body.now) }
+    ensures { found.new ≡ first_of found.old (body_faults scope.now.messages.now.decls.now scope.now.actors.now
+        scope.now.variables.now body.now) }
 {
     note_too_many(found, 16, body);
     note_stops(found, body);

@@ -130,7 +130,8 @@ pub(crate) fn note_guard(
     variables: &NameTable<Slot>,
     guard: &[ConjunctDecl],
 ) -> Result<(), NoMemory>
-    ensures { OnOk result (found.new ≡ first_of found.old (guard_faults variables.now (guard_comparisons (map conjunct_view guard.now)))) }
+    ensures { OnOk result (found.new ≡ first_of found.old (guard_faults variables.now
+        (guard_comparisons (map conjunct_view guard.now)))) }
 {
     let comparisons = comparisons_of(alloc, guard)?;
     note_too_many(found, 64, comparisons.as_slice());

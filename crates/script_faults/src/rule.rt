@@ -90,7 +90,8 @@ fn note_actors<'a>(
     actors: &NameTable<'a, u64>,
     decls: &'a [ActorDecl],
 ) -> Result<(), NoMemory>
-    ensures { OnOk result (found.new ≡ first_of found.old (flat_map (actor_faults messages.now.decls.now actors.now) decls.now)) }
+    ensures { OnOk result (found.new ≡ first_of found.old (flat_map (actor_faults messages.now.decls.now
+        actors.now) decls.now)) }
 {
     for actor in decls {
         note_actor(alloc, found, messages, actors, actor)?;

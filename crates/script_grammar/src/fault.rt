@@ -14,7 +14,8 @@ pub enum ScriptCause {
     /// No script goes on with this token, or the text ends too early.
     #[error("no script goes on like this")]
     BadSyntax,
-    /// There are more actors, messages, fields, definitions, patterns, comparisons, leaves, statements or items than allowed.
+    /// There are more actors, messages, fields, definitions, patterns, comparisons, leaves, statements or items than
+    /// allowed.
     #[error("too many")]
     TooMany,
     /// The name was declared before.

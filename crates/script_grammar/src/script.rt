@@ -84,8 +84,8 @@ impl Beginning {
         }
     }
 
-    /// Reads on in the tokens that are there, up to a declaration that their end cuts short. Otherwise the tokens from the
-    /// refused one on, which is there, or want of memory; then the beginning is of no more use.
+    /// Reads on in the tokens that are there, up to a declaration that their end cuts short. Otherwise the tokens from
+    /// the refused one on, which is there, or want of memory; then the beginning is of no more use.
     pub fn read_on<'a>(&mut self, alloc: Global, tokens: &'a [Token]) -> Result<(), Stop<'a>>
         requires begins { IsBeginning self.old tokens.now }
         ensures begins { OnOk result (IsBeginning self.new tokens.now) }
@@ -118,8 +118,8 @@ pub fn one_answer()
     ensures stays { RefusalStays }
 {}
 
-/// The tree of a script has no gaps: an actor at least, a pattern in each definition, a leaf in each term, and an item in
-/// each print.
+/// The tree of a script has no gaps: an actor at least, a pattern in each definition, a leaf in each term, and an item
+/// in each print.
 pub fn filled_law()
     ensures { ScriptsAreFilled }
 {}

@@ -41,8 +41,8 @@ pub struct ActorDecl {
     pub rules: Items<RuleDecl>,
 }
 
-/// A definition, with the place of its `when`. Its window is the number behind `within`, with its place. Without a guard it
-/// has no conjunct.
+/// A definition, with the place of its `when`. Its window is the number behind `within`, with its place. Without a
+/// guard it has no conjunct.
 #[derive(Drop)]
 pub struct RuleDecl {
     pub place: u64,

@@ -1,7 +1,7 @@
 //! What could stand where a script is refused, and what the tokens around a fault say of it.
 //!
-//! - `hint_of` gives the sentence for a cause at a place of a script, and where its mark stands; `plain_sentence` is for a
-//!   script that can't be shown.
+//! - `hint_of` gives the sentence for a cause at a place of a script, and where its mark stands; `plain_sentence` is
+//!   for a script that can't be shown.
 //! - `script_of` gives the tokens of a script, each with the spot at which it stands: what a script may have there.
 //!
 //! Nothing is claimed of the sentences. They are tested, and so are the spots behind them.

@@ -21,7 +21,7 @@ use Rattle.guard_eval.specs.declared.term.WordsLeaf.{WordsLeaf}
 use Rattle.guard_eval.specs.declared.term.WordsLeaf.TheVariants as words
 use Rattle.guard_eval.specs.declared.term.Operand.{Operand}
 use Rattle.guard_eval.specs.declared.term.Operand.TheVariants as operand
-use Rattle.guard_eval.specs.Meaning.{Assignment, Need, compares, field_of, has_some, int_of, int_relation, is_true, leaf_needs, leaf_value, letter_at, letter_of, needs_of, number_at, operand_needs, signed_value, term_needs, term_value, turned, value_at, words_needs, words_relation, words_value}
+use Rattle.guard_eval.specs.Meaning.{Assignment, Need, compares, field_of, has_some, int_of, int_relation, is_true, leaf_needs, leaf_value, recorded_message, message_of_slot, needs_of, number_at, operand_needs, signed_value, term_needs, term_value, turned, value_at, words_needs, words_relation, words_value}
 use Rattle.guard_eval.proofs.ExtendLemmas.{both_true}
 use Rattle.guard_eval.proofs.RelationLemmas.{turn}
 use Rattle.pattern_core.specs.Matches.{makes_all_true}
@@ -50,13 +50,13 @@ field_in_range : (o : Option Message) (field : ℕ) → IfSome o HasValuesInRang
 field_in_range None field h = tt
 field_in_range (Some m) field h = some_at InRange m.fields field h
 
-letter_in_range : (letters : List Message) (o : Option ℕ) → AllByRecursion HasValuesInRange letters → IfSome (letter_of letters o) HasValuesInRange
-letter_in_range letters None h = tt
-letter_in_range letters (Some n) h = at n
+message_in_range : (messages : List Message) (o : Option ℕ) → AllByRecursion HasValuesInRange messages → IfSome (message_of_slot messages o) HasValuesInRange
+message_in_range messages None h = tt
+message_in_range messages (Some n) h = at n
   where
-    at : (n : ℕ) → IfSome (letter_at letters n) HasValuesInRange
+    at : (n : ℕ) → IfSome (recorded_message messages n) HasValuesInRange
     at zero = tt
-    at (suc n) = some_at HasValuesInRange letters n h
+    at (suc n) = some_at HasValuesInRange messages n h
 
 -- ---- intervals
 
@@ -143,31 +143,31 @@ has_some-append (x ∷ xs) ys = refl
 none_parts : (xs ys : List Need) → has_some (xs ++ ys) ≡ false → (has_some xs ≡ false) × (has_some ys ≡ false)
 none_parts xs ys e = or_parts (has_some xs) (has_some ys) (sym (has_some-append xs ys) ∙ e)
 
-module _ (letters : List Message) (slots : Assignment) where
-  leaf_constant : (l : Leaf) → has_some (leaf_needs l) ≡ false → leaf_value letters slots l ≡ leaf_value [] [] l
+module _ (messages : List Message) (slots : Assignment) where
+  leaf_constant : (l : Leaf) → has_some (leaf_needs l) ≡ false → leaf_value messages slots l ≡ leaf_value [] [] l
   leaf_constant (leaf.Number n) e = refl
   leaf_constant (leaf.Field place) e = absurd cc
 
-  pub term_constant : (leaves : List Signed) → has_some (term_needs leaves) ≡ false → term_value letters slots leaves ≡ term_value [] [] leaves
+  pub term_constant : (leaves : List Signed) → has_some (term_needs leaves) ≡ false → term_value messages slots leaves ≡ term_value [] [] leaves
   term_constant [] e = refl
   term_constant (signed ∷ more) e =
       let parts = none_parts (leaf_needs signed.leaf) (term_needs more) e in
-      let here : signed_value letters slots signed ≡ signed_value [] [] signed = ap (λ (z : ℤ). if signed.minus then neg_ℤ z else z) (leaf_constant signed.leaf parts.0) in
+      let here : signed_value messages slots signed ≡ signed_value [] [] signed = ap (λ (z : ℤ). if signed.minus then neg_ℤ z else z) (leaf_constant signed.leaf parts.0) in
       let later = term_constant more parts.1 in
       λ i. here i +ℤ later i
 
-  words_constant : (w : WordsLeaf) → has_some (words_needs w) ≡ false → words_value letters slots w ≡ words_value [] [] w
+  words_constant : (w : WordsLeaf) → has_some (words_needs w) ≡ false → words_value messages slots w ≡ words_value [] [] w
   words_constant (words.Fixed bytes) e = refl
   words_constant (words.Field place) e = absurd cc
 
-  compares_constant : (l : Operand) (r : Relation) (o : Operand) → has_some (operand_needs l) ≡ false → has_some (operand_needs o) ≡ false → compares letters slots l r o ≡ compares [] [] l r o
+  compares_constant : (l : Operand) (r : Relation) (o : Operand) → has_some (operand_needs l) ≡ false → has_some (operand_needs o) ≡ false → compares messages slots l r o ≡ compares [] [] l r o
   compares_constant (operand.Sum a) r (operand.Sum b) e f = let p = term_constant a e in let q = term_constant b f in λ i. int_relation r (p i) (q i)
   compares_constant (operand.Words a) r (operand.Words b) e f = let p = words_constant a e in let q = words_constant b f in λ i. words_relation r (p i) (q i)
   compares_constant (operand.Sum a) r (operand.Words b) e f = refl
   compares_constant (operand.Words a) r (operand.Sum b) e f = refl
 
   -- a conjunct without a variable has one truth
-  pub constant : (c : Condition) → has_some (needs_of c) ≡ false → is_true letters slots c ≡ is_true [] [] c
+  pub constant : (c : Condition) → has_some (needs_of c) ≡ false → is_true messages slots c ≡ is_true [] [] c
   constant Never e = refl
   constant (Compares l r o) e = let parts = none_parts (operand_needs l) (operand_needs o) e in compares_constant l r o parts.0 parts.1
   constant (Negated c) e = ap not (constant c e)
@@ -180,34 +180,34 @@ module _ (letters : List Message) (slots : Assignment) where
 
   -- ---- bounding conjuncts
 
-  pub only_is : (c atom : Condition) → only_atom c ≡ Some atom → is_true letters slots c ≡ is_true letters slots atom
+  pub only_is : (c atom : Condition) → only_atom c ≡ Some atom → is_true messages slots c ≡ is_true messages slots atom
   only_is Never atom e = absurd cc
   only_is (Compares l r o) atom e = absurd cc
   only_is (Negated c) atom e = absurd cc
   only_is (Grouped c) atom e = absurd cc
-  only_is (Either a Never) atom e = let same : a ≡ atom = cc in or_false (is_true letters slots a) ∙ ap (is_true letters slots) same
+  only_is (Either a Never) atom e = let same : a ≡ atom = cc in or_false (is_true messages slots a) ∙ ap (is_true messages slots) same
   only_is (Either a (Compares l r o)) atom e = absurd cc
   only_is (Either a (Negated c)) atom e = absurd cc
   only_is (Either a (Grouped c)) atom e = absurd cc
   only_is (Either a (Either b c)) atom e = absurd cc
 
-  lone_value : (leaves : List Signed) (place : Place) → lone_field leaves ≡ Some place → term_value letters slots leaves ≡ int_of (value_at letters slots place)
+  lone_value : (leaves : List Signed) (place : Place) → lone_field leaves ≡ Some place → term_value messages slots leaves ≡ int_of (value_at messages slots place)
   lone_value [] place e = absurd cc
   lone_value (signed ∷ next ∷ more) place e = absurd cc
   lone_value (signed ∷ []) place e = by signed.minus signed.leaf e
     where
-      plain : (l : Leaf) → field_of_leaf l ≡ Some place → leaf_value letters slots l +ℤ pos 0 ≡ int_of (value_at letters slots place)
+      plain : (l : Leaf) → field_of_leaf l ≡ Some place → leaf_value messages slots l +ℤ pos 0 ≡ int_of (value_at messages slots place)
       plain (leaf.Number n) e = absurd cc
-      plain (leaf.Field p) e = let same : p ≡ place = cc in let sum : int_of (value_at letters slots p) +ℤ pos 0 ≡ int_of (value_at letters slots p) = omega (arith, ints) in sum ∙ ap (λ (x : Place). int_of (value_at letters slots x)) same
+      plain (leaf.Field p) e = let same : p ≡ place = cc in let sum : int_of (value_at messages slots p) +ℤ pos 0 ≡ int_of (value_at messages slots p) = omega (arith, ints) in sum ∙ ap (λ (x : Place). int_of (value_at messages slots x)) same
 
-      by : (minus : Bool) (l : Leaf) → (if minus then None else field_of_leaf l) ≡ Some place → (if minus then neg_ℤ (leaf_value letters slots l) else leaf_value letters slots l) +ℤ pos 0 ≡ int_of (value_at letters slots place)
+      by : (minus : Bool) (l : Leaf) → (if minus then None else field_of_leaf l) ≡ Some place → (if minus then neg_ℤ (leaf_value messages slots l) else leaf_value messages slots l) +ℤ pos 0 ≡ int_of (value_at messages slots place)
       by true l e = absurd cc
       by false l e = plain l e
 
-  fixed_value : (leaves : List Signed) (n : ℤ) → fixed_sum leaves ≡ Some n → term_value letters slots leaves ≡ n
+  fixed_value : (leaves : List Signed) (n : ℤ) → fixed_sum leaves ≡ Some n → term_value messages slots leaves ≡ n
   fixed_value leaves n e = by (has_some (term_needs leaves)) refl e
     where
-      by : (b : Bool) → has_some (term_needs leaves) ≡ b → (if b then None else Some (term_value [] [] leaves)) ≡ Some n → term_value letters slots leaves ≡ n
+      by : (b : Bool) → has_some (term_needs leaves) ≡ b → (if b then None else Some (term_value [] [] leaves)) ≡ Some n → term_value messages slots leaves ≡ n
       by true h e = absurd cc
       by false h e = let same : term_value [] [] leaves ≡ n = cc in term_constant leaves h ∙ same
 
@@ -227,7 +227,7 @@ module _ (letters : List Message) (slots : Assignment) where
 
   -- a bound says of the value of its place what the comparison says
   abbrev Says : Bound → List Signed → Relation → List Signed → Type 0
-  Says bound left r right = int_relation r (term_value letters slots left) (term_value letters slots right) ≡ int_relation bound.relation (int_of (value_at letters slots bound.place)) bound.number
+  Says bound left r right = int_relation r (term_value messages slots left) (term_value messages slots right) ≡ int_relation bound.relation (int_of (value_at messages slots bound.place)) bound.number
 
   forward : (left : List Signed) (r : Relation) (right : List Signed) (bound : Bound) → Bounds (lone_field left) r (fixed_sum right) bound → Says bound left r right
   forward left r right bound h =
@@ -242,14 +242,14 @@ module _ (letters : List Message) (slots : Assignment) where
       either : (o : Option Bound) → bound_by (lone_field left) r (fixed_sum right) ≡ o → option_or o (bound_by (lone_field right) (turned r) (fixed_sum left)) ≡ Some bound → Says bound left r right
       either None f e =
           let back = forward right (turned r) left bound (bounds_by (lone_field right) (turned r) (fixed_sum left) bound e) in
-          sym (turn r (term_value letters slots right) (term_value letters slots left)) ∙ back
+          sym (turn r (term_value messages slots right) (term_value messages slots left)) ∙ back
       either (Some b) f e = forward left r right bound (bounds_by (lone_field left) r (fixed_sum right) bound (f ∙ e))
 
       by : (b : Bool) → (if b then option_or (bound_by (lone_field left) r (fixed_sum right)) (bound_by (lone_field right) (turned r) (fixed_sum left)) else None) ≡ Some bound → Says bound left r right
       by false e = absurd cc
       by true e = either (bound_by (lone_field left) r (fixed_sum right)) refl e
 
-  atom_says : (atom : Condition) (bound : Bound) → bound_of_atom atom ≡ Some bound → is_true letters slots atom ≡ int_relation bound.relation (int_of (value_at letters slots bound.place)) bound.number
+  atom_says : (atom : Condition) (bound : Bound) → bound_of_atom atom ≡ Some bound → is_true messages slots atom ≡ int_relation bound.relation (int_of (value_at messages slots bound.place)) bound.number
   atom_says Never bound e = absurd cc
   atom_says (Compares (operand.Sum a) r (operand.Sum b)) bound e = between_says a r b bound e
   atom_says (Compares (operand.Sum a) r (operand.Words b)) bound e = absurd cc
@@ -259,42 +259,42 @@ module _ (letters : List Message) (slots : Assignment) where
   atom_says (Grouped c) bound e = absurd cc
   atom_says (Either a b) bound e = absurd cc
 
-  pub bound_says : (c : Condition) (bound : Bound) → bound_of c ≡ Some bound → is_true letters slots c ≡ int_relation bound.relation (int_of (value_at letters slots bound.place)) bound.number
+  pub bound_says : (c : Condition) (bound : Bound) → bound_of c ≡ Some bound → is_true messages slots c ≡ int_relation bound.relation (int_of (value_at messages slots bound.place)) bound.number
   bound_says c bound e = by (only_atom c) refl e
     where
-      by : (o : Option Condition) → only_atom c ≡ o → option_and_then bound_of_atom o ≡ Some bound → is_true letters slots c ≡ int_relation bound.relation (int_of (value_at letters slots bound.place)) bound.number
+      by : (o : Option Condition) → only_atom c ≡ o → option_and_then bound_of_atom o ≡ Some bound → is_true messages slots c ≡ int_relation bound.relation (int_of (value_at messages slots bound.place)) bound.number
       by None f e = absurd cc
       by (Some atom) f e = only_is c atom f ∙ atom_says atom bound e
 
   -- ---- the value of a place is in its interval
 
   module _ (place : Place) where
-    cut_by_within : (c : Condition) (i : Interval) → is_true letters slots c ≡ true → Within i (int_of (value_at letters slots place)) → Within (cut_by place i (bound_of c)) (int_of (value_at letters slots place))
+    cut_by_within : (c : Condition) (i : Interval) → is_true messages slots c ≡ true → Within i (int_of (value_at messages slots place)) → Within (cut_by place i (bound_of c)) (int_of (value_at messages slots place))
     cut_by_within c i h w = by (bound_of c) refl
       where
-        at : (b : Bound) → bound_of c ≡ Some b → (s : Bool) → is_same_place b.place place ≡ s → Within (if s then cut b.relation b.number i else i) (int_of (value_at letters slots place))
+        at : (b : Bound) → bound_of c ≡ Some b → (s : Bool) → is_same_place b.place place ≡ s → Within (if s then cut b.relation b.number i else i) (int_of (value_at messages slots place))
         at b e false f = w
         at b e true f =
             let same = is_same_place-tells b.place place f in
-            let says : int_relation b.relation (int_of (value_at letters slots place)) b.number ≡ true
-            = ap (λ (p : Place). int_relation b.relation (int_of (value_at letters slots p)) b.number) (sym same) ∙ sym (bound_says c b e) ∙ h in
-            cut_within b.relation b.number i (int_of (value_at letters slots place)) says w
+            let says : int_relation b.relation (int_of (value_at messages slots place)) b.number ≡ true
+            = ap (λ (p : Place). int_relation b.relation (int_of (value_at messages slots p)) b.number) (sym same) ∙ sym (bound_says c b e) ∙ h in
+            cut_within b.relation b.number i (int_of (value_at messages slots place)) says w
 
-        by : (o : Option Bound) → bound_of c ≡ o → Within (cut_by place i o) (int_of (value_at letters slots place))
+        by : (o : Option Bound) → bound_of c ≡ o → Within (cut_by place i o) (int_of (value_at messages slots place))
         by None e = w
         by (Some b) e = at b e (is_same_place b.place place) refl
 
-    all_within : (conjuncts : List Condition) (i : Interval) → makes_all_true letters conjuncts slots ≡ true → Within i (int_of (value_at letters slots place)) → Within (cut_by_all place i conjuncts) (int_of (value_at letters slots place))
+    all_within : (conjuncts : List Condition) (i : Interval) → makes_all_true messages conjuncts slots ≡ true → Within i (int_of (value_at messages slots place)) → Within (cut_by_all place i conjuncts) (int_of (value_at messages slots place))
     all_within [] i h w = w
     all_within (c ∷ conjuncts) i h w =
-        let parts = both_true (is_true letters slots c) (makes_all_true letters conjuncts slots) h in
+        let parts = both_true (is_true messages slots c) (makes_all_true messages conjuncts slots) h in
         all_within conjuncts (cut_by place i (bound_of c)) parts.1 (cut_by_within c i parts.0 w)
 
-    whole_has : AllByRecursion HasValuesInRange letters → Within whole (int_of (value_at letters slots place))
-    whole_has h = inside (int_of (value_at letters slots place)) (value_in_range (value_at letters slots place) (field_in_range (letter_of letters (number_at slots place.pattern)) place.field (letter_in_range letters (number_at slots place.pattern) h)))
+    whole_has : AllByRecursion HasValuesInRange messages → Within whole (int_of (value_at messages slots place))
+    whole_has h = inside (int_of (value_at messages slots place)) (value_in_range (value_at messages slots place) (field_in_range (message_of_slot messages (number_at slots place.pattern)) place.field (message_in_range messages (number_at slots place.pattern) h)))
       where
         inside : (v : ℤ) → FitsSigned w64 v → Within whole v
         inside v f = record { above = omega (arith, ints); below = omega (arith, ints) }
 
-    pub in_interval : (conjuncts : List Condition) → AllByRecursion HasValuesInRange letters → makes_all_true letters conjuncts slots ≡ true → Within (interval_of conjuncts place) (int_of (value_at letters slots place))
+    pub in_interval : (conjuncts : List Condition) → AllByRecursion HasValuesInRange messages → makes_all_true messages conjuncts slots ≡ true → Within (interval_of conjuncts place) (int_of (value_at messages slots place))
     in_interval conjuncts values h = all_within conjuncts whole h (whole_has values)

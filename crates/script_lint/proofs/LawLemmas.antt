@@ -9,7 +9,7 @@ use Rattle.std.proofs.lemmas.List.{append-nil}
 use Rattle.std.proofs.lemmas.Bool.{or_parts}
 use Rattle.join_base.specs.Taken.{contains_number}
 use Rattle.join_base.specs.declared.message.Message.{Message}
-use Rattle.guard_eval.specs.Meaning.{letter_at}
+use Rattle.guard_eval.specs.Meaning.{recorded_message}
 use Rattle.pattern_core.specs.declared.candidate.Candidate.{Candidate}
 use Rattle.pattern_core.specs.declared.definition.Definition.{Definition}
 use Rattle.pattern_core.specs.Assigns.{Assigns}
@@ -28,7 +28,7 @@ use Rattle.fair_semantics.specs.declared.run.Entry.{Entry}
 use Rattle.fair_semantics.specs.declared.run.Firing.{Firing}
 use Rattle.fair_semantics.specs.declared.run.Limits.{Limits}
 use Rattle.fair_semantics.specs.Fair.{Sent, fair, rules_of, setting_of}
-use Rattle.fair_semantics.specs.Step.{definitions_of, letters_of, opening}
+use Rattle.fair_semantics.specs.Step.{definitions_of, recorded_messages, opening}
 use Rattle.fair_semantics.proofs.ListLemmas.{each_in, each_left}
 use Rattle.script_lint.specs.declared.finding.Finding.{Finding}
 use Rattle.script_lint.specs.declared.finding.Finding.TheVariants.{Dead, Narrow, Shadowed, Idle}
@@ -76,25 +76,25 @@ placed (rule ∷ rules) front n d (inr h) =
 
 -- ---- the choice is of no definition with a finding
 
-module _ (letters : List Message) (live : List ℕ) (values : AllByRecursion HasValuesInRange letters) (earlier : List Rule) (rule : Rule) (later : List Rule) (c : Candidate) (number : c.rule ≡ 1 + length earlier) where
-  module _ (chosen : IsChosen letters live (definitions_of (earlier ++ rule ∷ later)) (Some c)) where
+module _ (messages : List Message) (live : List ℕ) (values : AllByRecursion HasValuesInRange messages) (earlier : List Rule) (rule : Rule) (later : List Rule) (c : Candidate) (number : c.rule ≡ 1 + length earlier) where
+  module _ (chosen : IsChosen messages live (definitions_of (earlier ++ rule ∷ later)) (Some c)) where
     is_it : rule.definition ≡ chosen.0.definition
     is_it = numbered_is 1 earlier rule later c.rule chosen.0.definition number chosen.0.numbered
 
-    assigned : Assigns letters (seen_of rule.definition (length letters) live) rule.definition.patterns (slots_of c.taken)
-    assigned = let At : Definition → Type 0 = λ x. Assigns letters (seen_of x (length letters) live) x.patterns (slots_of c.taken) in subst At (sym is_it) chosen.0.assigns
+    assigned : Assigns messages (seen_of rule.definition (length messages) live) rule.definition.patterns (slots_of c.taken)
+    assigned = let At : Definition → Type 0 = λ x. Assigns messages (seen_of x (length messages) live) x.patterns (slots_of c.taken) in subst At (sym is_it) chosen.0.assigns
 
-    guarded : makes_all_true letters rule.definition.conjuncts (slots_of c.taken) ≡ true
-    guarded = let At : Definition → Type 0 = λ x. makes_all_true letters x.conjuncts (slots_of c.taken) ≡ true in subst At (sym is_it) chosen.0.true_guard
+    guarded : makes_all_true messages rule.definition.conjuncts (slots_of c.taken) ≡ true
+    guarded = let At : Definition → Type 0 = λ x. makes_all_true messages x.conjuncts (slots_of c.taken) ≡ true in subst At (sym is_it) chosen.0.true_guard
 
     not_shadowed : (by : ℕ) → first_shadow 1 earlier rule.definition ≡ Some by → ⊥
     not_shadowed by e =
         let s = shadow_of 1 earlier rule.definition by e in
-        let also = also_matches letters live s.rule.definition rule.definition c.taken values s.shadow assigned guarded in
+        let also = also_matches messages live s.rule.definition rule.definition c.taken values s.shadow assigned guarded in
         let other : Candidate = record { rule = by; taken = c.taken } in
         let whole : s.front ++ s.rule ∷ (s.back ++ rule ∷ later) ≡ earlier ++ rule ∷ later = sym (append_assoc s.front (s.rule ∷ s.back) (rule ∷ later)) ∙ ap (λ (rs : List Rule). rs ++ rule ∷ later) s.are in
         let Numbered : List Rule → Type 0 = λ rs. NumberedFrom 1 (definitions_of rs) by s.rule.definition in
-        let match : IsMatch letters live (definitions_of (earlier ++ rule ∷ later)) other = record {
+        let match : IsMatch messages live (definitions_of (earlier ++ rule ∷ later)) other = record {
           definition = s.rule.definition;
           numbered = subst Numbered whole (numbered 1 s.front s.rule (s.back ++ rule ∷ later) by s.number);
           assigns = also.assigns;
@@ -114,12 +114,12 @@ module _ (letters : List Message) (live : List ℕ) (values : AllByRecursion Has
         shadow (Some by) f = absurd (not_shadowed by f)
 
         by_narrow : (b : Bool) → is_narrow rule.definition ≡ b → (if b then Some (Narrow actor (length earlier + 1)) else option_map (Shadowed actor (length earlier + 1)) (first_shadow 1 earlier rule.definition)) ≡ None
-        by_narrow true f = absurd (narrow_has_none letters live rule.definition c.taken assigned f)
+        by_narrow true f = absurd (narrow_has_none messages live rule.definition c.taken assigned f)
         by_narrow false f = shadow (first_shadow 1 earlier rule.definition) refl
 
         by_dead : (b : Bool) → is_dead rule.definition ≡ b
             → (if b then Some (Dead actor (length earlier + 1)) else if is_narrow rule.definition then Some (Narrow actor (length earlier + 1)) else option_map (Shadowed actor (length earlier + 1)) (first_shadow 1 earlier rule.definition)) ≡ None
-        by_dead true f = absurd (dead_is_false letters (slots_of c.taken) rule.definition values guarded f)
+        by_dead true f = absurd (dead_is_false messages (slots_of c.taken) rule.definition values guarded f)
         by_dead false f = by_narrow (is_narrow rule.definition) refl
 
 -- ---- the finding that is listed
@@ -251,24 +251,24 @@ taken_from from (first ∷ actors) (suc place) own kind e m =
 -- ---- the laws
 
 fired_of : (plan : Plan) (actor : ℕ) (limits : Limits) (feeds : ℕ) (sent : List Sent) → AreInRange sent → (entry : Entry) → IsIn entry (fair plan actor limits feeds sent).entries → (firing : Firing) → entry.firing ≡ Some firing
-    → Fired (setting_of plan actor limits).rules (letters_of (fair plan actor limits feeds sent).entries) firing × AllByRecursion HasValuesInRange (letters_of (fair plan actor limits feeds sent).entries)
+    → Fired (setting_of plan actor limits).rules (recorded_messages (fair plan actor limits feeds sent).entries) firing × AllByRecursion HasValuesInRange (recorded_messages (fair plan actor limits feeds sent).entries)
 fired_of plan actor limits feeds sent values entry m firing e =
     let rules : List Rule = (setting_of plan actor limits).rules in
     let entries : List Entry = (fair plan actor limits feeds sent).entries in
     let sound = all_sound (setting_of plan actor limits) sent (opening feeds (length plan.actors)) (record { firings = tt; values = tt }) values in
-    let Each : Entry → Type 0 = λ x. IfSome x.firing (Fired rules (letters_of entries)) in
-    let P : Option Firing → Type 0 = λ o. IfSome o (Fired rules (letters_of entries)) in
+    let Each : Entry → Type 0 = λ x. IfSome x.firing (Fired rules (recorded_messages entries)) in
+    let P : Option Firing → Type 0 = λ o. IfSome o (Fired rules (recorded_messages entries)) in
     (subst P e (each_in Each entries sound.firings entry m), sound.values)
 
 -- what fired, and the rule whose definition it is
-record Chosen (rules : List Rule) (letters : List Message) (firing : Firing) : Type 0 where
-  fired : Fired rules letters firing
+record Chosen (rules : List Rule) (messages : List Message) (firing : Firing) : Type 0 where
+  fired : Fired rules messages firing
   values : AllByRecursion HasValuesInRange fired.before
   placed_at : Placed rules fired.chosen.rule
   chosen_is : IsChosen fired.before fired.live (definitions_of (placed_at.earlier ++ placed_at.rule ∷ placed_at.later)) (Some fired.chosen)
 
-chosen_of : (rules : List Rule) (letters : List Message) (firing : Firing) → Fired rules letters firing → AllByRecursion HasValuesInRange letters → Chosen rules letters firing
-chosen_of rules letters firing f values =
+chosen_of : (rules : List Rule) (messages : List Message) (firing : Firing) → Fired rules messages firing → AllByRecursion HasValuesInRange messages → Chosen rules messages firing
+chosen_of rules messages firing f values =
     let Is : Option Candidate → Type 0 = λ o. IsChosen f.before f.live (definitions_of rules) o in
     let chosen = subst Is f.choice_is (choice_is_chosen f.before f.live (definitions_of rules)) in
     let p = placed rules [] f.chosen.rule chosen.0.definition chosen.0.numbered in
@@ -281,8 +281,8 @@ chosen_of rules letters firing f values =
       chosen_is = subst Of' (sym p.are) chosen;
     }
 
-chosen_has_none : (rules : List Rule) (letters : List Message) (firing : Firing) (c : Chosen rules letters firing) (actor : ℕ) → finding_of actor c.placed_at.earlier c.placed_at.rule.definition ≡ None
-chosen_has_none rules letters firing c actor =
+chosen_has_none : (rules : List Rule) (messages : List Message) (firing : Firing) (c : Chosen rules messages firing) (actor : ℕ) → finding_of actor c.placed_at.earlier c.placed_at.rule.definition ≡ None
+chosen_has_none rules messages firing c actor =
     no_finding c.fired.before c.fired.live c.values c.placed_at.earlier c.placed_at.rule c.placed_at.later c.fired.chosen c.placed_at.number_is c.chosen_is actor (finding_of actor c.placed_at.earlier c.placed_at.rule.definition) refl
 
 pub findings_never_fire : FindingsNeverFire
@@ -293,7 +293,7 @@ findings_never_fire plan actor limits feeds sent values entry m firing e finding
       | inr r ↦ let i = idle_is (kinds_from 0 plan.actors) 0 plan.kinds finding r in subst (IsAbout actor firing.rule) (sym i.1) about
     ]
   where
-    fires : Fired (setting_of plan actor limits).rules (letters_of (fair plan actor limits feeds sent).entries) firing → AllByRecursion HasValuesInRange (letters_of (fair plan actor limits feeds sent).entries) → ListedFrom 0 plan.actors finding → ⊥
+    fires : Fired (setting_of plan actor limits).rules (recorded_messages (fair plan actor limits feeds sent).entries) firing → AllByRecursion HasValuesInRange (recorded_messages (fair plan actor limits feeds sent).entries) → ListedFrom 0 plan.actors finding → ⊥
     fires f values q =
         let at = q.listed_at in
         let is = (of_by q.actor at.earlier at.rule.definition finding at.found).about actor firing.rule about in
@@ -311,12 +311,12 @@ findings_never_fire plan actor limits feeds sent values entry m firing e finding
 
 -- ---- of a kind that is not taken there is no number in a match
 
-matched_kind : (letters : List Message) (live kinds taken : List ℕ) (number : ℕ) → Assigns letters live kinds (slots_of taken) → IsIn number taken → (kind : ℕ) × IsIn kind kinds × (is_of_kind (letter_at letters number) kind ≡ true)
-matched_kind letters live [] [] number a m = absurd m
-matched_kind letters live [] (n ∷ taken) number a m = absurd a
-matched_kind letters live (k ∷ kinds) [] number a m = absurd m
-matched_kind letters live (k ∷ kinds) (n ∷ taken) number a (inl e) = (k, inl refl, ap (λ (x : ℕ). is_of_kind (letter_at letters x) k) (sym e) ∙ a.0.of_kind)
-matched_kind letters live (k ∷ kinds) (n ∷ taken) number a (inr m) = let later = matched_kind letters live kinds taken number a.1 m in (later.0, inr later.1, later.2)
+matched_kind : (messages : List Message) (live kinds taken : List ℕ) (number : ℕ) → Assigns messages live kinds (slots_of taken) → IsIn number taken → (kind : ℕ) × IsIn kind kinds × (is_of_kind (recorded_message messages number) kind ≡ true)
+matched_kind messages live [] [] number a m = absurd m
+matched_kind messages live [] (n ∷ taken) number a m = absurd a
+matched_kind messages live (k ∷ kinds) [] number a m = absurd m
+matched_kind messages live (k ∷ kinds) (n ∷ taken) number a (inl e) = (k, inl refl, ap (λ (x : ℕ). is_of_kind (recorded_message messages x) k) (sym e) ∙ a.0.of_kind)
+matched_kind messages live (k ∷ kinds) (n ∷ taken) number a (inr m) = let later = matched_kind messages live kinds taken number a.1 m in (later.0, inr later.1, later.2)
 
 other_kind : (a b c : ℕ) → (a == b) ≡ true → (c == b) ≡ false → (a == c) ≡ false
 other_kind a b c e f = grind (arith, nat_tests)
@@ -326,9 +326,9 @@ other_at [] later n k kind e f = absurd cc
 other_at (x ∷ before) later zero k kind e f = other_kind x.kind k kind e f
 other_at (x ∷ before) later (suc n) k kind e f = other_at before later n k kind e f
 
-other_letter : (before later : List Message) (n k kind : ℕ) → is_of_kind (letter_at before n) k ≡ true → (kind == k) ≡ false → is_of_kind (letter_at (before ++ later) n) kind ≡ false
-other_letter before later zero k kind e f = refl
-other_letter before later (suc n) k kind e f = other_at before later n k kind e f
+other_message : (before later : List Message) (n k kind : ℕ) → is_of_kind (recorded_message before n) k ≡ true → (kind == k) ≡ false → is_of_kind (recorded_message (before ++ later) n) kind ≡ false
+other_message before later zero k kind e f = refl
+other_message before later (suc n) k kind e f = other_at before later n k kind e f
 
 apart_from : (kinds : List ℕ) (kind k : ℕ) → contains_number kinds kind ≡ false → IsIn k kinds → (kind == k) ≡ false
 apart_from [] kind k e m = absurd m
@@ -339,25 +339,25 @@ no_rule : (earlier : List Rule) (rule : Rule) (later : List Rule) → earlier ++
 no_rule [] rule later e = absurd cc
 no_rule (x ∷ earlier) rule later e = absurd cc
 
-untaken_by : (plan : Plan) (actor : ℕ) (letters : List Message) (firing : Firing) (kind number : ℕ) → contains_number (kinds_from 0 plan.actors) kind ≡ false → IsIn number firing.taken
-    → (o : Option ActorPlan) → slice_get plan.actors actor ≡ o → Chosen (rules_of o) letters firing → is_of_kind (letter_at letters number) kind ≡ false
-untaken_by plan actor letters firing kind number idle m None e c = absurd (no_rule c.placed_at.earlier c.placed_at.rule c.placed_at.later c.placed_at.are)
-untaken_by plan actor letters firing kind number idle m (Some own) e c =
+untaken_by : (plan : Plan) (actor : ℕ) (messages : List Message) (firing : Firing) (kind number : ℕ) → contains_number (kinds_from 0 plan.actors) kind ≡ false → IsIn number firing.taken
+    → (o : Option ActorPlan) → slice_get plan.actors actor ≡ o → Chosen (rules_of o) messages firing → is_of_kind (recorded_message messages number) kind ≡ false
+untaken_by plan actor messages firing kind number idle m None e c = absurd (no_rule c.placed_at.earlier c.placed_at.rule c.placed_at.later c.placed_at.are)
+untaken_by plan actor messages firing kind number idle m (Some own) e c =
     let at = c.placed_at in
     let f = c.fired in
     let a = assigned f.before f.live c.values at.earlier at.rule at.later f.chosen at.number_is c.chosen_is in
     let In : List ℕ → Type 0 = λ ns. IsIn number ns in
     let k = matched_kind f.before (seen_of at.rule.definition (length f.before) f.live) at.rule.definition.patterns f.chosen.taken number a (subst In (sym f.taken) m) in
-    let none = chosen_has_none own.rules letters firing c actor in
+    let none = chosen_has_none own.rules messages firing c actor in
     let behind = taken_behind actor [] own.rules at.earlier at.rule at.later k.0 at.are none k.1 in
     let start : actor ≡ 0 + actor = omega arith in
     let At : ℕ → Type 0 = λ n. IsIn k.0 (kinds_behind n [] own.rules) in
     let taken = taken_from 0 plan.actors actor own k.0 e (subst At start behind) in
     let apart = apart_from (kinds_from 0 plan.actors) kind k.0 idle taken in
-    ap (λ (ls : List Message). is_of_kind (letter_at ls number) kind) (sym f.are) ∙ other_letter f.before f.later number k.0 kind k.2 apart
+    ap (λ (ls : List Message). is_of_kind (recorded_message ls number) kind) (sym f.are) ∙ other_message f.before f.later number k.0 kind k.2 apart
 
 pub idle_kinds_are_never_taken : IdleKindsAreNeverTaken
 idle_kinds_are_never_taken plan actor limits feeds sent values entry m firing e kind l number k =
-    let letters : List Message = letters_of (fair plan actor limits feeds sent).entries in
+    let messages : List Message = recorded_messages (fair plan actor limits feeds sent).entries in
     let f = fired_of plan actor limits feeds sent values entry m firing e in
-    untaken_by plan actor letters firing kind number (idle_untaken plan kind l) k (slice_get plan.actors actor) refl (chosen_of (rules_of (slice_get plan.actors actor)) letters firing f.0 f.1)
+    untaken_by plan actor messages firing kind number (idle_untaken plan kind l) k (slice_get plan.actors actor) refl (chosen_of (rules_of (slice_get plan.actors actor)) messages firing f.0 f.1)

@@ -33,13 +33,13 @@ use Rattle.script_lint.proofs.SameLemmas.{same_condition}
 
 -- ---- what it sees
 
-assigns_more : (letters : List Message) (live more : List ℕ) → ((n : ℕ) → IsIn n live → IsIn n more) → (kinds : List ℕ) (slots : Assignment) → Assigns letters live kinds slots → Assigns letters more kinds slots
-assigns_more letters live more sees [] [] a = tt
-assigns_more letters live more sees [] (slot ∷ slots) a = absurd a
-assigns_more letters live more sees (kind ∷ kinds) [] a = absurd a
-assigns_more letters live more sees (kind ∷ kinds) (None ∷ slots) a = assigns_more letters live more sees kinds slots a
-assigns_more letters live more sees (kind ∷ kinds) (Some n ∷ slots) a =
-    (record { is_live = sees n a.0.is_live; of_kind = a.0.of_kind; apart = a.0.apart }, assigns_more letters live more sees kinds slots a.1)
+assigns_more : (messages : List Message) (live more : List ℕ) → ((n : ℕ) → IsIn n live → IsIn n more) → (kinds : List ℕ) (slots : Assignment) → Assigns messages live kinds slots → Assigns messages more kinds slots
+assigns_more messages live more sees [] [] a = tt
+assigns_more messages live more sees [] (slot ∷ slots) a = absurd a
+assigns_more messages live more sees (kind ∷ kinds) [] a = absurd a
+assigns_more messages live more sees (kind ∷ kinds) (None ∷ slots) a = assigns_more messages live more sees kinds slots a
+assigns_more messages live more sees (kind ∷ kinds) (Some n ∷ slots) a =
+    (record { is_live = sees n a.0.is_live; of_kind = a.0.of_kind; apart = a.0.apart }, assigns_more messages live more sees kinds slots a.1)
 
 seen_too : (earlier window : Option ℕ) (r n : ℕ) → sees_as_much earlier window ≡ true → is_seen window r n ≡ true → is_seen earlier r n ≡ true
 seen_too None window r n e s = refl
@@ -53,25 +53,25 @@ sees_more earlier d r live e n m =
 
 -- ---- its guard
 
-module _ (letters : List Message) (slots : Assignment) (values : AllByRecursion HasValuesInRange letters) (conjuncts : List Condition) (true_guard : makes_all_true letters conjuncts slots ≡ true) where
-  same_holds : (c : Condition) → list_any (is_same c) conjuncts ≡ true → is_true letters slots c ≡ true
+module _ (messages : List Message) (slots : Assignment) (values : AllByRecursion HasValuesInRange messages) (conjuncts : List Condition) (true_guard : makes_all_true messages conjuncts slots ≡ true) where
+  same_holds : (c : Condition) → list_any (is_same c) conjuncts ≡ true → is_true messages slots c ≡ true
   same_holds c e =
       let found = any_in (is_same c) conjuncts e in
-      ap (is_true letters slots) (same_condition c found.0 found.2) ∙ all_at (is_true letters slots) conjuncts found.0 found.1 true_guard
+      ap (is_true messages slots) (same_condition c found.0 found.2) ∙ all_at (is_true messages slots) conjuncts found.0 found.1 true_guard
 
-  kept_holds : (c : Condition) → is_kept_within conjuncts (bound_of c) ≡ true → is_true letters slots c ≡ true
+  kept_holds : (c : Condition) → is_kept_within conjuncts (bound_of c) ≡ true → is_true messages slots c ≡ true
   kept_holds c e = by (bound_of c) refl e
     where
-      by : (o : Option Bound) → bound_of c ≡ o → is_kept_within conjuncts o ≡ true → is_true letters slots c ≡ true
+      by : (o : Option Bound) → bound_of c ≡ o → is_kept_within conjuncts o ≡ true → is_true messages slots c ≡ true
       by None f e = absurd cc
-      by (Some b) f e = bound_says letters slots c b f ∙ throughout (interval_of conjuncts b.place) b.relation b.number _ e (in_interval letters slots b.place conjuncts values true_guard)
+      by (Some b) f e = bound_says messages slots c b f ∙ throughout (interval_of conjuncts b.place) b.relation b.number _ e (in_interval messages slots b.place conjuncts values true_guard)
 
-  always_holds : (c : Condition) → is_always_true c ≡ true → is_true letters slots c ≡ true
+  always_holds : (c : Condition) → is_always_true c ≡ true → is_true messages slots c ≡ true
   always_holds c e =
       let parts = both_true (is_constant c) (is_true [] [] c) e in
-      constant letters slots c (not-true (has_some (needs_of c)) parts.0) ∙ parts.1
+      constant messages slots c (not-true (has_some (needs_of c)) parts.0) ∙ parts.1
 
-  implied_holds : (c : Condition) → is_implied conjuncts c ≡ true → is_true letters slots c ≡ true
+  implied_holds : (c : Condition) → is_implied conjuncts c ≡ true → is_true messages slots c ≡ true
   implied_holds c e =
       elim (or_cases (list_any (is_same c) conjuncts) (is_kept_within conjuncts (bound_of c) || is_always_true c) e) [
         | inl f ↦ same_holds c f
@@ -79,21 +79,21 @@ module _ (letters : List Message) (slots : Assignment) (values : AllByRecursion 
       ]
 
 -- a complete match of the definition is one of what shadows it
-pub record AlsoMatches (letters : List Message) (live : List ℕ) (earlier : Definition) (taken : List ℕ) : Type 0 where
-  pub assigns : Assigns letters (seen_of earlier (length letters) live) earlier.patterns (slots_of taken)
-  pub true_guard : makes_all_true letters earlier.conjuncts (slots_of taken) ≡ true
+pub record AlsoMatches (messages : List Message) (live : List ℕ) (earlier : Definition) (taken : List ℕ) : Type 0 where
+  pub assigns : Assigns messages (seen_of earlier (length messages) live) earlier.patterns (slots_of taken)
+  pub true_guard : makes_all_true messages earlier.conjuncts (slots_of taken) ≡ true
 
-pub also_matches : (letters : List Message) (live : List ℕ) (earlier d : Definition) (taken : List ℕ) → AllByRecursion HasValuesInRange letters → shadows earlier d ≡ true
-    → Assigns letters (seen_of d (length letters) live) d.patterns (slots_of taken) → makes_all_true letters d.conjuncts (slots_of taken) ≡ true → AlsoMatches letters live earlier taken
-also_matches letters live earlier d taken values e a h =
+pub also_matches : (messages : List Message) (live : List ℕ) (earlier d : Definition) (taken : List ℕ) → AllByRecursion HasValuesInRange messages → shadows earlier d ≡ true
+    → Assigns messages (seen_of d (length messages) live) d.patterns (slots_of taken) → makes_all_true messages d.conjuncts (slots_of taken) ≡ true → AlsoMatches messages live earlier taken
+also_matches messages live earlier d taken values e a h =
     let parts = both_true (numbers_eq earlier.patterns d.patterns) (sees_as_much earlier.window d.window && list_all (is_implied d.conjuncts) earlier.conjuncts) e in
     let more = both_true (sees_as_much earlier.window d.window) (list_all (is_implied d.conjuncts) earlier.conjuncts) parts.1 in
     let kinds = (bytes_eq-Decides earlier.patterns d.patterns).0 parts.0 in
-    let seen : List ℕ = seen_of earlier (length letters) live in
-    let Match : List ℕ → Type 0 = λ ks. Assigns letters seen ks (slots_of taken) in
+    let seen : List ℕ = seen_of earlier (length messages) live in
+    let Match : List ℕ → Type 0 = λ ks. Assigns messages seen ks (slots_of taken) in
     record {
-      assigns = subst Match (sym kinds) (assigns_more letters (seen_of d (length letters) live) seen (sees_more earlier d (length letters) live more.0) d.patterns (slots_of taken) a);
-      true_guard = all_from (is_implied d.conjuncts) (is_true letters (slots_of taken)) (implied_holds letters (slots_of taken) values d.conjuncts h) earlier.conjuncts more.1;
+      assigns = subst Match (sym kinds) (assigns_more messages (seen_of d (length messages) live) seen (sees_more earlier d (length messages) live more.0) d.patterns (slots_of taken) a);
+      true_guard = all_from (is_implied d.conjuncts) (is_true messages (slots_of taken)) (implied_holds messages (slots_of taken) values d.conjuncts h) earlier.conjuncts more.1;
     }
 
 -- ---- where it stands

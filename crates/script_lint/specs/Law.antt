@@ -5,7 +5,7 @@ use Rattle.std.specs.List.{AllByRecursion}
 use Rattle.join_base.specs.declared.message.Value.{Value}
 use Rattle.join_base.specs.declared.message.Value.TheVariants.{Int, Words}
 use Rattle.join_base.specs.declared.message.Message.{Message}
-use Rattle.guard_eval.specs.Meaning.{letter_at}
+use Rattle.guard_eval.specs.Meaning.{recorded_message}
 use Rattle.pattern_core.specs.Matches.{is_of_kind}
 use Rattle.pattern_core.specs.Members.{IsIn}
 use Rattle.script_types.specs.declared.plan.Plan.{Plan}
@@ -13,7 +13,7 @@ use Rattle.fair_semantics.specs.declared.run.Limits.{Limits}
 use Rattle.fair_semantics.specs.declared.run.Entry.{Entry}
 use Rattle.fair_semantics.specs.declared.run.Firing.{Firing}
 use Rattle.fair_semantics.specs.Fair.{Sent, fair}
-use Rattle.fair_semantics.specs.Step.{letters_of}
+use Rattle.fair_semantics.specs.Step.{recorded_messages}
 use Rattle.script_lint.specs.declared.finding.Finding.{Finding}
 use Rattle.script_lint.specs.declared.finding.Finding.TheVariants.{Dead, Narrow, Shadowed, Idle}
 use Rattle.script_lint.specs.Findings.{findings}
@@ -46,4 +46,4 @@ FindingsNeverFire = (plan : Plan) (actor : ℕ) (limits : Limits) (feeds : ℕ) 
 abbrev pub IdleKindsAreNeverTaken : Type 0
 IdleKindsAreNeverTaken = (plan : Plan) (actor : ℕ) (limits : Limits) (feeds : ℕ) (sent : List Sent) → AreInRange sent
     → (entry : Entry) → IsIn entry (fair plan actor limits feeds sent).entries → (firing : Firing) → entry.firing ≡ Some firing → (kind : ℕ) → IsIn (Idle kind) (findings plan)
-    → (number : ℕ) → IsIn number firing.taken → is_of_kind (letter_at (letters_of (fair plan actor limits feeds sent).entries) number) kind ≡ false
+    → (number : ℕ) → IsIn number firing.taken → is_of_kind (recorded_message (recorded_messages (fair plan actor limits feeds sent).entries) number) kind ≡ false

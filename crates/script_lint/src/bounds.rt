@@ -25,7 +25,8 @@ pub struct Interval {
 
 /// The atom of a conjunct that has just one.
 pub fn only_atom(conjunct: &Conjunct) -> Option<&Atom>
-    ensures { MatchOption result (only_atom (conjunct_condition conjunct.now) ≡ None) (λ atom. only_atom (conjunct_condition conjunct.now) ≡ Some (atom_condition atom.now)) }
+    ensures { MatchOption result (only_atom (conjunct_condition conjunct.now) ≡ None)
+        (λ atom. only_atom (conjunct_condition conjunct.now) ≡ Some (atom_condition atom.now)) }
 {
     if conjunct.atoms.len() == 1 {
         Some(&conjunct.atoms[0])

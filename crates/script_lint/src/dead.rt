@@ -12,7 +12,8 @@ use pattern_core::Definition;
 
 // A text place and the fixed text that it is compared with.
 fn fixing_by<'a>(left: &'a WordsLeaf, right: &'a WordsLeaf) -> Option<(Place, &'a Text)>
-    ensures { MatchOption result (fixing_by left.now right.now ≡ None) (λ f. fixing_by left.now right.now ≡ Some (f.0, f.1.now)) }
+    ensures { MatchOption result (fixing_by left.now right.now ≡ None) (λ f. fixing_by left.now right.now
+        ≡ Some (f.0, f.1.now)) }
 {
     match (left, right) {
         (WordsLeaf::Field(place), WordsLeaf::Fixed(text)) => Some((*place, text)),
@@ -22,7 +23,8 @@ fn fixing_by<'a>(left: &'a WordsLeaf, right: &'a WordsLeaf) -> Option<(Place, &'
 }
 
 fn fixing_of_atom(atom: &Atom) -> Option<(Place, &Text)>
-    ensures { MatchOption result (fixing_of_atom (atom_condition atom.now) ≡ None) (λ f. fixing_of_atom (atom_condition atom.now) ≡ Some (f.0, f.1.now)) }
+    ensures { MatchOption result (fixing_of_atom (atom_condition atom.now) ≡ None) (λ f. fixing_of_atom
+        (atom_condition atom.now) ≡ Some (f.0, f.1.now)) }
 {
     match atom {
         Atom::Compare {
@@ -35,7 +37,8 @@ fn fixing_of_atom(atom: &Atom) -> Option<(Place, &Text)>
 }
 
 fn fixing_of(conjunct: &Conjunct) -> Option<(Place, &Text)>
-    ensures { MatchOption result (fixing_of (conjunct_condition conjunct.now) ≡ None) (λ f. fixing_of (conjunct_condition conjunct.now) ≡ Some (f.0, f.1.now)) }
+    ensures { MatchOption result (fixing_of (conjunct_condition conjunct.now) ≡ None)
+        (λ f. fixing_of (conjunct_condition conjunct.now) ≡ Some (f.0, f.1.now)) }
 {
     match only_atom(conjunct) {
         Some(atom) => fixing_of_atom(atom),

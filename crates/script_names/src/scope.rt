@@ -47,7 +47,8 @@ impl<'a> Messages<'a> {
 
     /// The fields of the first message of this name.
     pub fn fields_of(&self, name: &[u8]) -> Option<&'a [FieldDecl]>
-        ensures { option_map (λ fields. fields.now) result ≡ option_map (λ m. m.fields) (message_of self.now.decls.now name.now) }
+        ensures { option_map (λ fields. fields.now) result ≡ option_map (λ m. m.fields)
+            (message_of self.now.decls.now name.now) }
     {
         match self.names.number_of(name) {
             Some(number) => Some(self.decls[number].fields.as_slice()),
@@ -118,7 +119,8 @@ fn push_variables<'a>(
     pattern: usize,
     decl: &'a PatternDecl,
 ) -> Result<(), NoMemory>
-    ensures { OnOk result (variables.new ≡ variables.old ++ variables_in pattern (sorts_of messages.now.decls.now decl.now.kind.name) 0 decl.now.variables) }
+    ensures { OnOk result (variables.new ≡ variables.old ++ variables_in pattern (sorts_of messages.now.decls.now
+        decl.now.kind.name) 0 decl.now.variables) }
 {
     let fields = messages.fields_of(decl.kind.name.bytes());
     for (field, (place, name)) in decl.variables.as_slice().iter().enumerate() {

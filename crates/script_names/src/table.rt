@@ -24,7 +24,8 @@ impl<'a, T> Model for NameTable<'a, T> {
 
     ghost view = { λ t. map (λ r. (r.0.now, r.1)) t.rows.items };
 
-    ghost invariant = { λ t. (name : List ℕ) → get_by (λ key. bytes_eq name key.now) t.numbers ≡ number_of name (map (λ r. r.0.now) t.rows.items) };
+    ghost invariant = { λ t. (name : List ℕ) → get_by (λ key. bytes_eq name key.now) t.numbers
+        ≡ number_of name (map (λ r. r.0.now) t.rows.items) };
 }
 
 impl<'a, T> NameTable<'a, T> {

@@ -43,7 +43,8 @@ fn condition_of(
     decl: &ConjunctDecl,
 ) -> Result<Conjunct, NoMemory>
     requires small { AreSmallAtoms (conjunct_view decl.now) }
-    ensures { IfOk result (λ conjunct. conjunct_condition conjunct ≡ condition_of variables.now (conjunct_view decl.now)) }
+    ensures { IfOk result (λ conjunct. conjunct_condition conjunct ≡ condition_of variables.now
+        (conjunct_view decl.now)) }
 {
     let mut conjunct = Conjunct::new(alloc);
     for decl in &decl.atoms {

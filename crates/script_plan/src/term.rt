@@ -85,7 +85,8 @@ fn sum_operand(
     name: Option<&[u8]>,
 ) -> Result<Operand, NoMemory>
     requires { IsSmallTerm leaves.now }
-    ensures { IfOk result (λ operand. operand ≡ sum_operand variables.now leaves.now (option_map (λ name. name.now) name.entry)) }
+    ensures { IfOk result (λ operand. operand ≡ sum_operand variables.now leaves.now (option_map (λ name. name.now)
+        name.entry)) }
 {
     if let Some(name) = name {
         if variables.sort_of(name) == Sort::Words {

@@ -222,9 +222,9 @@ fn token_at(alloc: Global, text: &[u8]) -> Result<(Kind, usize), NoMemory>
 }
 
 /// Appends the tokens that stand at the front of the rest of a text, each with its place. The answer is the rest behind
-/// them, and then they are `count`; or `None` where the text has no more tokens, and then they are at most `count`. Where no
-/// token begins, the last one is `Bad`. After `NoMemory` those that stood there before stand there still, and at most
-/// `count` behind them.
+/// them, and then they are `count`; or `None` where the text has no more tokens, and then they are at most `count`.
+/// Where no token begins, the last one is `Bad`. After `NoMemory` those that stood there before stand there still, and
+/// at most `count` behind them.
 #[tactic(auto, using(crate::proofs::ListLemmas::kept_more))]
 pub fn push_tokens<'a>(
     alloc: Global,
@@ -235,10 +235,12 @@ pub fn push_tokens<'a>(
 ) -> Result<Option<&'a [u8]>, NoMemory>
     requires within { length rest.now ≤ length text.now }
     requires front { AreFront text.now tokens.old.items rest.now }
-    ensures pushed { IfOk result (λ next. MatchOption next (AreTokens (length text.now) text.now tokens.new.items) (λ r. AreFront text.now tokens.new.items r.now)) }
+    ensures pushed { IfOk result (λ next. MatchOption next (AreTokens (length text.now) text.now tokens.new.items)
+        (λ r. AreFront text.now tokens.new.items r.now)) }
     ensures shorter { IfOk result (λ next. MatchOption next ⊤ (λ r. length r.now + count ≤ length rest.now)) }
     ensures few { length tokens.new.items ≤ length tokens.old.items + count }
-    ensures as_many { IfOk result (λ next. MatchOption next ⊤ (λ r. length tokens.new.items ≡ length tokens.old.items + count)) }
+    ensures as_many { IfOk result (λ next. MatchOption next ⊤ (λ r. length tokens.new.items
+        ≡ length tokens.old.items + count)) }
     ensures kept { take (length tokens.old.items) tokens.new.items ≡ tokens.old.items }
 {
     let mut left = rest;

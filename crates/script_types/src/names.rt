@@ -5,8 +5,8 @@ ghost use Rattle.script_types.specs.Names.{name_of_actor, name_of_kind};
 use crate::plan::Plan;
 use join_base::{Bytes, NoMemory};
 
-/// Appends the name of the kind of a number, counted from 0, and nothing where the plan has none. Without memory the bytes are
-/// as they were.
+/// Appends the name of the kind of a number, counted from 0, and nothing where the plan has none. Without memory the
+/// bytes are as they were.
 pub fn write_kind_name(text: &mut Bytes, plan: &Plan, kind: u32) -> Result<(), NoMemory>
     ensures ok { OnOk result (text.new ≡ text.old ++ name_of_kind plan.now kind) }
     ensures err { OnErr result (text.new ≡ text.old) }

@@ -23,7 +23,7 @@ use Rattle.script_types.specs.declared.plan.Plan.{Plan}
 use Rattle.sensor_feed.specs.Feed.{Post, Record, actor_names, counted_values, feed_of, kind_names, message_at, message_of, message_with, post_of, posts_from, records_of, value_of, values_of, with_post}
 use Rattle.fair_semantics.specs.Fits.{MessageFits, PostFits, ValueFits}
 use Rattle.fair_semantics.specs.Step.{are_of_sorts, fits_sorts}
-use Rattle.sensor_feed.specs.Gives.{Gives}
+use Rattle.sensor_feed.specs.Gives.{GivesPosts}
 use Rattle.sensor_feed.specs.Reads.{map_ok, then_ok}
 use Rattle.sensor_feed.specs.declared.fault.FeedCause.{FeedCause}
 use Rattle.sensor_feed.specs.declared.fault.FeedCause.TheVariants.{BadInt, NotText, TooLong, UnknownActor, UnknownMessage, WrongCount}
@@ -190,6 +190,6 @@ module _ (plan : Plan) where
           let m = mapped (λ (more : List Post). post ∷ more) (posts_from plan (row + 1) others) posts e in
           subst (AllByRecursion (PostFits plan)) m.result (post_fits first post given, fit m.first (sym next ∙ m.value))
 
-  pub answer_fits : (bytes : List ℕ) (result : Result (List Post) FeedFault) → Gives result (feed_of plan bytes) → IfOk result (AllByRecursion (PostFits plan))
+  pub answer_fits : (bytes : List ℕ) (result : Result (List Post) FeedFault) → GivesPosts result (feed_of plan bytes) → IfOk result (AllByRecursion (PostFits plan))
   answer_fits bytes (Ok posts) is = posts_fit 1 (records_of bytes) posts is
   answer_fits bytes (Err fault) is = tt

@@ -15,7 +15,7 @@ use Rattle.csv.specs.declared.parser.State.{State}
 use Rattle.csv.specs.declared.parser.State.TheVariants as st
 use Rattle.csv.specs.declared.parser.Terminator.TheVariants as term
 use Rattle.sensor_feed.specs.Feed.{Record}
-use Rattle.sensor_feed.specs.Line.{CutsLine, IsPlain, ends_line, is_no_quote}
+use Rattle.sensor_feed.specs.Line.{CutsLine, IsPlain, ends_row, is_no_quote}
 use Rattle.sensor_feed.proofs.ReadsLemmas.{drop_at}
 use Rattle.sensor_feed.proofs.RecordLemmas.{ends_after, first_taken, none_left}
 
@@ -81,10 +81,10 @@ no_quote c is = by-test (c == 34) is
 plain_start : (c : ℕ) → is_no_quote c ≡ true → step cfg st.StartField c ≡ step cfg st.InField c
 plain_start c plain = ap (λ (b : Bool). cond b quotes (in_field cfg c)) (no_quote c plain)
 
-plain_record : (c : ℕ) → is_no_quote c ≡ true → ends_line c ≡ false → step cfg st.StartRecord c ≡ step cfg st.InField c
+plain_record : (c : ℕ) → is_no_quote c ≡ true → ends_row c ≡ false → step cfg st.StartRecord c ≡ step cfg st.InField c
 plain_record c plain on = ap (λ (b : Bool). cond b skips (start_field cfg c)) on ∙ plain_start c plain
 
-end_skipped : (c : ℕ) → ends_line c ≡ true → step cfg st.StartRecord c ≡ skips
+end_skipped : (c : ℕ) → ends_row c ≡ true → step cfg st.StartRecord c ≡ skips
 end_skipped c is = ap (λ (b : Bool). cond b skips (start_field cfg c)) is
 
 after_cr : (c : ℕ) → step cfg st.AfterCr c ≡ step cfg st.StartRecord c
@@ -96,14 +96,14 @@ after_cr c = by-tests (c == 13) (c == 10)
     by-tests false true = refl
     by-tests false false = refl
 
-copied : (c : ℕ) → (c == 44) ≡ false → ends_line c ≡ false → step cfg st.InField c ≡ (st.InField, act.Copy)
+copied : (c : ℕ) → (c == 44) ≡ false → ends_row c ≡ false → step cfg st.InField c ≡ (st.InField, act.Copy)
 copied c other on =
-    ap (λ (b : Bool). cond b (st.StartField, act.EndField) (cond (ends_line c) (cond (c == 13) st.AfterCr st.StartRecord, act.EndRecord) (st.InField, act.Copy))) other
+    ap (λ (b : Bool). cond b (st.StartField, act.EndField) (cond (ends_row c) (cond (c == 13) st.AfterCr st.StartRecord, act.EndRecord) (st.InField, act.Copy))) other
     ∙ ap (λ (b : Bool). cond b (cond (c == 13) st.AfterCr st.StartRecord, act.EndRecord) (st.InField, act.Copy)) on
 
-ended : (c : ℕ) → (c == 44) ≡ false → ends_line c ≡ true → step cfg st.InField c ≡ (after_end term.CRLF c, act.EndRecord)
+ended : (c : ℕ) → (c == 44) ≡ false → ends_row c ≡ true → step cfg st.InField c ≡ (after_end term.CRLF c, act.EndRecord)
 ended c other end =
-    ap (λ (b : Bool). cond b (st.StartField, act.EndField) (cond (ends_line c) (after_end term.CRLF c, act.EndRecord) (st.InField, act.Copy))) other
+    ap (λ (b : Bool). cond b (st.StartField, act.EndField) (cond (ends_row c) (after_end term.CRLF c, act.EndRecord) (st.InField, act.Copy))) other
     ∙ ap (λ (b : Bool). cond b (after_end term.CRLF c, act.EndRecord) (st.InField, act.Copy)) end
 
 -- ---- records from two states
@@ -131,27 +131,27 @@ next_between_two st.InComment xs is = absurd cc
 
 -- ---- the ends of empty lines
 
-next_behind_ends : (text : List ℕ) → next_record cfg st.StartRecord [] [] text ≡ next_record cfg st.StartRecord [] [] (drop (prefix_len ends_line text) text)
+next_behind_ends : (text : List ℕ) → next_record cfg st.StartRecord [] [] text ≡ next_record cfg st.StartRecord [] [] (drop (prefix_len ends_row text) text)
 next_behind_ends [] = refl
-next_behind_ends (c ∷ text) = by-test (ends_line c) refl (next_behind_ends text)
+next_behind_ends (c ∷ text) = by-test (ends_row c) refl (next_behind_ends text)
   where
-    by-test : (b : Bool) → ends_line c ≡ b → next_record cfg st.StartRecord [] [] text ≡ next_record cfg st.StartRecord [] [] (drop (prefix_len ends_line text) text)
-        → next_record cfg st.StartRecord [] [] (c ∷ text) ≡ next_record cfg st.StartRecord [] [] (drop (cond b (1 + prefix_len ends_line text) 0) (c ∷ text))
+    by-test : (b : Bool) → ends_row c ≡ b → next_record cfg st.StartRecord [] [] text ≡ next_record cfg st.StartRecord [] [] (drop (prefix_len ends_row text) text)
+        → next_record cfg st.StartRecord [] [] (c ∷ text) ≡ next_record cfg st.StartRecord [] [] (drop (cond b (1 + prefix_len ends_row text) 0) (c ∷ text))
     by-test true is more =
         one_step [] [] c text st.StartRecord skips (end_skipped c is) ∙ more
-        ∙ ap (next_record cfg st.StartRecord [] []) (sym (drop_one c text (prefix_len ends_line text)))
+        ∙ ap (next_record cfg st.StartRecord [] []) (sym (drop_one c text (prefix_len ends_row text)))
     by-test false is more = refl
 
-no_end_there : (text : List ℕ) (c : ℕ) (rest : List ℕ) → drop (prefix_len ends_line text) text ≡ c ∷ rest → ends_line c ≡ false
+no_end_there : (text : List ℕ) (c : ℕ) (rest : List ℕ) → drop (prefix_len ends_row text) text ≡ c ∷ rest → ends_row c ≡ false
 no_end_there [] c rest is = absurd cc
-no_end_there (x ∷ text) c rest is = by-test (ends_line x) refl is (no_end_there text c rest)
+no_end_there (x ∷ text) c rest is = by-test (ends_row x) refl is (no_end_there text c rest)
   where
-    by-test : (b : Bool) → ends_line x ≡ b → drop (cond b (1 + prefix_len ends_line text) 0) (x ∷ text) ≡ c ∷ rest
-        → (drop (prefix_len ends_line text) text ≡ c ∷ rest → ends_line c ≡ false) → ends_line c ≡ false
-    by-test true ends there more = more (sym (drop_one x text (prefix_len ends_line text)) ∙ there)
-    by-test false ends there more = let e : x ≡ c = cc in ap ends_line (sym e) ∙ ends
+    by-test : (b : Bool) → ends_row x ≡ b → drop (cond b (1 + prefix_len ends_row text) 0) (x ∷ text) ≡ c ∷ rest
+        → (drop (prefix_len ends_row text) text ≡ c ∷ rest → ends_row c ≡ false) → ends_row c ≡ false
+    by-test true ends there more = more (sym (drop_one x text (prefix_len ends_row text)) ∙ there)
+    by-test false ends there more = let e : x ≡ c = cc in ap ends_row (sym e) ∙ ends
 
-pub no_line : (text line : List ℕ) (n : ℕ) → n ≡ prefix_len ends_line text → line ≡ drop n text → true ≡ (length line == 0) → records cfg text ≡ []
+pub no_line : (text line : List ℕ) (n : ℕ) → n ≡ prefix_len ends_row text → line ≡ drop n text → true ≡ (length line == 0) → records cfg text ≡ []
 unfolding next_record
 no_line text line n is there none =
     none_left cfg st.StartRecord text (next_behind_ends text ∙ ap (λ k. next_record cfg st.StartRecord [] [] (drop k text)) (sym is)
@@ -165,14 +165,14 @@ no_line text line n is there none =
     nothing = refl
 
 -- a line that is there is the first record
-pub line_taken : (text line : List ℕ) (n : ℕ) (fields : Record) (rest : List ℕ) → n ≡ prefix_len ends_line text → line ≡ drop n text → false ≡ (length line == 0)
+pub line_taken : (text line : List ℕ) (n : ℕ) (fields : Record) (rest : List ℕ) → n ≡ prefix_len ends_row text → line ≡ drop n text → false ≡ (length line == 0)
     → list_all is_no_quote text ≡ true → CutsLine line fields rest → records cfg text ≡ fields ∷ records cfg rest
 line_taken text line n fields rest is there some plain cut = by-line line there (grind (arith, nat_tests)) cut.next
   where
     by-line : (l : List ℕ) → l ≡ drop n text → 0 < length l → next_record cfg st.InField [] [] l ≡ Some (fields, cut.state, rest) → records cfg text ≡ fields ∷ records cfg rest
     by-line [] there some next = absurd (omega arith)
     by-line (c ∷ others) there some next =
-        let on : ends_line c ≡ false = no_end_there text c others (ap (λ k. drop k text) (sym is) ∙ sym there) in
+        let on : ends_row c ≡ false = no_end_there text c others (ap (λ k. drop k text) (sym is) ∙ sym there) in
         let plain_line : list_all is_no_quote (c ∷ others) ≡ true = ap (list_all is_no_quote) there ∙ all_dropped is_no_quote n text plain in
         let starts : next_record cfg st.StartRecord [] [] (c ∷ others) ≡ next_record cfg st.InField [] [] (c ∷ others) =
         one_step [] [] c others st.StartRecord (step cfg st.InField c) (plain_record c (first_of_all is_no_quote c others plain_line) on)
@@ -211,7 +211,7 @@ module _ (text : List ℕ) (fields : Record) (start place : ℕ) (before : start
     opened : next_record cfg st.InField fields field (c ∷ drop (place + 1) text) ≡ next_record cfg st.InField [] [] text
     opened = ap (next_record cfg st.InField fields field) (sym (drop_at text place c here)) ∙ told
 
-    pub goes_on : (c == 44) ≡ false → ends_line c ≡ false
+    pub goes_on : (c == 44) ≡ false → ends_row c ≡ false
         → next_record cfg st.InField fields (take (place + 1 - start) (drop start text)) (drop (place + 1) text) ≡ next_record cfg st.InField [] [] text
     goes_on other on =
         let k : place ≡ start + (place - start) = omega (arith, before) in
@@ -230,7 +230,7 @@ module _ (text : List ℕ) (fields : Record) (start place : ℕ) (before : start
         ∙ sym (starts_as_inside (fields ++ field ∷ []) [] (drop (place + 1) text) (all_dropped is_no_quote (place + 1) text plain))
         ∙ sym (one_step fields field c (drop (place + 1) text) st.InField (st.StartField, act.EndField) ends) ∙ opened
 
-    pub ends_here : (c == 44) ≡ false → ends_line c ≡ true → list_all is_no_quote text ≡ true → CutsLine text (fields ++ field ∷ []) (drop (place + 1) text)
+    pub ends_here : (c == 44) ≡ false → ends_row c ≡ true → list_all is_no_quote text ≡ true → CutsLine text (fields ++ field ∷ []) (drop (place + 1) text)
     ends_here other end plain = record {
       state = after_end term.CRLF c;
       next = sym opened ∙ one_step fields field c (drop (place + 1) text) st.InField (after_end term.CRLF c, act.EndRecord) (ended c other end);
@@ -268,5 +268,5 @@ plain_told bytes first is other plain =
     let test : (first == 0xEF) ≡ false = grind (arith, nat_tests) in
     record { plain = plain; whole = ap (records cfg) (no_mark bytes (ap (λ b. b == 0xEF) (sym is) ∙ test)) }
 
-pub ends_within : (text : List ℕ) (n : ℕ) → n ≡ prefix_len ends_line text → n ≤ length text
-ends_within text n is = let within = prefix_len-le-length ends_line text in omega (arith, is, within)
+pub ends_within : (text : List ℕ) (n : ℕ) → n ≡ prefix_len ends_row text → n ≤ length text
+ends_within text n is = let within = prefix_len-le-length ends_row text in omega (arith, is, within)

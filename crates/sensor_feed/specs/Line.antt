@@ -12,8 +12,8 @@ abbrev pub is_no_quote : ℕ → Bool
 is_no_quote c = not (c == 34)
 
 -- CR or LF
-abbrev pub ends_line : ℕ → Bool
-ends_line c = (c == 13) || (c == 10)
+abbrev pub ends_row : ℕ → Bool
+ends_row c = (c == 13) || (c == 10)
 
 -- no byte is a double quote, and there is no byte order mark in front
 pub record IsPlain (bytes : List ℕ) : Type 0 where

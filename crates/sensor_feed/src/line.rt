@@ -1,7 +1,7 @@
 //! The lines of a feed without double quotes, cut in place.
 ghost use Rattle.std.specs.Prelude.{◌≡◌, [], IfOk, List, ℕ, true, drop, map};
 ghost use Rattle.std.specs.List.{list_all, prefix_len};
-ghost use Rattle.sensor_feed.specs.Line.{CutsLine, IsPlain, TakesLine, ends_line, is_no_quote};
+ghost use Rattle.sensor_feed.specs.Line.{CutsLine, IsPlain, TakesLine, ends_row, is_no_quote};
 
 use join_base::{NoMemory, byte_at};
 
@@ -16,8 +16,8 @@ fn has_no_quote(bytes: &[u8]) -> bool
     plain
 }
 
-fn ends_line(byte: u8) -> bool
-    ensures { result ≡ ends_line byte }
+fn ends_row(byte: u8) -> bool
+    ensures { result ≡ ends_row byte }
 {
     byte == b'\r' || byte == b'\n'
 }
@@ -34,7 +34,7 @@ fn has_long_line(bytes: &[u8]) -> bool {
             if commas > MANY {
                 return true;
             }
-        } else if ends_line(*byte) {
+        } else if ends_row(*byte) {
             commas = 0;
         }
     }
@@ -57,9 +57,9 @@ pub fn is_plain(bytes: &[u8]) -> bool
 
 // How many line ends are in front.
 fn line_ends(text: &[u8]) -> usize
-    ensures { result ≡ prefix_len ends_line text.now }
+    ensures { result ≡ prefix_len ends_row text.now }
 {
-    text.iter().take_while(|byte| ends_line(**byte)).count()
+    text.iter().take_while(|byte| ends_row(**byte)).count()
 }
 
 // Appends the fields of the first line, and gives what is behind it.
@@ -74,7 +74,7 @@ fn cut_line<'a>(text: &'a [u8], fields: &mut Vec<&'a [u8]>) -> Result<&'a [u8], 
         if byte == b',' {
             fields.push(&text[start..place])?;
             start = place + 1;
-        } else if ends_line(byte) {
+        } else if ends_row(byte) {
             fields.push(&text[start..place])?;
             return Ok(text.split_at(place + 1).1);
         }

@@ -4,7 +4,7 @@ ghost use Rattle.std.specs.List.{AllByRecursion};
 ghost use Rattle.script_types.specs.Typed.{IsTyped};
 ghost use Rattle.fair_semantics.specs.Fits.{PostFits};
 ghost use Rattle.sensor_feed.specs.Feed.{feed_of};
-ghost use Rattle.sensor_feed.specs.Gives.{Gives, fault_at};
+ghost use Rattle.sensor_feed.specs.Gives.{GivesPosts, fault_at};
 ghost use Rattle.sensor_feed.specs.Line.{IsPlain};
 
 use crate::fault::{FeedFault, Refusal};
@@ -40,7 +40,7 @@ fn fault_at(row: u64, refusal: Refusal) -> FeedFault
 fn posts_of_lines(alloc: Global, names: &Names<'_>, bytes: &[u8]) -> Result<Posts, FeedFault>
     requires typed { IsTyped names.now.plan.now }
     requires plain { IsPlain bytes.now }
-    ensures { Gives result (feed_of names.now.plan.now bytes.now) }
+    ensures { GivesPosts result (feed_of names.now.plan.now bytes.now) }
 {
     let mut posts = posts_with_room(alloc, bytes.len())?;
     let mut fields = Vec::new(alloc);
@@ -62,7 +62,7 @@ fn posts_of_lines(alloc: Global, names: &Names<'_>, bytes: &[u8]) -> Result<Post
 // The posts of a feed that csv reads.
 fn posts_of_records(alloc: Global, names: &Names<'_>, bytes: &[u8]) -> Result<Posts, FeedFault>
     requires typed { IsTyped names.now.plan.now }
-    ensures { Gives result (feed_of names.now.plan.now bytes.now) }
+    ensures { GivesPosts result (feed_of names.now.plan.now bytes.now) }
 {
     let mut reader = reader_of(alloc, bytes);
     let mut record = ByteRecord::new(alloc);
@@ -84,7 +84,7 @@ fn posts_of_records(alloc: Global, names: &Names<'_>, bytes: &[u8]) -> Result<Po
 // What `read_feed` gives.
 fn posts_of(alloc: Global, plan: &Plan, bytes: &[u8]) -> Result<Posts, FeedFault>
     requires typed { IsTyped plan.now }
-    ensures { Gives result (feed_of plan.now bytes.now) }
+    ensures { GivesPosts result (feed_of plan.now bytes.now) }
 {
     let names = Names::new(alloc, plan)?;
     if is_plain(bytes) {
@@ -104,7 +104,7 @@ fn posts_of(alloc: Global, plan: &Plan, bytes: &[u8]) -> Result<Posts, FeedFault
 /// header row.
 pub fn read_feed(alloc: Global, plan: &Plan, bytes: &[u8]) -> Result<Posts, FeedFault>
     requires typed { IsTyped plan.now }
-    ensures feed { Gives result (feed_of plan.now bytes.now) }
+    ensures feed { GivesPosts result (feed_of plan.now bytes.now) }
     ensures fits { IfOk result (AllByRecursion (PostFits plan.now)) }
 {
     posts_of(alloc, plan, bytes)

@@ -6,7 +6,7 @@ use Rattle.std.proofs.lemmas.List.Sums.{sum_by-cons, sum_by-append}
 use Rattle.ready_queue.specs.View as queue
 use Rattle.actor_pool.specs.declared.helper.Helper.{Helper}
 use Rattle.actor_pool.specs.declared.pool.Pool.{Pool}
-use Rattle.actor_pool.specs.Helpers.{IsHelperOf, GoesOn, pass_of, actor_count}
+use Rattle.actor_pool.specs.Helpers.{IsHelperOf, HelperGoesOn, pass_of, actor_count}
 use Rattle.actor_pool.specs.Working.{TakesTickets, actors_among}
 use Rattle.actor_pool.proofs.WorkLemmas.{takes-none, takes-queue, takes-else}
 use Rattle.steal_pool.specs.declared.view.DequeView.{DequeView}
@@ -42,7 +42,7 @@ abbrev total : Pool → List DequeView → ℕ
 total p views = sum_by (below (actor_count p)) views
 
 -- a ticket of the queue
-pub takes_queued : (p : Pool) (x : ℕ) (olds nows : List DequeView) (a b : Helper) → nows ≡ olds → GoesOn p a b
+pub takes_queued : (p : Pool) (x : ℕ) (olds nows : List DequeView) (a b : Helper) → nows ≡ olds → HelperGoesOn p a b
     → pass_of b ≡ queue.with_taken x (pass_of a) → TakesTickets p (x ∷ []) (total p olds) (total p nows) a b
 takes_queued p x olds nows a b same on taken =
     let one = takes-queue p 0 x a b on taken in
@@ -59,7 +59,7 @@ takes_own p x olds mids nows a own same one =
 
 -- one of a deque, or none, where none was found in the queue before
 pub takes_behind : (p : Pool) (found : Option ℕ) (v : DequeView) (vs olds nows : List DequeView) (a b : Helper)
-    → GoesOn p a b → pass_of b ≡ queue.with_none (pass_of a) → v ∷ vs ≡ olds
+    → HelperGoesOn p a b → pass_of b ≡ queue.with_none (pass_of a) → v ∷ vs ≡ olds
     → IfSome found (λ x. TakesOne DequeRule x (v ∷ vs) nows) → IfNone found (nows ≡ with_none v ∷ vs)
     → TakesTickets p (option_to_list found) (total p olds) (total p nows) a b
 takes_behind p None v vs olds nows a b on refused same taken none =

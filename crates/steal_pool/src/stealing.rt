@@ -75,7 +75,7 @@ pub fn work_stealing<R: Wait, G: Gate>(
     helper: &mut Helper,
     pass: &mut StealPass,
     gate: &G,
-    thread: u32,
+    worker: u32,
 ) -> Result<(), NoMemory>
     requires own { IsHelperOf pool.now helper.old }
     requires made { made_for pass.old ≡ actor_count pool.now }
@@ -84,5 +84,5 @@ pub fn work_stealing<R: Wait, G: Gate>(
     ensures none { OnOk result (FindsNone helper.old helper.new) }
     ensures empty { OnOk result (FindsEmpty pass.old pass.new) }
 {
-    work_from(rt, alloc, pool, helper, pass, gate, thread)
+    work_from(rt, alloc, pool, helper, pass, gate, worker)
 }

@@ -88,8 +88,8 @@ struct Meeting {
 }
 
 impl Gate for Meeting {
-    fn enter(&self, thread: u32, _actor: u32) {
-        let bit = if thread == 1 { 1 } else { 2 };
+    fn enter(&self, worker: u32, _actor: u32) {
+        let bit = if worker == 1 { 1 } else { 2 };
         if self.came.fetch_or(bit, Ordering::SeqCst) & bit != 0 {
             return;
         }

@@ -32,7 +32,8 @@ fn take_ticket<R: Wait>(rt: &R, tickets: &Tickets, pass: &mut TicketPass) -> Opt
     requires own { IsOf tickets.now pass.old }
     ensures own { IsSamePass pass.old pass.new }
     ensures taken { IfSome result (λ actor. view_of pass.new ≡ with_taken actor (view_of pass.old)) }
-    ensures sole { IsSole (view_of pass.old) → MatchOption result (ManyWait 0 (view_of pass.old)) (λ actor. WaitsFirst actor (view_of pass.old)) }
+    ensures sole { IsSole (view_of pass.old) → MatchOption result (ManyWait 0 (view_of pass.old)) (λ actor. WaitsFirst
+        actor (view_of pass.old)) }
 {
     tickets.take(rt, pass)
 }

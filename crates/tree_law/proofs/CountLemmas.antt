@@ -9,7 +9,7 @@ use Rattle.pattern_core.specs.Matches.{is_partial_match, assignments, with_patte
 use Rattle.pattern_core.specs.Members.{IsIn}
 use Rattle.pattern_core.specs.Window.{is_seen}
 use Rattle.pattern_core.proofs.MembersLemmas.{IsIn-append_left, IsIn-append_right, IsIn-append_cases, IsIn-map_from, IsIn-filter_from, IsIn-flat_map_from}
-use Rattle.guard_eval.specs.Meaning.{letter_at}
+use Rattle.guard_eval.specs.Meaning.{recorded_message}
 use Rattle.std.specs.Prelude.{not, ◌&&◌}
 use Rattle.match_tree.specs.Tree.{Tree, SameMembers, AreOnce}
 use Rattle.tree_law.specs.Trees.{HoldAll, AreTreesOf, path_count}
@@ -95,20 +95,20 @@ some_apart slots a b e = cc
 some_not_none : (slots : Assignment) (a : ℕ) → Some a ∷ slots ≡ None ∷ slots → ⊥
 some_not_none slots a e = absurd cc
 
-module _ (letters : List Message) (seen : List ℕ) (once : AreOnce seen) where
-  pattern_made : (kind : ℕ) (slots longer : Assignment) → IsIn longer (with_pattern letters seen kind slots) → rest_of longer ≡ slots
+module _ (messages : List Message) (seen : List ℕ) (once : AreOnce seen) where
+  pattern_made : (kind : ℕ) (slots longer : Assignment) → IsIn longer (with_pattern messages seen kind slots) → rest_of longer ≡ slots
   pattern_made kind slots longer (inl e) = ap rest_of (sym e)
-  pattern_made kind slots longer (inr m) = let w = IsIn-map_from (λ (n : ℕ). Some n ∷ slots) longer (usable letters seen kind slots) m in ap rest_of (sym w.2)
+  pattern_made kind slots longer (inr m) = let w = IsIn-map_from (λ (n : ℕ). Some n ∷ slots) longer (usable messages seen kind slots) m in ap rest_of (sym w.2)
 
-  pattern_once : (kind : ℕ) (slots : Assignment) → AreOnce (with_pattern letters seen kind slots)
+  pattern_once : (kind : ℕ) (slots : Assignment) → AreOnce (with_pattern messages seen kind slots)
   pattern_once kind slots = (
-    λ m. let w = IsIn-map_from (λ (n : ℕ). Some n ∷ slots) (None ∷ slots) (usable letters seen kind slots) m in some_not_none slots w.0 w.2,
-    once_map (λ (n : ℕ). Some n ∷ slots) (some_apart slots) (usable letters seen kind slots) (once_filter (λ n. is_of_kind (letter_at letters n) kind && not (holds_number slots n)) seen once),
+    λ m. let w = IsIn-map_from (λ (n : ℕ). Some n ∷ slots) (None ∷ slots) (usable messages seen kind slots) m in some_not_none slots w.0 w.2,
+    once_map (λ (n : ℕ). Some n ∷ slots) (some_apart slots) (usable messages seen kind slots) (once_filter (λ n. is_of_kind (recorded_message messages n) kind && not (holds_number slots n)) seen once),
   )
 
-  assignments_once : (kinds : List ℕ) → AreOnce (assignments letters seen kinds)
+  assignments_once : (kinds : List ℕ) → AreOnce (assignments messages seen kinds)
   assignments_once [] = (λ m. m, tt)
-  assignments_once (kind ∷ kinds) = once_flat (with_pattern letters seen kind) rest_of (pattern_made kind) (pattern_once kind) (assignments letters seen kinds) (assignments_once kinds)
+  assignments_once (kind ∷ kinds) = once_flat (with_pattern messages seen kind) rest_of (pattern_made kind) (pattern_once kind) (assignments messages seen kinds) (assignments_once kinds)
 
 -- ---- numbers that rise
 
@@ -127,19 +127,19 @@ pub rising_once : (xs : List ℕ) → IsStrictlyIncreasing xs → AreOnce xs
 rising_once [] h = tt
 rising_once (x ∷ xs) h = (λ m. let l = rising_behind x xs x h m in omega arith, rising_once xs (rising_tail x xs h))
 
-module _ (letters : List Message) (live : List ℕ) (rising : IsStrictlyIncreasing live) where
-  pub partial_once : (d : Definition) → AreOnce (partial_matches letters live d)
+module _ (messages : List Message) (live : List ℕ) (rising : IsStrictlyIncreasing live) where
+  pub partial_once : (d : Definition) → AreOnce (partial_matches messages live d)
   partial_once d =
-      let seen = filter (is_seen d.window (length letters)) live in
-      once_filter (is_partial_match letters d) (assignments letters seen d.patterns) (assignments_once letters seen (once_filter (is_seen d.window (length letters)) live (rising_once live rising)) d.patterns)
+      let seen = filter (is_seen d.window (length messages)) live in
+      once_filter (is_partial_match messages d) (assignments messages seen d.patterns) (assignments_once messages seen (once_filter (is_seen d.window (length messages)) live (rising_once live rising)) d.patterns)
 
   -- the paths of all trees are as many as the partial matches of all definitions
-  pub paths_counted : (rule : ℕ) (definitions : List Definition) (trees : List Tree) → AreTreesOf rule definitions trees → HoldAll letters live trees → AllByRecursion (λ tree. AreOnce tree.paths) trees
-      → path_count trees ≡ partial_count letters live definitions
+  pub paths_counted : (rule : ℕ) (definitions : List Definition) (trees : List Tree) → AreTreesOf rule definitions trees → HoldAll messages live trees → AllByRecursion (λ tree. AreOnce tree.paths) trees
+      → path_count trees ≡ partial_count messages live definitions
   paths_counted rule [] [] are hold once = refl
   paths_counted rule [] (tree ∷ trees) are hold once = absurd are
   paths_counted rule (d ∷ definitions) [] are hold once = absurd are
   paths_counted rule (d ∷ definitions) (tree ∷ trees) are hold once =
-      let here = once_count tree.paths (partial_matches letters live tree.definition) once.0 (partial_once tree.definition) hold.0.partial ∙ ap (λ (x : Definition). length (partial_matches letters live x)) are.0 in
+      let here = once_count tree.paths (partial_matches messages live tree.definition) once.0 (partial_once tree.definition) hold.0.partial ∙ ap (λ (x : Definition). length (partial_matches messages live x)) are.0 in
       let later = paths_counted (rule + 1) definitions trees are.2 hold.1 once.1 in
       λ i. here i + later i

@@ -12,7 +12,7 @@ use Rattle.guard_eval.specs.declared.term.WordsLeaf.TheVariants as words_leaf
 use Rattle.guard_eval.specs.declared.term.Operand.{Operand}
 use Rattle.guard_eval.specs.declared.term.Operand.TheVariants as operand
 use Rattle.guard_eval.specs.Condition.{Condition, Never, Compares, Negated, Grouped, Either}
-use Rattle.guard_eval.specs.Meaning.{Assignment, number_at, letter_at, letter_of, field_of, value_at, int_of, words_of, leaf_value, term_value, words_value, int_relation, words_relation, compares, is_true, is_decided}
+use Rattle.guard_eval.specs.Meaning.{Assignment, number_at, recorded_message, message_of_slot, field_of, value_at, int_of, words_of, leaf_value, term_value, words_value, int_relation, words_relation, compares, is_true, is_decided}
 use Rattle.pattern_core.specs.Matches.{is_agreeable, makes_all_true}
 use Rattle.pattern_core.specs.Suits.{IsRecorded}
 
@@ -21,24 +21,24 @@ get_more [] ys i l = absurd (omega arith)
 get_more (x ∷ xs) ys zero l = refl
 get_more (x ∷ xs) ys (suc i) l = get_more xs ys i (omega arith)
 
-pub letter_at-more : (letters more : List Message) (n : ℕ) → IsRecorded letters n → letter_at (letters ++ more) n ≡ letter_at letters n
-letter_at-more letters more zero h = refl
-letter_at-more letters more (suc place) h = get_more letters more place (omega (arith, h.1))
+pub recorded_message-more : (messages more : List Message) (n : ℕ) → IsRecorded messages n → recorded_message (messages ++ more) n ≡ recorded_message messages n
+recorded_message-more messages more zero h = refl
+recorded_message-more messages more (suc place) h = get_more messages more place (omega (arith, h.1))
 
 -- each number of the assignment is that of a recorded message
 abbrev pub AreRecorded : List Message → Assignment → Type 0
-AreRecorded letters [] = Unit {0}
-AreRecorded letters (None ∷ slots) = AreRecorded letters slots
-AreRecorded letters (Some n ∷ slots) = IsRecorded letters n × AreRecorded letters slots
+AreRecorded messages [] = Unit {0}
+AreRecorded messages (None ∷ slots) = AreRecorded messages slots
+AreRecorded messages (Some n ∷ slots) = IsRecorded messages n × AreRecorded messages slots
 
-pub letter_of-more : (letters more : List Message) (slots : Assignment) (p : ℕ) → AreRecorded letters slots → letter_of (letters ++ more) (number_at slots p) ≡ letter_of letters (number_at slots p)
-letter_of-more letters more [] p h = refl
-letter_of-more letters more (None ∷ slots) zero h = refl
-letter_of-more letters more (Some n ∷ slots) zero h = letter_at-more letters more n h.0
-letter_of-more letters more (None ∷ slots) (suc p) h = letter_of-more letters more slots p h
-letter_of-more letters more (Some n ∷ slots) (suc p) h = letter_of-more letters more slots p h.1
+pub message_of_slot-more : (messages more : List Message) (slots : Assignment) (p : ℕ) → AreRecorded messages slots → message_of_slot (messages ++ more) (number_at slots p) ≡ message_of_slot messages (number_at slots p)
+message_of_slot-more messages more [] p h = refl
+message_of_slot-more messages more (None ∷ slots) zero h = refl
+message_of_slot-more messages more (Some n ∷ slots) zero h = recorded_message-more messages more n h.0
+message_of_slot-more messages more (None ∷ slots) (suc p) h = message_of_slot-more messages more slots p h
+message_of_slot-more messages more (Some n ∷ slots) (suc p) h = message_of_slot-more messages more slots p h.1
 
-module _ (before after : List Message) (slots : Assignment) (same : (p : ℕ) → letter_of after (number_at slots p) ≡ letter_of before (number_at slots p)) where
+module _ (before after : List Message) (slots : Assignment) (same : (p : ℕ) → message_of_slot after (number_at slots p) ≡ message_of_slot before (number_at slots p)) where
   value_at-same : (place : Place) → value_at after slots place ≡ value_at before slots place
   value_at-same place = ap (λ (m : Option Message). field_of m place.field) (same place.pattern)
 

@@ -89,23 +89,23 @@ kept_one number before expired after is reserved definition rule gains =
 
 -- ---- for a further message
 
-pub kept_more : (letters : List Message) (message : Message) (befores afters : List Tree) → AreKeptAt (number_more letters) befores afters → AreKept letters message befores afters
-kept_more letters message [] [] h = tt
-kept_more letters message [] (u ∷ afters) h = absurd h
-kept_more letters message (t ∷ befores) [] h = absurd h
-kept_more letters message (t ∷ befores) (u ∷ afters) h =
-    (record { definition = h.0.definition; rule = h.0.rule; reserve = h.0.reserve; had = h.0.had; paths = h.0.paths }, kept_more letters message befores afters h.1)
+pub kept_more : (messages : List Message) (message : Message) (befores afters : List Tree) → AreKeptAt (number_more messages) befores afters → AreKept messages message befores afters
+kept_more messages message [] [] h = tt
+kept_more messages message [] (u ∷ afters) h = absurd h
+kept_more messages message (t ∷ befores) [] h = absurd h
+kept_more messages message (t ∷ befores) (u ∷ afters) h =
+    (record { definition = h.0.definition; rule = h.0.rule; reserve = h.0.reserve; had = h.0.had; paths = h.0.paths }, kept_more messages message befores afters h.1)
 
 oldest_within : (window : Option ℕ) (number : ℕ) → 1 ≤ number → SeesLatest window → oldest_seen window number ≤ number
 oldest_within None number some sees = some
 oldest_within (Some w) number some sees = omega arith
 
-reserved_number : (letters : List Message) (message : Message) (tree : Tree) (o : Option Reserve) → IsReserved (offer_more letters message tree.definition tree.rule) tree.paths o → MatchOption o ⊥ (λ r. r.number ≡ number_more letters)
-reserved_number letters message tree None h = absurd h
-reserved_number letters message tree (Some r) h = h.0
+reserved_number : (messages : List Message) (message : Message) (tree : Tree) (o : Option Reserve) → IsReserved (offer_more messages message tree.definition tree.rule) tree.paths o → MatchOption o ⊥ (λ r. r.number ≡ number_more messages)
+reserved_number messages message tree None h = absurd h
+reserved_number messages message tree (Some r) h = h.0
 
 -- trees that hold have the reserves that keeping and expiring ask for
-pub have_reserves : (letters : List Message) (message : Message) (live : List ℕ) (trees : List Tree) → HoldAll letters live trees → AreReservedFor letters message trees → AllByRecursion (HasReserve (number_more letters)) trees
-have_reserves letters message live [] h reserved = tt
-have_reserves letters message live (t ∷ trees) h reserved =
-    (record { reserved = reserved_number letters message t t.reserve reserved.0; sees = oldest_within t.definition.window (number_more letters) (omega arith) h.0.sees }, have_reserves letters message live trees h.1 reserved.1)
+pub have_reserves : (messages : List Message) (message : Message) (live : List ℕ) (trees : List Tree) → HoldAll messages live trees → AreReservedFor messages message trees → AllByRecursion (HasReserve (number_more messages)) trees
+have_reserves messages message live [] h reserved = tt
+have_reserves messages message live (t ∷ trees) h reserved =
+    (record { reserved = reserved_number messages message t t.reserve reserved.0; sees = oldest_within t.definition.window (number_more messages) (omega arith) h.0.sees }, have_reserves messages message live trees h.1 reserved.1)

@@ -83,37 +83,37 @@ told_best (Some r) found h = h
 -- ---- trees that differ in what is set aside alone
 
 -- the trees so far are reserved, and the others are as before
-pub record IsReserving (letters : List Message) (number : ℕ) (before now : List Tree) (i : ℕ) : Type 0 where
+pub record IsReserving (messages : List Message) (number : ℕ) (before now : List Tree) (i : ℕ) : Type 0 where
   pub same : map settled_tree now ≡ map settled_tree before
-  pub done : AllByRecursion (IsReservedAt letters number) (take i now)
+  pub done : AllByRecursion (IsReservedAt messages number) (take i now)
   pub left : drop i now ≡ drop i before
   pub count : length now ≡ length before
 
-pub reserving_none : (letters : List Message) (number : ℕ) (trees : List Tree) → IsReserving letters number trees trees 0
-reserving_none letters number trees = record { same = refl; done = tt; left = refl; count = refl }
+pub reserving_none : (messages : List Message) (number : ℕ) (trees : List Tree) → IsReserving messages number trees trees 0
+reserving_none messages number trees = record { same = refl; done = tt; left = refl; count = refl }
 
 settled_set : (trees : List Tree) (i : ℕ) (d x : Tree) → i < length trees → settled_tree x ≡ settled_tree (get_or trees i d) → map settled_tree (slice_set trees i x) ≡ map settled_tree trees
 settled_set [] i d x within e = absurd (omega arith)
 settled_set (t ∷ trees) zero d x within e = ap (λ (u : Tree). u ∷ map settled_tree trees) e
 settled_set (t ∷ trees) (suc i) d x within e = ap (λ (us : List Tree). settled_tree t ∷ us) (settled_set trees i d x (omega arith) e)
 
-pub reserving_more : (letters : List Message) (number : ℕ) (before now : List Tree) (i : ℕ) (d x : Tree) → i < length before → IsReserving letters number before now i → settled_tree x ≡ settled_tree (get_or now i d) → IsReservedAt letters number x
-    → IsReserving letters number before (slice_set now i x) (i + 1)
-reserving_more letters number before now i d x within h same reserved =
+pub reserving_more : (messages : List Message) (number : ℕ) (before now : List Tree) (i : ℕ) (d x : Tree) → i < length before → IsReserving messages number before now i → settled_tree x ≡ settled_tree (get_or now i d) → IsReservedAt messages number x
+    → IsReserving messages number before (slice_set now i x) (i + 1)
+reserving_more messages number before now i d x within h same reserved =
     let inside : i < length now = omega (arith, h.count) in
     record {
       same = settled_set now i d x inside same ∙ h.same;
-      done = subst (λ (ts : List Tree). AllByRecursion (IsReservedAt letters number) ts) (sym (take_more_set now i x inside)) (each_last (IsReservedAt letters number) (take i now) x h.done reserved);
+      done = subst (λ (ts : List Tree). AllByRecursion (IsReservedAt messages number) ts) (sym (take_more_set now i x inside)) (each_last (IsReservedAt messages number) (take i now) x h.done reserved);
       left = drop-set-lt (i + 1) now i x (omega arith) ∙ left_more now before i h.left;
       count = length-set now i x ∙ h.count;
     }
 
 -- where an item finds no memory, the trees differ in what is set aside alone
-pub refused_same : (letters : List Message) (number : ℕ) (before now : List Tree) (i : ℕ) (d x : Tree) → i < length before → IsReserving letters number before now i → settled_tree x ≡ settled_tree (get_or now i d) → map settled_tree (slice_set now i x) ≡ map settled_tree before
-refused_same letters number before now i d x within h same = settled_set now i d x (omega (arith, h.count)) same ∙ h.same
+pub refused_same : (messages : List Message) (number : ℕ) (before now : List Tree) (i : ℕ) (d x : Tree) → i < length before → IsReserving messages number before now i → settled_tree x ≡ settled_tree (get_or now i d) → map settled_tree (slice_set now i x) ≡ map settled_tree before
+refused_same messages number before now i d x within h same = settled_set now i d x (omega (arith, h.count)) same ∙ h.same
 
-pub reserving_all : (letters : List Message) (number : ℕ) (before now : List Tree) (i : ℕ) → length before ≤ i → IsReserving letters number before now i → AllByRecursion (IsReservedAt letters number) now
-reserving_all letters number before now i past h = subst (λ (ts : List Tree). AllByRecursion (IsReservedAt letters number) ts) (take_all i now (omega (arith, h.count))) h.done
+pub reserving_all : (messages : List Message) (number : ℕ) (before now : List Tree) (i : ℕ) → length before ≤ i → IsReserving messages number before now i → AllByRecursion (IsReservedAt messages number) now
+reserving_all messages number before now i past h = subst (λ (ts : List Tree). AllByRecursion (IsReservedAt messages number) ts) (take_all i now (omega (arith, h.count))) h.done
 
 -- trees with nothing set aside are as they are when it is dropped
 pub settled_same : (trees : List Tree) → AreSettled trees → map settled_tree trees ≡ trees
@@ -124,17 +124,17 @@ settled_same (t ∷ trees) h = λ i. record { definition = t.definition; rule = 
 pub like_tree : (before after : Tree) → after.definition ≡ before.definition → after.rule ≡ before.rule → after.paths ≡ before.paths → settled_tree after ≡ settled_tree before
 like_tree before after definition rule paths = λ i. record { definition = definition i; rule = rule i; paths = paths i; reserve = None }
 
-pub reserved_at : (letters : List Message) (number : ℕ) (before after : Tree) → settled_tree after ≡ settled_tree before → IsReserved (offer_to before letters number) before.paths after.reserve → IsReservedAt letters number after
-reserved_at letters number before after like h = subst (λ (t : Tree). IsReserved (offer_to t letters number) t.paths after.reserve) (sym like) h
+pub reserved_at : (messages : List Message) (number : ℕ) (before after : Tree) → settled_tree after ≡ settled_tree before → IsReserved (offer_to before messages number) before.paths after.reserve → IsReservedAt messages number after
+reserved_at messages number before after like h = subst (λ (t : Tree). IsReserved (offer_to t messages number) t.paths after.reserve) (sym like) h
 
 -- the steps of one tree more
-pub tries_more : (letters : List Message) (number : ℕ) (before now : List Tree) (i : ℕ) (d : Tree) (start was steps : ℕ) → i < length before → IsReserving letters number before now i
-    → was + tries_at letters number (drop i before) ≤ start + tries_at letters number before → steps ≤ was + tries (offer_to (get_or now i d) letters number) (get_or now i d).paths
-    → steps + tries_at letters number (drop (i + 1) before) ≤ start + tries_at letters number before
-tries_more letters number before now i d start was steps within h so_far one =
+pub tries_more : (messages : List Message) (number : ℕ) (before now : List Tree) (i : ℕ) (d : Tree) (start was steps : ℕ) → i < length before → IsReserving messages number before now i
+    → was + tries_at messages number (drop i before) ≤ start + tries_at messages number before → steps ≤ was + tries (offer_to (get_or now i d) messages number) (get_or now i d).paths
+    → steps + tries_at messages number (drop (i + 1) before) ≤ start + tries_at messages number before
+tries_more messages number before now i d start was steps within h so_far one =
     let same = left_item now before i d h.left in
-    let here = ap (λ (t : Tree). tries (offer_to t letters number) t.paths) same in
-    let rest = ap (tries_at letters number) (drop_more before i d within) in
+    let here = ap (λ (t : Tree). tries (offer_to t messages number) t.paths) same in
+    let rest = ap (tries_at messages number) (drop_more before i d within) in
     omega arith
 
 idem : (trees : List Tree) → map settled_tree (map settled_tree trees) ≡ map settled_tree trees

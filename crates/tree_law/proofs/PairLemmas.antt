@@ -4,14 +4,14 @@ use Rattle.std.specs.List.{filter, list_any}
 use Rattle.std.proofs.lemmas.List.Sums.{length-filter, sum_by-le}
 use Rattle.std.specs.Prelude.{slice_index_or}
 use Rattle.join_base.specs.declared.message.Message.{Message}
-use Rattle.guard_eval.specs.Meaning.{Assignment, letter_at, is_slot_filled}
+use Rattle.guard_eval.specs.Meaning.{Assignment, recorded_message, is_slot_filled}
 use Rattle.guard_eval.proofs.ExtendLemmas.{both_true}
 use Rattle.pattern_core.specs.Matches.{is_of_kind, is_agreeable, partial_matches}
 use Rattle.match_tree.specs.Routes.{with_number}
 use Rattle.match_tree.specs.Offers.{Offered, places, is_free}
 use Rattle.match_tree.specs.Tries.{is_tried, tried, tries, without_greatest}
 use Rattle.tree_law.specs.Laws.{AllTriesAreFew, TriesAreFew, pattern_count}
-use Rattle.tree_law.specs.Partials.{letters_more, number_more, offer_more}
+use Rattle.tree_law.specs.Partials.{messages_more, number_more, offer_more}
 
 -- places of which each that passes has an item that passes are no more than these items
 passing_places : (at : ℕ → Bool) (passes : ℕ → Bool) (whole : List ℕ) → ((p : ℕ) → at p ≡ true → passes (slice_index whole p) ≡ true)
@@ -34,11 +34,11 @@ passing_places at passes whole each from (x ∷ xs) same = by (at from) (passes 
 
 module _ (o : Offered) where
   abbrev message : Option Message
-  message = letter_at o.letters o.number
+  message = recorded_message o.messages o.number
 
   of_kind : (slots : Assignment) (p : ℕ) → is_tried o slots p ≡ true → is_of_kind message (slice_index o.definition.patterns p) ≡ true
   of_kind slots p h =
-      let agrees : Bool = not (list_any is_slot_filled slots) || is_agreeable o.letters o.definition.conjuncts (with_number (without_greatest slots) p o.number) in
+      let agrees : Bool = not (list_any is_slot_filled slots) || is_agreeable o.messages o.definition.conjuncts (with_number (without_greatest slots) p o.number) in
       let kind : Bool = is_of_kind message (slice_index o.definition.patterns p) in
       (both_true kind agrees (both_true (is_free slots p) (kind && agrees) h).1).0
 
@@ -52,20 +52,20 @@ module _ (o : Offered) where
       from_first i = let e : i ≡ 0 + i = omega arith in ap (slice_index o.definition.patterns) e
 
 pub tries_are_few : TriesAreFew
-tries_are_few o paths = sum_by-le (λ path. length (tried o path)) (pattern_count (letter_at o.letters o.number) o.definition) paths (λ k d l. tried_few o (slice_index_or paths k d))
+tries_are_few o paths = sum_by-le (λ path. length (tried o path)) (pattern_count (recorded_message o.messages o.number) o.definition) paths (λ k d l. tried_few o (slice_index_or paths k d))
 
 -- the last of the messages
 get_last : {X : Type 0} (xs : List X) (x : X) → slice_get (xs ++ x ∷ []) (length xs) ≡ Some x
 get_last [] x = refl
 get_last (y ∷ xs) x = get_last xs x
 
-last_letter : (letters : List Message) (message : Message) → letter_at (letters_more letters message) (number_more letters) ≡ Some message
-last_letter letters message = let e : number_more letters ≡ suc (length letters) = omega arith in ap (letter_at (letters_more letters message)) e ∙ get_last letters message
+last_message : (messages : List Message) (message : Message) → recorded_message (messages_more messages message) (number_more messages) ≡ Some message
+last_message messages message = let e : number_more messages ≡ suc (length messages) = omega arith in ap (recorded_message (messages_more messages message)) e ∙ get_last messages message
 
 pub all_tries_are_few : AllTriesAreFew
-all_tries_are_few letters message live rule [] = omega arith
-all_tries_are_few letters message live rule (d ∷ definitions) =
-    let paths = partial_matches letters live d in
-    let one = subst (λ (m : Option Message). tries (offer_more letters message d rule) paths ≤ length paths * pattern_count m d) (last_letter letters message) (tries_are_few (offer_more letters message d rule) paths) in
-    let rest = all_tries_are_few letters message live (rule + 1) definitions in
+all_tries_are_few messages message live rule [] = omega arith
+all_tries_are_few messages message live rule (d ∷ definitions) =
+    let paths = partial_matches messages live d in
+    let one = subst (λ (m : Option Message). tries (offer_more messages message d rule) paths ≤ length paths * pattern_count m d) (last_message messages message) (tries_are_few (offer_more messages message d rule) paths) in
+    let rest = all_tries_are_few messages message live (rule + 1) definitions in
     omega arith

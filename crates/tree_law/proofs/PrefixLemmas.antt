@@ -44,24 +44,24 @@ module _ (latest : ℕ) where
       by true other rest = (λ i. other i || holds_number (up_to latest slots) k) ∙ rest
       by false other rest = rest
 
-  module _ (letters : List Message) (seen : List ℕ) where
-    assigns_too : (kinds : List ℕ) (slots : Assignment) → Assigns letters seen kinds slots → Assigns letters seen kinds (up_to latest slots)
+  module _ (messages : List Message) (seen : List ℕ) where
+    assigns_too : (kinds : List ℕ) (slots : Assignment) → Assigns messages seen kinds slots → Assigns messages seen kinds (up_to latest slots)
     assigns_too [] [] h = tt
     assigns_too [] (slot ∷ slots) h = absurd h
     assigns_too (kind ∷ kinds) [] h = absurd h
     assigns_too (kind ∷ kinds) (None ∷ slots) h = assigns_too kinds slots h
     assigns_too (kind ∷ kinds) (Some n ∷ slots) h = by (nat_le n latest) (assigns_too kinds slots h.1)
       where
-        by : (b : Bool) → Assigns letters seen kinds (up_to latest slots) → Assigns letters seen (kind ∷ kinds) ((if b then Some n else None) ∷ up_to latest slots)
+        by : (b : Bool) → Assigns messages seen kinds (up_to latest slots) → Assigns messages seen (kind ∷ kinds) ((if b then Some n else None) ∷ up_to latest slots)
         by true rest = (record { is_live = h.0.is_live; of_kind = h.0.of_kind; apart = apart_too slots n h.0.apart }, rest)
         by false rest = rest
 
 pub prefixes_are_partial : PrefixesArePartial
-prefixes_are_partial letters live d slots latest m =
-    let seen = seen_of d (length letters) live in
-    let at = IsIn-filter_from (is_partial_match letters d) slots (assignments letters seen d.patterns) m in
-    let parts = both_true (not (is_full slots)) (is_agreeable letters d.conjuncts slots) at.1 in
-    IsIn-filter (is_partial_match letters d) (up_to latest slots) (assignments letters seen d.patterns)
-    (both_of (not (is_full (up_to latest slots))) (is_agreeable letters d.conjuncts (up_to latest slots)) (open_too latest slots parts.0)
-    (agreeable_below letters (up_to latest slots) slots (extends latest slots) d.conjuncts parts.1))
-    (IsIn-assignments letters seen d.patterns (up_to latest slots) (assigns_too latest letters seen d.patterns slots (Assigns-from_IsIn letters seen d.patterns slots at.0)))
+prefixes_are_partial messages live d slots latest m =
+    let seen = seen_of d (length messages) live in
+    let at = IsIn-filter_from (is_partial_match messages d) slots (assignments messages seen d.patterns) m in
+    let parts = both_true (not (is_full slots)) (is_agreeable messages d.conjuncts slots) at.1 in
+    IsIn-filter (is_partial_match messages d) (up_to latest slots) (assignments messages seen d.patterns)
+    (both_of (not (is_full (up_to latest slots))) (is_agreeable messages d.conjuncts (up_to latest slots)) (open_too latest slots parts.0)
+    (agreeable_below messages (up_to latest slots) slots (extends latest slots) d.conjuncts parts.1))
+    (IsIn-assignments messages seen d.patterns (up_to latest slots) (assigns_too latest messages seen d.patterns slots (Assigns-from_IsIn messages seen d.patterns slots at.0)))

@@ -23,8 +23,8 @@ use Rattle.match_tree.specs.Routes.{with_number}
 use Rattle.join_base.specs.Taken.{contains_number}
 use Rattle.match_tree.specs.Offers.{Offered, is_free, may_take, takers, completes, matches_at, places}
 use Rattle.match_tree.specs.Tree.{Tree, Reserve, SameMembers, IsReserved, seen_paths, extensions, completions, empty_of}
-use Rattle.tree_law.specs.Partials.{ArePartial, NoneWaits, AreLive, letters_more, number_more, live_more, offer_more, left_of}
-use Rattle.tree_law.specs.Trees.{Holds, HoldAll, AreTreesOf, IsReservedFor, AreReservedFor, reserve_best, best_of, IsKept, fired_tree, cleared_tree}
+use Rattle.tree_law.specs.Partials.{ArePartial, NoneWaits, AreLive, messages_more, number_more, live_more, offer_more, left_of}
+use Rattle.tree_law.specs.Trees.{Holds, HoldAll, AreTreesOf, IsReservedFor, AreReservedFor, reserve_best, best_of, KeepsSeenPaths, fired_tree, cleared_tree}
 use Rattle.tree_law.proofs.GrowthLemmas.{grown, completed, none_waits, pruned, none_left}
 
 pub same_trans : {X : Type 0} (xs ys zs : List X) → SameMembers xs ys → SameMembers ys zs → SameMembers xs zs
@@ -38,20 +38,20 @@ same_behind xs ys zs s = record {
 
 -- ---- the empty path alone
 
-alone : (letters : List Message) (kinds : List ℕ) → assignments letters [] kinds ≡ replicate (length kinds) None ∷ []
-alone letters [] = refl
-alone letters (kind ∷ kinds) = ap (flat_map (with_pattern letters [] kind)) (alone letters kinds)
+alone : (messages : List Message) (kinds : List ℕ) → assignments messages [] kinds ≡ replicate (length kinds) None ∷ []
+alone messages [] = refl
+alone messages (kind ∷ kinds) = ap (flat_map (with_pattern messages [] kind)) (alone messages kinds)
 
 empty_open : (n : ℕ) → 1 ≤ n → is_full (replicate n None) ≡ false
 empty_open zero l = absurd (omega arith)
 empty_open (suc n) l = refl
 
-module _ (letters : List Message) (d : Definition) (some : 1 ≤ length d.patterns) where
-  empty_partial : is_partial_match letters d (empty_of d) ≡ true
-  empty_partial = λ i. not (empty_open (length d.patterns) some i) && agreeable_empty letters d.conjuncts (length d.patterns) i
+module _ (messages : List Message) (d : Definition) (some : 1 ≤ length d.patterns) where
+  empty_partial : is_partial_match messages d (empty_of d) ≡ true
+  empty_partial = λ i. not (empty_open (length d.patterns) some i) && agreeable_empty messages d.conjuncts (length d.patterns) i
 
-  empty_incomplete : is_complete_match letters d (empty_of d) ≡ false
-  empty_incomplete = λ i. empty_open (length d.patterns) some i && makes_all_true letters d.conjuncts (empty_of d)
+  empty_incomplete : is_complete_match messages d (empty_of d) ≡ false
+  empty_incomplete = λ i. empty_open (length d.patterns) some i && makes_all_true messages d.conjuncts (empty_of d)
 
 -- ---- which of two is the lesser
 
@@ -100,9 +100,9 @@ least_member cs c e = by (least cs) (least-IsChoice cs) e
     by None h e = absurd cc
     by (Some d) h e = let same : d ≡ c = cc in subst (λ (x : Candidate). IsIn x cs) same h.member
 
-module _ (letters : List Message) (message : Message) where
+module _ (messages : List Message) (message : Message) where
   abbrev offer_of : Tree → Offered
-  offer_of tree = offer_more letters message tree.definition tree.rule
+  offer_of tree = offer_more messages message tree.definition tree.rule
 
   abbrev found : Tree → List Candidate
   found tree = completions (offer_of tree) (seen_paths (offer_of tree) tree.paths)
@@ -117,7 +117,7 @@ module _ (letters : List Message) (message : Message) where
   reserved_aside tree (Some x) r h e none = let same : x ≡ r = cc in subst (λ (y : Reserve). SameMembers y.aside (extensions (offer_of tree) (seen_paths (offer_of tree) tree.paths))) same (h.2 none)
 
   -- the match that is chosen takes the new number
-  pub best_takes : (trees : List Tree) (c : Candidate) → AreReservedFor letters message trees → best_of trees ≡ Some c → contains_number c.taken (number_more letters) ≡ true
+  pub best_takes : (trees : List Tree) (c : Candidate) → AreReservedFor messages message trees → best_of trees ≡ Some c → contains_number c.taken (number_more messages) ≡ true
   best_takes [] c h e = absurd cc
   best_takes (tree ∷ trees) c h e =
       elim (lesser_cases (reserve_best tree.reserve) (best_of trees) c e) [
@@ -125,54 +125,54 @@ module _ (letters : List Message) (message : Message) where
         | inr r ↦ best_takes trees c h.1 r
       ]
 
-  module _ (live : List ℕ) (are_live : AreLive letters live) where
+  module _ (live : List ℕ) (are_live : AreLive messages live) where
     -- the best of the trees is the least of all complete matches
-    pub best_is_least : (rule : ℕ) (definitions : List Definition) (trees : List Tree) → AreTreesOf rule definitions trees → HoldAll letters live trees → AreReservedFor letters message trees
-        → best_of trees ≡ least (matches_from (letters_more letters message) (live_more letters live) rule definitions)
+    pub best_is_least : (rule : ℕ) (definitions : List Definition) (trees : List Tree) → AreTreesOf rule definitions trees → HoldAll messages live trees → AreReservedFor messages message trees
+        → best_of trees ≡ least (matches_from (messages_more messages message) (live_more messages live) rule definitions)
     best_is_least rule [] [] are hold reserved = refl
     best_is_least rule [] (tree ∷ trees) are hold reserved = absurd are
     best_is_least rule (d ∷ definitions) [] are hold reserved = absurd are
     best_is_least rule (d ∷ definitions) (tree ∷ trees) are hold reserved =
         let h = hold.0 in
-        let here = reserved_best tree tree.reserve reserved.0 ∙ completed letters message live tree.definition are_live h.sees tree.rule tree.paths h.partial h.none in
+        let here = reserved_best tree tree.reserve reserved.0 ∙ completed messages message live tree.definition are_live h.sees tree.rule tree.paths h.partial h.none in
         let later = best_is_least (rule + 1) definitions trees are.2 hold.1 reserved.1 in
-        let first : List Candidate = map (candidate_of tree.rule) (complete_matches (letters_more letters message) (live_more letters live) tree.definition) in
+        let first : List Candidate = map (candidate_of tree.rule) (complete_matches (messages_more messages message) (live_more messages live) tree.definition) in
         (λ i. lesser_of (here i) (later i))
-        ∙ sym (least-append first (matches_from (letters_more letters message) (live_more letters live) (rule + 1) definitions))
-        ∙ (λ i. least (map (candidate_of (are.1 i)) (complete_matches (letters_more letters message) (live_more letters live) (are.0 i)) ++ matches_from (letters_more letters message) (live_more letters live) (rule + 1) definitions))
+        ∙ sym (least-append first (matches_from (messages_more messages message) (live_more messages live) (rule + 1) definitions))
+        ∙ (λ i. least (map (candidate_of (are.1 i)) (complete_matches (messages_more messages message) (live_more messages live) (are.0 i)) ++ matches_from (messages_more messages message) (live_more messages live) (rule + 1) definitions))
 
     -- and so it is the choice
-    pub best_is_choice : (definitions : List Definition) (trees : List Tree) → AreTreesOf 1 definitions trees → HoldAll letters live trees → AreReservedFor letters message trees
-        → best_of trees ≡ choice (letters_more letters message) (live_more letters live) definitions
+    pub best_is_choice : (definitions : List Definition) (trees : List Tree) → AreTreesOf 1 definitions trees → HoldAll messages live trees → AreReservedFor messages message trees
+        → best_of trees ≡ choice (messages_more messages message) (live_more messages live) definitions
     best_is_choice definitions trees are hold reserved = best_is_least 1 definitions trees are hold reserved
 
     -- a tree that keeps the message holds again
-    pub kept_holds : (before after : Tree) → Holds letters live before → IsReservedFor letters message before → reserve_best before.reserve ≡ None → IsKept letters message before after
-        → Holds (letters_more letters message) (live_more letters live) after
+    pub kept_holds : (before after : Tree) → Holds messages live before → IsReservedFor messages message before → reserve_best before.reserve ≡ None → KeepsSeenPaths messages message before after
+        → Holds (messages_more messages message) (live_more messages live) after
     kept_holds before after h reserved none kept =
         let seen : List Assignment = seen_paths (offer_of before) before.paths in
         let aside = reserved_aside before before.reserve kept.reserve reserved kept.had none in
         let all = same_trans after.paths (seen ++ kept.reserve.aside) (seen ++ extensions (offer_of before) seen) kept.paths (same_behind seen kept.reserve.aside (extensions (offer_of before) seen) aside) in
-        let paths = same_trans after.paths (seen ++ extensions (offer_of before) seen) (partial_matches (letters_more letters message) (live_more letters live) before.definition) all
-        (grown letters message live before.definition are_live h.sees before.rule before.paths h.partial) in
-        let waits = none_waits letters message live before.definition are_live h.sees before.rule before.paths h.partial h.none (sym (reserved_best before before.reserve reserved) ∙ none) in
-        let P : Definition → Type 0 = λ d. (1 ≤ length d.patterns) × SeesLatest d.window × ArePartial (letters_more letters message) (live_more letters live) d after.paths × NoneWaits (letters_more letters message) (live_more letters live) d in
+        let paths = same_trans after.paths (seen ++ extensions (offer_of before) seen) (partial_matches (messages_more messages message) (live_more messages live) before.definition) all
+        (grown messages message live before.definition are_live h.sees before.rule before.paths h.partial) in
+        let waits = none_waits messages message live before.definition are_live h.sees before.rule before.paths h.partial h.none (sym (reserved_best before before.reserve reserved) ∙ none) in
+        let P : Definition → Type 0 = λ d. (1 ≤ length d.patterns) × SeesLatest d.window × ArePartial (messages_more messages message) (live_more messages live) d after.paths × NoneWaits (messages_more messages message) (live_more messages live) d in
         let all_four = subst P (sym kept.definition) (h.some, h.sees, paths, waits) in
         record { some = all_four.0; sees = all_four.1; partial = all_four.2; none = all_four.3 }
 
     -- a tree without the numbers of a firing holds again
-    pub fired_holds : (tree : Tree) (taken : List ℕ) → contains_number taken (number_more letters) ≡ true → Holds letters live tree
-        → Holds (letters_more letters message) (left_of (live_more letters live) taken) (fired_tree letters message taken tree)
+    pub fired_holds : (tree : Tree) (taken : List ℕ) → contains_number taken (number_more messages) ≡ true → Holds messages live tree
+        → Holds (messages_more messages message) (left_of (live_more messages live) taken) (fired_tree messages message taken tree)
     fired_holds tree taken takes h = record {
       some = h.some;
       sees = h.sees;
-      partial = pruned letters message live tree.definition are_live h.sees tree.rule tree.paths h.partial taken takes;
-      none = none_left letters message live tree.definition are_live h.sees tree.rule tree.paths h.partial taken takes h.none;
+      partial = pruned messages message live tree.definition are_live h.sees tree.rule tree.paths h.partial taken takes;
+      none = none_left messages message live tree.definition are_live h.sees tree.rule tree.paths h.partial taken takes h.none;
     }
 
 -- a cleared tree holds where no number is live
-pub cleared_holds : (letters : List Message) (tree : Tree) → 1 ≤ length tree.definition.patterns → SeesLatest tree.definition.window → Holds letters [] (cleared_tree tree)
-cleared_holds letters tree some sees = record {
+pub cleared_holds : (messages : List Message) (tree : Tree) → 1 ≤ length tree.definition.patterns → SeesLatest tree.definition.window → Holds messages [] (cleared_tree tree)
+cleared_holds messages tree some sees = record {
   some = some;
   sees = sees;
   partial = subst (λ (ps : List Assignment). SameMembers (empty_of d ∷ []) ps) (sym listed) (record { to = λ x m. m; back = λ x m. m });
@@ -182,8 +182,8 @@ cleared_holds letters tree some sees = record {
     d : Definition
     d = tree.definition
 
-    listed : partial_matches letters [] d ≡ empty_of d ∷ []
-    listed = ap (filter (is_partial_match letters d)) (alone letters d.patterns) ∙ rw (empty_partial letters d some) refl
+    listed : partial_matches messages [] d ≡ empty_of d ∷ []
+    listed = ap (filter (is_partial_match messages d)) (alone messages d.patterns) ∙ rw (empty_partial messages d some) refl
 
-    none_listed : complete_matches letters [] d ≡ []
-    none_listed = ap (filter (is_complete_match letters d)) (alone letters d.patterns) ∙ rw (empty_incomplete letters d some) refl
+    none_listed : complete_matches messages [] d ≡ []
+    none_listed = ap (filter (is_complete_match messages d)) (alone messages d.patterns) ∙ rw (empty_incomplete messages d some) refl

@@ -2,7 +2,7 @@
 use Rattle.std.specs.Prelude.{ℕ, ◌+◌, ◌*◌, ◌≤◌, List, [], ◌∷◌, map, length, nat_le, if◌then◌else◌, Option, None, Some}
 use Rattle.std.specs.List.{count_by}
 use Rattle.join_base.specs.declared.message.Message.{Message}
-use Rattle.guard_eval.specs.Meaning.{Assignment, letter_at}
+use Rattle.guard_eval.specs.Meaning.{Assignment, recorded_message}
 use Rattle.pattern_core.specs.declared.definition.Definition.{Definition}
 use Rattle.pattern_core.specs.Matches.{is_of_kind, partial_matches}
 use Rattle.pattern_core.specs.Members.{IsIn}
@@ -18,18 +18,18 @@ pattern_count message definition = count_by (is_of_kind message) definition.patt
 
 -- the partial matches of a definition times its patterns of the message's kind, summed over the definitions
 abbrev pub pair_count : List Message → Message → List ℕ → List Definition → ℕ
-pair_count letters message live [] = 0
-pair_count letters message live (definition ∷ definitions) =
-    length (partial_matches letters live definition) * pattern_count (Some message) definition + pair_count letters message live definitions
+pair_count messages message live [] = 0
+pair_count messages message live (definition ∷ definitions) =
+    length (partial_matches messages live definition) * pattern_count (Some message) definition + pair_count messages message live definitions
 
 -- at paths, a number is tried at most at each pair of a path and a pattern of its kind
 abbrev pub TriesAreFew : Type 0
-TriesAreFew = (o : Offered) (paths : List Assignment) → tries o paths ≤ length paths * pattern_count (letter_at o.letters o.number) o.definition
+TriesAreFew = (o : Offered) (paths : List Assignment) → tries o paths ≤ length paths * pattern_count (recorded_message o.messages o.number) o.definition
 
 -- and a further message at most at each pair of a partial match of a definition and a pattern of its kind there
 abbrev pub AllTriesAreFew : Type 0
-AllTriesAreFew = (letters : List Message) (message : Message) (live : List ℕ) (rule : ℕ) (definitions : List Definition)
-    → tries_from letters message live rule definitions ≤ pair_count letters message live definitions
+AllTriesAreFew = (messages : List Message) (message : Message) (live : List ℕ) (rule : ℕ) (definitions : List Definition)
+    → tries_from messages message live rule definitions ≤ pair_count messages message live definitions
 
 -- ---- prefixes of partial matches
 
@@ -44,5 +44,5 @@ up_to latest slots = map (slot_up_to latest) slots
 
 -- each prefix of a partial match in the order of arrival is a partial match
 abbrev pub PrefixesArePartial : Type 0
-PrefixesArePartial = (letters : List Message) (live : List ℕ) (definition : Definition) (slots : Assignment) (latest : ℕ)
-    → IsIn slots (partial_matches letters live definition) → IsIn (up_to latest slots) (partial_matches letters live definition)
+PrefixesArePartial = (messages : List Message) (live : List ℕ) (definition : Definition) (slots : Assignment) (latest : ℕ)
+    → IsIn slots (partial_matches messages live definition) → IsIn (up_to latest slots) (partial_matches messages live definition)

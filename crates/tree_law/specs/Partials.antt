@@ -15,35 +15,35 @@ use Rattle.match_tree.specs.Tree.{SameMembers}
 
 -- the paths are the partial matches of the recorded messages and live numbers
 abbrev pub ArePartial : List Message → List ℕ → Definition → List Assignment → Type 0
-ArePartial letters live definition paths = SameMembers paths (partial_matches letters live definition)
+ArePartial messages live definition paths = SameMembers paths (partial_matches messages live definition)
 
 -- no complete match waits
 abbrev pub NoneWaits : List Message → List ℕ → Definition → Type 0
-NoneWaits letters live definition = (slots : Assignment) → ¬ IsIn slots (complete_matches letters live definition)
+NoneWaits messages live definition = (slots : Assignment) → ¬ IsIn slots (complete_matches messages live definition)
 
 -- each live number is that of a recorded message
 abbrev pub AreLive : List Message → List ℕ → Type 0
-AreLive letters live = (number : ℕ) → IsIn number live → IsRecorded letters number
+AreLive messages live = (number : ℕ) → IsIn number live → IsRecorded messages number
 
 -- the recorded messages with one more, its number, and the live numbers with it
-abbrev pub letters_more : List Message → Message → List Message
-letters_more letters message = letters ++ message ∷ []
+abbrev pub messages_more : List Message → Message → List Message
+messages_more messages message = messages ++ message ∷ []
 
 abbrev pub number_more : List Message → ℕ
-number_more letters = length letters + 1
+number_more messages = length messages + 1
 
 abbrev pub live_more : List Message → List ℕ → List ℕ
-live_more letters live = live ++ number_more letters ∷ []
+live_more messages live = live ++ number_more messages ∷ []
 
 -- the further message, offered to the paths of a definition
 abbrev pub offer_more : List Message → Message → Definition → ℕ → Offered
-offer_more letters message definition rule = record {
-  letters = letters_more letters message;
+offer_more messages message definition rule = record {
+  messages = messages_more messages message;
   index = no_index;
   definition = definition;
   rule = rule;
-  number = number_more letters;
-  oldest = oldest_seen definition.window (number_more letters);
+  number = number_more messages;
+  oldest = oldest_seen definition.window (number_more messages);
 }
 
 -- the live numbers without those that a firing takes

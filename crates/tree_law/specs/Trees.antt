@@ -14,14 +14,14 @@ use Rattle.match_tree.specs.Tries.{tries}
 use Rattle.tree_law.specs.Partials.{ArePartial, NoneWaits, offer_more}
 
 -- the paths are the partial matches, and no complete match waits
-pub record Holds (letters : List Message) (live : List ℕ) (tree : Tree) : Type 0 where
+pub record Holds (messages : List Message) (live : List ℕ) (tree : Tree) : Type 0 where
   pub some : 1 ≤ length tree.definition.patterns
   pub sees : SeesLatest tree.definition.window
-  pub partial : ArePartial letters live tree.definition tree.paths
-  pub none : NoneWaits letters live tree.definition
+  pub partial : ArePartial messages live tree.definition tree.paths
+  pub none : NoneWaits messages live tree.definition
 
 abbrev pub HoldAll : List Message → List ℕ → List Tree → Type 0
-HoldAll letters live trees = AllByRecursion (Holds letters live) trees
+HoldAll messages live trees = AllByRecursion (Holds messages live) trees
 
 -- a tree for each definition, of which the first has this number
 abbrev pub AreTreesOf : ℕ → List Definition → List Tree → Type 0
@@ -32,10 +32,10 @@ AreTreesOf rule (definition ∷ definitions) (tree ∷ trees) = (tree.definition
 
 -- the tree has a reserve for a further message
 abbrev pub IsReservedFor : List Message → Message → Tree → Type 0
-IsReservedFor letters message tree = IsReserved (offer_more letters message tree.definition tree.rule) tree.paths tree.reserve
+IsReservedFor messages message tree = IsReserved (offer_more messages message tree.definition tree.rule) tree.paths tree.reserve
 
 abbrev pub AreReservedFor : List Message → Message → List Tree → Type 0
-AreReservedFor letters message trees = AllByRecursion (IsReservedFor letters message) trees
+AreReservedFor messages message trees = AllByRecursion (IsReservedFor messages message) trees
 
 abbrev pub reserve_best : Option Reserve → Option Candidate
 reserve_best None = None
@@ -49,16 +49,16 @@ best_of (tree ∷ trees) = lesser_of (reserve_best tree.reserve) (best_of trees)
 -- ---- one tree after a step
 
 -- the paths that are still seen stay, and those that were set aside join them
-pub record IsKept (letters : List Message) (message : Message) (before after : Tree) : Type 0 where
+pub record KeepsSeenPaths (messages : List Message) (message : Message) (before after : Tree) : Type 0 where
   pub definition : after.definition ≡ before.definition
   pub rule : after.rule ≡ before.rule
   pub reserve : Reserve
   pub had : before.reserve ≡ Some reserve
-  pub paths : SameMembers after.paths (seen_paths (offer_more letters message before.definition before.rule) before.paths ++ reserve.aside)
+  pub paths : SameMembers after.paths (seen_paths (offer_more messages message before.definition before.rule) before.paths ++ reserve.aside)
 
 -- the paths that are still seen and take none of the numbers stay
 abbrev pub fired_tree : List Message → Message → List ℕ → Tree → Tree
-fired_tree letters message taken tree = with_paths tree (filter (is_path_without taken) (seen_paths (offer_more letters message tree.definition tree.rule) tree.paths)) None
+fired_tree messages message taken tree = with_paths tree (filter (is_path_without taken) (seen_paths (offer_more messages message tree.definition tree.rule) tree.paths)) None
 
 -- the empty path alone is left
 abbrev pub cleared_tree : Tree → Tree
@@ -72,16 +72,16 @@ path_count (tree ∷ trees) = length tree.paths + path_count trees
 
 -- how often a further message may be tried at the partial matches of the definitions, of which the first has this number
 abbrev pub tries_from : List Message → Message → List ℕ → ℕ → List Definition → ℕ
-tries_from letters message live rule [] = 0
-tries_from letters message live rule (definition ∷ definitions) =
-    tries (offer_more letters message definition rule) (partial_matches letters live definition) + tries_from letters message live (rule + 1) definitions
+tries_from messages message live rule [] = 0
+tries_from messages message live rule (definition ∷ definitions) =
+    tries (offer_more messages message definition rule) (partial_matches messages live definition) + tries_from messages message live (rule + 1) definitions
 
 -- each tree keeps the further message
 abbrev pub AreKept : List Message → Message → List Tree → List Tree → Type 0
-AreKept letters message [] [] = Unit {0}
-AreKept letters message [] (after ∷ afters) = ⊥
-AreKept letters message (before ∷ befores) [] = ⊥
-AreKept letters message (before ∷ befores) (after ∷ afters) = IsKept letters message before after × AreKept letters message befores afters
+AreKept messages message [] [] = Unit {0}
+AreKept messages message [] (after ∷ afters) = ⊥
+AreKept messages message (before ∷ befores) [] = ⊥
+AreKept messages message (before ∷ befores) (after ∷ afters) = KeepsSeenPaths messages message before after × AreKept messages message befores afters
 
 -- nothing is set aside
 abbrev pub AreSettled : List Tree → Type 0
@@ -97,19 +97,19 @@ pruned_tree numbers tree = with_paths tree (filter (is_path_without numbers) tre
 
 -- the tree has a reserve for the number of the last of these messages
 abbrev pub IsReservedAt : List Message → ℕ → Tree → Type 0
-IsReservedAt letters number tree = IsReserved (offer_to tree letters number) tree.paths tree.reserve
+IsReservedAt messages number tree = IsReserved (offer_to tree messages number) tree.paths tree.reserve
 
 -- the index has the numbers of the tree's paths
 abbrev pub HasPaths : Index → List Message → Tree → Type 0
-HasPaths index letters tree = AllByRecursion (AreIndexed index letters) tree.paths
+HasPaths index messages tree = AllByRecursion (AreIndexed index messages) tree.paths
 
 -- the number may be offered to each path of the tree
 abbrev pub CanOfferTo : List Message → ℕ → Tree → Type 0
-CanOfferTo letters number tree = AllByRecursion (CanOffer (offer_to tree letters number)) tree.paths
+CanOfferTo messages number tree = AllByRecursion (CanOffer (offer_to tree messages number)) tree.paths
 
 abbrev pub tries_at : List Message → ℕ → List Tree → ℕ
-tries_at letters number [] = 0
-tries_at letters number (tree ∷ trees) = tries (offer_to tree letters number) tree.paths + tries_at letters number trees
+tries_at messages number [] = 0
+tries_at messages number (tree ∷ trees) = tries (offer_to tree messages number) tree.paths + tries_at messages number trees
 
 -- no path of the tree stands twice
 abbrev pub HasOnce : Tree → Type 0

@@ -12,47 +12,47 @@ use value_index::ValueIndex;
 // Offers a number to the trees, until one finds no memory.
 fn reserve_each<L: Ledger>(
     trees: &mut [MatchTree],
-    letters: &[Message],
+    messages: &[Message],
     index: &ValueIndex,
     number: u32,
     steps: &mut Steps<L>,
 ) -> Result<(), NoMemory>
     requires few { number < 2 ^ 32 - 1 }
     requires settled { AreSettled trees.old }
-    requires can { AllByRecursion (CanOfferTo letters.now number) trees.old }
-    requires indexed { AllByRecursion (HasPaths index.now letters.now) trees.old }
+    requires can { AllByRecursion (CanOfferTo messages.now number) trees.old }
+    requires indexed { AllByRecursion (HasPaths index.now messages.now) trees.old }
 
     ensures same { map settled_tree trees.new ≡ map settled_tree trees.old }
-    ensures reserved { OnOk result (AllByRecursion (IsReservedAt letters.now number) trees.new) }
-    ensures stepped { steps.new ≤ steps.old + tries_at letters.now number trees.old }
+    ensures reserved { OnOk result (AllByRecursion (IsReservedAt messages.now number) trees.new) }
+    ensures stepped { steps.new ≤ steps.old + tries_at messages.now number trees.old }
 {
     for tree in trees.iter_mut() {
-        tree.reserve_for(letters, index, number, steps)?;
+        tree.reserve_for(messages, index, number, steps)?;
     }
     Ok(())
 }
 
-/// Offers a number to all trees: each finds the least match that it completes, or sets aside what it adds. The index has
-/// each number of the trees' paths. Where there is no memory, the trees are as they were. Nothing may be set aside
+/// Offers a number to all trees: each finds the least match that it completes, or sets aside what it adds. The index
+/// has each number of the trees' paths. Where there is no memory, the trees are as they were. Nothing may be set aside
 /// already.
 pub fn reserve_all<L: Ledger>(
     trees: &mut [MatchTree],
-    letters: &[Message],
+    messages: &[Message],
     index: &ValueIndex,
     number: u32,
     steps: &mut Steps<L>,
 ) -> Result<(), NoMemory>
     requires few { number < 2 ^ 32 - 1 }
     requires settled { AreSettled trees.old }
-    requires can { AllByRecursion (CanOfferTo letters.now number) trees.old }
-    requires indexed { AllByRecursion (HasPaths index.now letters.now) trees.old }
+    requires can { AllByRecursion (CanOfferTo messages.now number) trees.old }
+    requires indexed { AllByRecursion (HasPaths index.now messages.now) trees.old }
 
     ensures same { map settled_tree trees.new ≡ trees.old }
-    ensures reserved { OnOk result (AllByRecursion (IsReservedAt letters.now number) trees.new) }
+    ensures reserved { OnOk result (AllByRecursion (IsReservedAt messages.now number) trees.new) }
     ensures unchanged { OnErr result (trees.new ≡ trees.old) }
-    ensures stepped { steps.new ≤ steps.old + tries_at letters.now number trees.old }
+    ensures stepped { steps.new ≤ steps.old + tries_at messages.now number trees.old }
 {
-    match reserve_each(trees, letters, index, number, steps) {
+    match reserve_each(trees, messages, index, number, steps) {
         Ok(()) => Ok(()),
         Err(refused) => {
             forget_all(trees);
@@ -88,20 +88,20 @@ pub fn forget_all(trees: &mut [MatchTree])
 /// index has it. Nothing may be set aside.
 pub fn prune_all(
     trees: &mut [MatchTree],
-    letters: &[Message],
+    messages: &[Message],
     index: &ValueIndex,
     number: u32,
     numbers: &Numbers,
 )
     requires few { number < 2 ^ 32 - 1 }
     requires settled { AreSettled trees.old }
-    requires can { AllByRecursion (CanOfferTo letters.now number) trees.old }
-    requires indexed { AllByRecursion (HasPaths index.now letters.now) trees.old }
+    requires can { AllByRecursion (CanOfferTo messages.now number) trees.old }
+    requires indexed { AllByRecursion (HasPaths index.now messages.now) trees.old }
 
     ensures { trees.new ≡ map (pruned_tree numbers.now) trees.old }
 {
     for tree in trees.iter_mut() {
-        tree.prune(letters, index, number, numbers);
+        tree.prune(messages, index, number, numbers);
     }
 }
 

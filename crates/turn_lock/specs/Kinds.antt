@@ -7,7 +7,7 @@ use Rattle.atomic_table.specs.Table.{Me, Step}
 use Rattle.turn_lock.specs.declared.view.View.{View}
 use Rattle.turn_lock.specs.View.{seen_of, met_of, requests_of, flag_of, flagged, marked, unmarked, refused, claimed, cleared, released}
 use Rattle.turn_lock.specs.Steps.{SetsMark, FindsMark}
-use Rattle.turn_lock.specs.Rule.{HasFlag, LacksFlag, IsRunning, IsAtRest, IsQueued, IsUnqueued, IsWithin}
+use Rattle.turn_lock.specs.Rule.{HasFlag, LacksFlag, IsRunning, IsIdle, IsQueued, IsUnqueued, IsWithin}
 
 -- a seat at one moment: its view, and the slots that it carries
 abbrev pub SeatState : Type 0 → Type 0 → Type 0 → Type 0 → Type 0
@@ -33,7 +33,7 @@ module _ {C G E L : Type 0} where
   ClaimTells tag lawful history tally st m n m' =
       (st.first ≡ 2)
       × (((IsRunning n) × (m' ≡ (refused st.word n m.0, m.1)))
-      ⊎ ((IsAtRest n) × ((c : C) × (answered : ℕ) × (m' ≡ (claimed st.word n answered (history c) (tally c) m.0, (st.word, Some c) ∷ m.1)) × lawful c × (get_elem? m.0.tags st.word ≡ some (tag c)) × IsWithin st.word (history c) m.0)))
+      ⊎ ((IsIdle n) × ((c : C) × (answered : ℕ) × (m' ≡ (claimed st.word n answered (history c) (tally c) m.0, (st.word, Some c) ∷ m.1)) × lawful c × (get_elem? m.0.tags st.word ≡ some (tag c)) × IsWithin st.word (history c) m.0)))
 
   abbrev pub ClearTells : Step (Option C) → SeatState C G E L → ℕ → SeatState C G E L → Type 0
   ClearTells st m n m' = (st.first ≡ all_but 1) × (m' ≡ (cleared st.word n m.0, m.1)) × (slice_index m'.0.clears st.word ≡ slice_index m.0.clears st.word + 1)

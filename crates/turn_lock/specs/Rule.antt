@@ -30,8 +30,8 @@ LacksFlag = LacksBit 1
 abbrev pub IsRunning : ℕ → Type 0
 IsRunning = HasBit 2
 
-abbrev pub IsAtRest : ℕ → Type 0
-IsAtRest = LacksBit 2
+abbrev pub IsIdle : ℕ → Type 0
+IsIdle = LacksBit 2
 
 -- the cell is marked
 abbrev pub IsQueued : ℕ → Type 0
@@ -108,7 +108,7 @@ module _ {C G E L : Type 0} (tag : C → G) (lawful : C → Type 0) (history : C
     pub no_two : (i : ℕ) → i < length tags → (a b : SomeoneHas i s.views) → a.0 ≡ b.0
     -- 3. an owner has emptied the slot, and with no owner a lawful cell lies there, with the tag of its place
     pub away : (i : ℕ) → i < length tags → IsRunning (slice_index s.words i) → get_elem? s.homes i ≡ some none
-    pub home : (i : ℕ) → i < length tags → IsAtRest (slice_index s.words i) → HoldsCell tag lawful tags i (get_elem? s.homes i)
+    pub home : (i : ℕ) → i < length tags → IsIdle (slice_index s.words i) → HoldsCell tag lawful tags i (get_elem? s.homes i)
     -- 4. seats in use agree on the tags, and a seat that was joined away has no turn and no changes
     pub shapes : (id : ℕ) (v : View G E L) → get_elem? s.views id ≡ some v → is_live v.role ≡ true → IsShaped tags v
     pub spent : (id : ℕ) (v : View G E L) → get_elem? s.views id ≡ some v → is_live v.role ≡ false → (v.turn ≡ Free) × (v.changes ≡ [])

@@ -6,11 +6,11 @@ use lib.ListN.{get_elem?}
 use Rattle.turn_lock.specs.declared.view.View.{View}
 use Rattle.turn_lock.specs.declared.view.Turn.TheVariants.{Has}
 use Rattle.turn_lock.specs.View.{seen_of, changes_of, requests_of, flag_of, mark_of, refused, claimed, cleared, released}
-use Rattle.turn_lock.specs.Rule.{IsRunning, IsAtRest}
+use Rattle.turn_lock.specs.Rule.{IsRunning, IsIdle}
 
 -- the turn of the cell i was got, by a claim and a clear: the cell c is lawful, has its tag, and its history begins with what was seen of it
 abbrev pub Gets : {C G E L : Type 0} → (C → G) → (C → Type 0) → (C → List E) → (C → L) → ℕ → View G E L → C → View G E L → Type 0
-Gets tag lawful history tally i v c w = ((word : ℕ) × (found : ℕ) × (answered : ℕ) × IsAtRest word × (w ≡ cleared i found (claimed i word answered (history c) (tally c) v))) × lawful c × (get_elem? v.tags i ≡ some (tag c)) × IsPrefix (seen_of v i) (history c)
+Gets tag lawful history tally i v c w = ((word : ℕ) × (found : ℕ) × (answered : ℕ) × IsIdle word × (w ≡ cleared i found (claimed i word answered (history c) (tally c) v))) × lawful c × (get_elem? v.tags i ≡ some (tag c)) × IsPrefix (seen_of v i) (history c)
 
 -- the seat has the turn of the cell i, found as c, which has the tag of its place
 abbrev pub HasTurn : {C G E L : Type 0} → (C → G) → (C → List E) → ℕ → C → View G E L → Type 0

@@ -112,8 +112,8 @@ each_together (a ∷ more) [] = a ∷ more
 each_together (a ∷ more) (b ∷ bs) = together a b ∷ each_together more bs
 
 -- one more at the place i
-abbrev pub raised : ℕ → List ℕ → List ℕ
-raised i counts = slice_set counts i (slice_index counts i + 1)
+abbrev pub increased_at : ℕ → List ℕ → List ℕ
+increased_at i counts = slice_set counts i (slice_index counts i + 1)
 
 -- the slots that a seat carries: that of its turn, which is empty while the cell is in hand
 abbrev pub carried_of : {C E : Type 0} → Turn E → List (ℕ × Option C)
@@ -185,7 +185,7 @@ module _ {G E L : Type 0} where
 
   -- after a flag at the cell i, which found this word
   abbrev pub flagged : ℕ → ℕ → View G E L → View G E L
-  flagged i word v = record v { flags = raised i v.flags; changes = slice_set v.changes i (with_flag word (changes_of v i)) }
+  flagged i word v = record v { flags = increased_at i v.flags; changes = slice_set v.changes i (with_flag word (changes_of v i)) }
 
   -- after a mark at the cell i, which found this word
   abbrev pub marked : ℕ → ℕ → View G E L → View G E L
@@ -193,7 +193,7 @@ module _ {G E L : Type 0} where
 
   -- after a mark at the cell i was taken away, by a step that found this word
   abbrev pub unmarked : ℕ → ℕ → View G E L → View G E L
-  unmarked i word v = record v { unmarks = raised i v.unmarks; changes = slice_set v.changes i (with_unmark word (changes_of v i)) }
+  unmarked i word v = record v { unmarks = increased_at i v.unmarks; changes = slice_set v.changes i (with_unmark word (changes_of v i)) }
 
   -- after a claim of the cell i, which found it away, with this word
   abbrev pub refused : ℕ → ℕ → View G E L → View G E L
@@ -205,7 +205,7 @@ module _ {G E L : Type 0} where
 
   -- after the clear of a turn at the cell i, which found this word: the request that it found is answered
   abbrev pub cleared : ℕ → ℕ → View G E L → View G E L
-  cleared i word v = record v { clears = raised i v.clears; changes = slice_set v.changes i (with_clear word (changes_of v i)); requests = slice_set v.requests i (requests_of v i + flag_of word) }
+  cleared i word v = record v { clears = increased_at i v.clears; changes = slice_set v.changes i (with_clear word (changes_of v i)); requests = slice_set v.requests i (requests_of v i + flag_of word) }
 
   -- after the turn of the cell i was given back, with this history and tally: a request that it found came during the turn
   abbrev pub released : ℕ → ℕ → List E → L → View G E L → View G E L

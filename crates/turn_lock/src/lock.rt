@@ -57,11 +57,13 @@ fn into_slots<C: Drop>(
 // The cells of a closed table in order, in the room that was kept for them.
 fn unload<C: Drop>(mut closed: Closed<Option<C>, Global>, mut room: Vec<C>) -> Vec<C>
     requires full { IsFull closed.slots }
-    requires home { (k : ℕ) → k < slots_len closed.slots → (c : C) × (get_elem? (slots_items closed.slots) k ≡ some (Some c)) }
+    requires home { (k : ℕ) → k < slots_len closed.slots → (c : C) × (get_elem? (slots_items closed.slots) k
+        ≡ some (Some c)) }
     requires empty { room.items ≡ [] }
     requires roomy { slots_len closed.slots ≤ vec_capacity room }
     ensures count { length result.items ≡ slots_len closed.slots }
-    ensures cells { (k : ℕ) (c : C) → get_elem? result.items k ≡ some c → get_elem? (slots_items closed.slots) k ≡ some (Some c) }
+    ensures cells { (k : ℕ) (c : C) → get_elem? result.items k ≡ some c → get_elem? (slots_items closed.slots) k
+        ≡ some (Some c) }
 {
     let mut i = 0;
     while i < closed.slot_count() {
@@ -78,11 +80,11 @@ fn unload<C: Drop>(mut closed: Closed<Option<C>, Global>, mut room: Vec<C>) -> V
 }
 
 impl<C: TurnCell> Turns<C> {
-    /// Makes a lock of 1 to 32 cells, each in its slot, with the first seat. That seat has seen nothing, has no turn, and has
-    /// counted no seat out.
+    /// Makes a lock of 1 to 32 cells, each in its slot, with the first seat. That seat has seen nothing, has no turn,
+    /// and has counted no seat out.
     ///
-    /// It makes no atomic step. Memory goes to the words, the slots and the cells in them. Where there is none the answer is
-    /// `NoMemory`, and the cells are dropped.
+    /// It makes no atomic step. Memory goes to the words, the slots and the cells in them. Where there is none the
+    /// answer is `NoMemory`, and the cells are dropped.
     pub fn new(alloc: Global, cells: CellList<C>) -> Result<(Turns<C>, TurnSeat<C>), NoMemory>
         requires some { 0 < length cells }
         requires few { length cells ≤ 32 }
@@ -102,7 +104,8 @@ impl<C: TurnCell> Turns<C> {
         }
     }
 
-    /// Leaves word at a cell that it should get another turn, whether or not somebody is at it: an OR of its word with FLAG.
+    /// Leaves word at a cell that it should get another turn, whether or not somebody is at it: an OR of its word with
+    /// FLAG.
     ///
     /// The seat counts its flags cell by cell, and has one more. It takes no memory and does not wait.
     pub fn flag(&self, seat: &mut TurnSeat<C>, index: u32)
@@ -126,7 +129,8 @@ impl<C: TurnCell> Turns<C> {
         ensures own { IsSameSeat seat.old seat.new }
         ensures marked { (word : ℕ) × MatchBool result (IsUnqueued word) (IsQueued word)
             × (view_of seat.new ≡ marked index word (view_of seat.old)) }
-        ensures set { MatchBool result (SetsMark index (view_of seat.old) (view_of seat.new)) (FindsMark index (view_of seat.old) (view_of seat.new)) }
+        ensures set { MatchBool result (SetsMark index (view_of seat.old) (view_of seat.new))
+            (FindsMark index (view_of seat.old) (view_of seat.new)) }
     {
         let word = self
             .table
@@ -143,7 +147,8 @@ impl<C: TurnCell> Turns<C> {
         requires exists { index < cell_count self.now }
         ensures own { IsSameSeat seat.old seat.new }
         ensures unmarked { (word : ℕ) × (view_of seat.new ≡ unmarked index word (view_of seat.old)) }
-        ensures counted { slice_index (view_of seat.new).unmarks index ≡ slice_index (view_of seat.old).unmarks index + 1 }
+        ensures counted { slice_index (view_of seat.new).unmarks index
+            ≡ slice_index (view_of seat.old).unmarks index + 1 }
     {
         self.table
             .shared
@@ -152,12 +157,12 @@ impl<C: TurnCell> Turns<C> {
 
     /// Tries once for the turn of a cell. The try, a claim, is an OR of its word with RUNNING.
     ///
-    /// If RUNNING was missing, this seat has the turn from then on. It clears FLAG, which adds one to its clears of that cell,
-    /// and takes the cell out of its slot, which `Ok` carries. The cell is lawful, has its tag, and has a history that goes on
-    /// from what this seat had seen. Its tally is noted as the one found.
+    /// If RUNNING was missing, this seat has the turn from then on. It clears FLAG, which adds one to its clears of
+    /// that cell, and takes the cell out of its slot, which `Ok` carries. The cell is lawful, has its tag, and has a
+    /// history that goes on from what this seat had seen. Its tally is noted as the one found.
     ///
-    /// If RUNNING was there, `Busy` brings the word. The seat has counted the try and the claim, and noted the word; all else
-    /// is as it was. The call takes no memory and does not wait.
+    /// If RUNNING was there, `Busy` brings the word. The seat has counted the try and the claim, and noted the word;
+    /// all else is as it was. The call takes no memory and does not wait.
     pub fn try_turn(&self, seat: &mut TurnSeat<C>, index: u32) -> Result<Held<C>, Busy>
         requires own { IsOf self.now seat.old }
         requires exists { index < cell_count self.now }
@@ -167,7 +172,8 @@ impl<C: TurnCell> Turns<C> {
         ensures got { IfOk result (λ held. Gets C.tag C.lawful C.history C.tally index
             (view_of seat.old) (cell_of held) (view_of seat.new)) }
         ensures turn { IfOk result (λ held. HasTurn C.tag C.history (index_of held) (cell_of held) (view_of seat.new)) }
-        ensures cleared { IfOk result (λ held. slice_index (view_of seat.new).clears index ≡ slice_index (view_of seat.old).clears index + 1) }
+        ensures cleared { IfOk result (λ held. slice_index (view_of seat.new).clears index
+            ≡ slice_index (view_of seat.old).clears index + 1) }
         ensures busy { IfErr result (λ busy. Misses index (view_of seat.old) busy.word (view_of seat.new)) }
     {
         let shared = &self.table.shared;
@@ -183,12 +189,13 @@ impl<C: TurnCell> Turns<C> {
 
     /// Ends a turn: a step puts the cell into its slot, and the last one takes RUNNING out of the word.
     ///
-    /// The answer is whether FLAG was in the word then. The turn cleared it at its beginning, and nobody else clears it during
-    /// the turn, so it means that somebody asked for another turn meanwhile: the seat knows of one request more than it did. It
-    /// has no turn any more, has seen all of the history, and notes the tally of the cell as the one put back.
+    /// The answer is whether FLAG was in the word then. The turn cleared it at its beginning, and nobody else clears it
+    /// during the turn, so it means that somebody asked for another turn meanwhile: the seat knows of one request more
+    /// than it did. It has no turn any more, has seen all of the history, and notes the tally of the cell as the one
+    /// put back.
     ///
-    /// The caller has the turn of this cell, and brings a lawful cell with the tag of its place, whose history goes on from the
-    /// one found. It takes no memory and does not wait.
+    /// The caller has the turn of this cell, and brings a lawful cell with the tag of its place, whose history goes on
+    /// from the one found. It takes no memory and does not wait.
     pub fn release(&self, seat: &mut TurnSeat<C>, held: Held<C>) -> bool
         requires own { IsOf self.now seat.old }
         requires turn { MayRelease C.tag C.lawful C.history (index_of held) (view_of seat.old) (cell_of held) }
@@ -210,17 +217,18 @@ impl<C: TurnCell> Turns<C> {
         word & FLAG != 0
     }
 
-    /// Makes a seat for another thread. It has seen what the first seat has seen, knows of the requests that it knows of, and
-    /// has done nothing. The first seat counts one more out.
+    /// Makes a seat for another thread. It has seen what the first seat has seen, knows of the requests that it knows
+    /// of, and has done nothing. The first seat counts one more out.
     ///
-    /// It is one step, a load of word 0. `NoMemory` would leave the first seat as it was; it is there for seats that need memory,
-    /// which they don't yet. The call does not wait.
+    /// It is one step, a load of word 0. `NoMemory` would leave the first seat as it was; it is there for seats that
+    /// need memory, which they don't yet. The call does not wait.
     pub fn split_seat(&self, seat: &mut TurnSeat<C>) -> Result<TurnSeat<C>, NoMemory>
         requires own { IsOf self.now seat.old }
         requires first { (out : ℕ) × IsFirst out (view_of seat.old) }
         requires free { (view_of seat.old).turn ≡ Free }
         ensures own { IsSameSeat seat.old seat.new }
-        ensures kept { view_of seat.new ≡ (if is_ok result then with_one_more (view_of seat.old) else view_of seat.old) }
+        ensures kept { view_of seat.new ≡ (if is_ok result then with_one_more (view_of seat.old) else
+            view_of seat.old) }
         ensures given { IfOk result (λ other. IsOf self.now other × (view_of other ≡ new_view (view_of seat.old))) }
     {
         let other = self.table.shared.split_seat::<Parting>(&mut seat.seat);
@@ -228,11 +236,11 @@ impl<C: TurnCell> Turns<C> {
         Ok(TurnSeat { seat: other, room })
     }
 
-    /// Ends a seat that `split_seat` made. Of each cell, what either of the two has seen begins what the first seat has seen from
-    /// then on. Their changes are added up, and the first seat counts one fewer out.
+    /// Ends a seat that `split_seat` made. Of each cell, what either of the two has seen begins what the first seat has
+    /// seen from then on. Their changes are added up, and the first seat counts one fewer out.
     ///
-    /// It makes two steps, both loads of word 0: one joins the views, and one tells that a seat was out, and that of two lists
-    /// seen the shorter begins the longer. It takes no memory and does not wait.
+    /// It makes two steps, both loads of word 0: one joins the views, and one tells that a seat was out, and that of
+    /// two lists seen the shorter begins the longer. It takes no memory and does not wait.
     pub fn join_seat(&self, seat: &mut TurnSeat<C>, other: TurnSeat<C>)
         requires own { IsOf self.now seat.old × IsOf self.now other }
         requires first { (out : ℕ) × IsFirst out (view_of seat.old) }
@@ -240,7 +248,8 @@ impl<C: TurnCell> Turns<C> {
         requires free { ((view_of seat.old).turn ≡ Free) × ((view_of other).turn ≡ Free) }
         ensures own { IsSameSeat seat.old seat.new }
         ensures view { view_of seat.new ≡ joined (view_of seat.old) (view_of other) }
-        ensures seen { HasSeenAll (view_of seat.old) (view_of seat.new) × HasSeenAll (view_of other) (view_of seat.new) }
+        ensures seen { HasSeenAll (view_of seat.old) (view_of seat.new) × HasSeenAll (view_of other)
+            (view_of seat.new) }
         ensures out { (out : ℕ) × IsFirst (out + 1) (view_of seat.old) × IsFirst out (view_of seat.new) }
     {
         let TurnSeat { seat: other, room } = other;
@@ -250,8 +259,9 @@ impl<C: TurnCell> Turns<C> {
         shared.load::<Settle>(&mut seat.seat, 0);
     }
 
-    /// Ends the lock when all other seats have been joined, and gives its cells in order. Each is lawful, has its tag, and has a
-    /// history that goes on from what the first seat has seen. That seat's changes account for FLAG and QUEUED of each cell.
+    /// Ends the lock when all other seats have been joined, and gives its cells in order. Each is lawful, has its tag,
+    /// and has a history that goes on from what the first seat has seen. That seat's changes account for FLAG and
+    /// QUEUED of each cell.
     ///
     /// It makes no atomic step, takes no memory and does not wait.
     pub fn close(self, seat: TurnSeat<C>) -> CellList<C>

@@ -8,7 +8,8 @@ use atomic_table::Seat;
 
 /// What one thread takes turns with. What it knows is its view, which contracts alone read.
 ///
-/// The first seat comes from `Turns::new`, and the others from `Turns::split_seat`. A seat may be sent to another thread.
+/// The first seat comes from `Turns::new`, and the others from `Turns::split_seat`. A seat may be sent to another
+/// thread.
 #[derive(Drop)]
 pub struct TurnSeat<C: TurnCell> {
     pub(crate) seat: Seat<Option<C>, View<C::Tag, C::Entry, C::Tally>>,

@@ -10,8 +10,8 @@ use std::snapshot::Snapshot;
 
 /// Cells, each under a lock of its own: one word, and one slot where the cell lies while nobody has its turn.
 ///
-/// After each atomic step, however threads are scheduled, the words, the slots and the views of all seats fit together as
-/// the turn rule says.
+/// After each atomic step, however threads are scheduled, the words, the slots and the views of all seats fit together
+/// as the turn rule says.
 #[derive(Drop)]
 pub struct Turns<C: TurnCell> {
     pub(crate) table: Table<

@@ -56,8 +56,8 @@ pub struct View<G, E, L> {
     pub clears: LinkedList<u64>,
     /// For each cell, what this seat and those that were joined to it changed in its word.
     pub changes: LinkedList<Changes>,
-    /// For each cell, how often its FLAG had been set, by all seats, when this seat's latest turn of it began, and once that
-    /// turn was given back, when it ended.
+    /// For each cell, how often its FLAG had been set, by all seats, when this seat's latest turn of it began, and once
+    /// that turn was given back, when it ended.
     pub requests: LinkedList<u64>,
     /// The tally of the cell when a turn was last got, as a list of one. Empty before the first turn.
     pub found: LinkedList<L>,

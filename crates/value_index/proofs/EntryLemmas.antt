@@ -18,7 +18,7 @@ use Rattle.std.proofs.lemmas.Map.Keys.{le_from_not_gt, sorted_head, sorted_tail}
 use Rattle.std.proofs.lemmas.Bool.Decides.{Decides-eqb, Decides-int_eq, nat_tests}
 use Rattle.std.proofs.lemmas.Bool.{cases_lt}
 use Rattle.join_base.specs.declared.message.Message.{Message}
-use Rattle.guard_eval.specs.Meaning.{letter_at}
+use Rattle.guard_eval.specs.Meaning.{recorded_message}
 use Rattle.pattern_core.specs.Matches.{is_of_kind}
 use Rattle.pattern_core.specs.Members.{IsIn}
 use Rattle.pattern_core.proofs.MembersLemmas.{IsIn-filter, IsIn-filter_from}
@@ -293,38 +293,38 @@ get_at [] i d l = absurd (omega arith)
 get_at (x ∷ xs) zero d l = refl
 get_at (x ∷ xs) (suc i) d l = get_at xs i d (omega arith)
 
-pub has_more : (fields : List IndexedField) (before now : List Entry) (letters : List Message) (number place : ℕ) (d : IndexedField) → place < length fields → Keeps before now → HasAt fields before letters number place
-    → (is_of_kind (letter_at letters number) (get_or fields place d).kind ≡ true → IsIn (entry place (value_at letters number (get_or fields place d)) number) now) → HasAt fields now letters number (place + 1)
-has_more fields before now letters number place d within keeps has here p f below get kind = elim (cases_lt p place) [
-  | inl less ↦ keeps (entry p (value_at letters number f) number) (has p f less get kind)
+pub has_more : (fields : List IndexedField) (before now : List Entry) (messages : List Message) (number place : ℕ) (d : IndexedField) → place < length fields → Keeps before now → HasAt fields before messages number place
+    → (is_of_kind (recorded_message messages number) (get_or fields place d).kind ≡ true → IsIn (entry place (value_at messages number (get_or fields place d)) number) now) → HasAt fields now messages number (place + 1)
+has_more fields before now messages number place d within keeps has here p f below get kind = elim (cases_lt p place) [
+  | inl less ↦ keeps (entry p (value_at messages number f) number) (has p f less get kind)
   | inr more ↦
       let same : place ≡ p = omega arith in
       let field : get_or fields place d ≡ f = some_one (get_or fields place d) f (sym (get_at fields place d within) ∙ ap (slice_get fields) same ∙ get) in
-      let Of : IndexedField → Type 0 = λ g. is_of_kind (letter_at letters number) g.kind ≡ true in
-      let at_place = (subst (λ (g : IndexedField). Of g → IsIn (entry place (value_at letters number g) number) now) field here) kind in
-      subst (λ (q : ℕ). IsIn (entry q (value_at letters number f) number) now) same at_place
+      let Of : IndexedField → Type 0 = λ g. is_of_kind (recorded_message messages number) g.kind ≡ true in
+      let at_place = (subst (λ (g : IndexedField). Of g → IsIn (entry place (value_at messages number g) number) now) field here) kind in
+      subst (λ (q : ℕ). IsIn (entry q (value_at messages number f) number) now) same at_place
 ]
   where
     some_one : (a b : IndexedField) → Some a ≡ Some b → a ≡ b
     some_one a b e = cc
 
-pub has_all : (fields : List IndexedField) (entries : List Entry) (letters : List Message) (number : ℕ) → HasAt fields entries letters number (length fields) → Has (record { fields = fields; entries = entries }) letters number
-has_all fields entries letters number h place indexed get kind = h place indexed (within_get fields place indexed get) get kind
+pub has_all : (fields : List IndexedField) (entries : List Entry) (messages : List Message) (number : ℕ) → HasAt fields entries messages number (length fields) → Has (record { fields = fields; entries = entries }) messages number
+has_all fields entries messages number h place indexed get kind = h place indexed (within_get fields place indexed get) get kind
 
-pub lacks_more : (fields : List IndexedField) (before now : List Entry) (letters : List Message) (number place : ℕ) (d : IndexedField) → place < length fields → AddsNone before now → LacksAt fields before letters number place
-    → (is_of_kind (letter_at letters number) (get_or fields place d).kind ≡ true → ¬ IsIn (entry place (value_at letters number (get_or fields place d)) number) now) → LacksAt fields now letters number (place + 1)
-lacks_more fields before now letters number place d within none lacks gone p f below get kind there = elim (cases_lt p place) [
-  | inl less ↦ lacks p f less get kind (none (entry p (value_at letters number f) number) there)
+pub lacks_more : (fields : List IndexedField) (before now : List Entry) (messages : List Message) (number place : ℕ) (d : IndexedField) → place < length fields → AddsNone before now → LacksAt fields before messages number place
+    → (is_of_kind (recorded_message messages number) (get_or fields place d).kind ≡ true → ¬ IsIn (entry place (value_at messages number (get_or fields place d)) number) now) → LacksAt fields now messages number (place + 1)
+lacks_more fields before now messages number place d within none lacks gone p f below get kind there = elim (cases_lt p place) [
+  | inl less ↦ lacks p f less get kind (none (entry p (value_at messages number f) number) there)
   | inr more ↦
       let same : place ≡ p = omega arith in
       let field : get_or fields place d ≡ f = some_one (get_or fields place d) f (sym (get_at fields place d within) ∙ ap (slice_get fields) same ∙ get) in
-      let Of : IndexedField → Type 0 = λ g. is_of_kind (letter_at letters number) g.kind ≡ true in
-      let at_place = (subst (λ (g : IndexedField). Of g → ¬ IsIn (entry place (value_at letters number g) number) now) field gone) kind in
-      at_place (subst (λ (q : ℕ). IsIn (entry q (value_at letters number f) number) now) (sym same) there)
+      let Of : IndexedField → Type 0 = λ g. is_of_kind (recorded_message messages number) g.kind ≡ true in
+      let at_place = (subst (λ (g : IndexedField). Of g → ¬ IsIn (entry place (value_at messages number g) number) now) field gone) kind in
+      at_place (subst (λ (q : ℕ). IsIn (entry q (value_at messages number f) number) now) (sym same) there)
 ]
   where
     some_one : (a b : IndexedField) → Some a ≡ Some b → a ≡ b
     some_one a b e = cc
 
-pub lacks_all : (fields : List IndexedField) (entries : List Entry) (letters : List Message) (number : ℕ) → LacksAt fields entries letters number (length fields) → Lacks (record { fields = fields; entries = entries }) letters number
-lacks_all fields entries letters number h place indexed get kind = h place indexed (within_get fields place indexed get) get kind
+pub lacks_all : (fields : List IndexedField) (entries : List Entry) (messages : List Message) (number : ℕ) → LacksAt fields entries messages number (length fields) → Lacks (record { fields = fields; entries = entries }) messages number
+lacks_all fields entries messages number h place indexed get kind = h place indexed (within_get fields place indexed get) get kind

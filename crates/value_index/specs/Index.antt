@@ -1,7 +1,7 @@
 -- What an index holds: the numbers of messages by the values of their fields.
 use Rattle.std.specs.Prelude.{◌≡◌, ◌≢◌, ℕ, ℤ, ◌<◌, List, [], true, Some, slice_get}
 use Rattle.join_base.specs.declared.message.Message.{Message}
-use Rattle.guard_eval.specs.Meaning.{letter_at}
+use Rattle.guard_eval.specs.Meaning.{recorded_message}
 use Rattle.pattern_core.specs.Matches.{is_of_kind}
 use Rattle.pattern_core.specs.Members.{IsIn}
 use Rattle.value_index.specs.declared.field.IndexedField.{IndexedField}
@@ -23,15 +23,15 @@ entry place value number = record { value = value; place = place; number = numbe
 
 -- of the first fields, so many, each that is of the number's kind has an entry of it
 abbrev pub HasAt : List IndexedField → List Entry → List Message → ℕ → ℕ → Type 0
-HasAt fields entries letters number count =
-    (place : ℕ) (indexed : IndexedField) → place < count → slice_get fields place ≡ Some indexed → is_of_kind (letter_at letters number) indexed.kind ≡ true
-    → IsIn (entry place (value_at letters number indexed) number) entries
+HasAt fields entries messages number count =
+    (place : ℕ) (indexed : IndexedField) → place < count → slice_get fields place ≡ Some indexed → is_of_kind (recorded_message messages number) indexed.kind ≡ true
+    → IsIn (entry place (value_at messages number indexed) number) entries
 
 -- the index has the number, with its value at each field of its kind
 abbrev pub Has : Index → List Message → ℕ → Type 0
-Has index letters number =
-    (place : ℕ) (indexed : IndexedField) → slice_get index.fields place ≡ Some indexed → is_of_kind (letter_at letters number) indexed.kind ≡ true
-    → IsIn (entry place (value_at letters number indexed) number) index.entries
+Has index messages number =
+    (place : ℕ) (indexed : IndexedField) → slice_get index.fields place ≡ Some indexed → is_of_kind (recorded_message messages number) indexed.kind ≡ true
+    → IsIn (entry place (value_at messages number indexed) number) index.entries
 
 -- all entries are still there
 abbrev pub Keeps : List Entry → List Entry → Type 0
@@ -43,15 +43,15 @@ KeepsOthers number before now = (e : Entry) → e.number ≢ number → IsIn e b
 
 -- of the first fields, so many, none that is of the number's kind has an entry of it
 abbrev pub LacksAt : List IndexedField → List Entry → List Message → ℕ → ℕ → Type 0
-LacksAt fields entries letters number count =
-    (place : ℕ) (indexed : IndexedField) → place < count → slice_get fields place ≡ Some indexed → is_of_kind (letter_at letters number) indexed.kind ≡ true
-    → ¬ IsIn (entry place (value_at letters number indexed) number) entries
+LacksAt fields entries messages number count =
+    (place : ℕ) (indexed : IndexedField) → place < count → slice_get fields place ≡ Some indexed → is_of_kind (recorded_message messages number) indexed.kind ≡ true
+    → ¬ IsIn (entry place (value_at messages number indexed) number) entries
 
 -- the index has no entry of the number with its value at a field of its kind
 abbrev pub Lacks : Index → List Message → ℕ → Type 0
-Lacks index letters number =
-    (place : ℕ) (indexed : IndexedField) → slice_get index.fields place ≡ Some indexed → is_of_kind (letter_at letters number) indexed.kind ≡ true
-    → ¬ IsIn (entry place (value_at letters number indexed) number) index.entries
+Lacks index messages number =
+    (place : ℕ) (indexed : IndexedField) → slice_get index.fields place ≡ Some indexed → is_of_kind (recorded_message messages number) indexed.kind ≡ true
+    → ¬ IsIn (entry place (value_at messages number indexed) number) index.entries
 
 -- no entry came in
 abbrev pub AddsNone : List Entry → List Entry → Type 0

@@ -33,13 +33,13 @@ fn text_value(bytes: &[u8]) -> i64
 }
 
 /// The value by which a recorded message is looked up at the field.
-pub fn value_at(letters: &[Message], number: u32, indexed: IndexedField) -> i64
-    ensures { result ≡ value_at letters.now number indexed }
+pub fn value_at(messages: &[Message], number: u32, indexed: IndexedField) -> i64
+    ensures { result ≡ value_at messages.now number indexed }
 {
     let Some(place) = number.checked_sub(1) else {
         return 0;
     };
-    let Some(message) = letters.get(place as usize) else {
+    let Some(message) = messages.get(place as usize) else {
         return 0;
     };
     match message.fields.get(indexed.field as usize) {

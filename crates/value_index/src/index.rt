@@ -1,6 +1,6 @@
 //! The index.
 ghost use Rattle.std.specs.Prelude.{◌≡◌, ◌≤◌, ◌<◌, [], length, ℕ, IfSome, OnOk, Some, slice_get, true};
-ghost use Rattle.guard_eval.specs.Meaning.{letter_at};
+ghost use Rattle.guard_eval.specs.Meaning.{recorded_message};
 ghost use Rattle.pattern_core.specs.Matches.{is_of_kind};
 ghost use Rattle.pattern_core.specs.Members.{IsIn};
 ghost use Rattle.pattern_core.specs.Suits.{IsRecorded};
@@ -38,40 +38,42 @@ impl Model for ValueIndex {
 // Adds the entry of a number at a field, where its message is of the field's kind.
 fn add_at(
     entries: &mut BTreeSet<Entry>,
-    letters: &[Message],
+    messages: &[Message],
     number: u32,
     place: u32,
     indexed: IndexedField,
 ) -> Result<(), NoMemory>
-    requires recorded { IsRecorded letters.now number }
-    ensures has { OnOk result (is_of_kind (letter_at letters.now number) indexed.kind ≡ true → IsIn (entry place (value_at letters.now number indexed) number) entries.new.keys) }
+    requires recorded { IsRecorded messages.now number }
+    ensures has { OnOk result (is_of_kind (recorded_message messages.now number) indexed.kind ≡ true
+        → IsIn (entry place (value_at messages.now number indexed) number) entries.new.keys) }
     ensures keeps { Keeps entries.old.keys entries.new.keys }
     ensures only { AddsOnly number entries.old.keys entries.new.keys }
 {
-    if !has_kind(letters, number, indexed.kind) {
+    if !has_kind(messages, number, indexed.kind) {
         return Ok(());
     }
-    let value = value_at(letters, number, indexed);
+    let value = value_at(messages, number, indexed);
     add_entry(entries, Entry::new(place, value, number))
 }
 
 // Takes the entry of a number at a field out, where its message is of the field's kind.
 fn remove_at(
     entries: &mut BTreeSet<Entry>,
-    letters: &[Message],
+    messages: &[Message],
     number: u32,
     place: u32,
     indexed: IndexedField,
 )
-    requires recorded { IsRecorded letters.now number }
+    requires recorded { IsRecorded messages.now number }
     ensures others { KeepsOthers number entries.old.keys entries.new.keys }
     ensures adds_none { AddsNone entries.old.keys entries.new.keys }
-    ensures gone { is_of_kind (letter_at letters.now number) indexed.kind ≡ true → ¬ IsIn (entry place (value_at letters.now number indexed) number) entries.new.keys }
+    ensures gone { is_of_kind (recorded_message messages.now number) indexed.kind ≡ true
+        → ¬ IsIn (entry place (value_at messages.now number indexed) number) entries.new.keys }
 {
-    if !has_kind(letters, number, indexed.kind) {
+    if !has_kind(messages, number, indexed.kind) {
         return;
     }
-    let value = value_at(letters, number, indexed);
+    let value = value_at(messages, number, indexed);
     remove_entry(entries, Entry::new(place, value, number));
 }
 
@@ -79,17 +81,17 @@ fn remove_at(
 fn insert_at_all(
     fields: &[IndexedField],
     entries: &mut BTreeSet<Entry>,
-    letters: &[Message],
+    messages: &[Message],
     number: u32,
 ) -> Result<(), NoMemory>
     requires few { length fields.now ≤ 64 }
-    requires recorded { IsRecorded letters.now number }
-    ensures has { OnOk result (HasAt fields.now entries.new.keys letters.now number (length fields.now)) }
+    requires recorded { IsRecorded messages.now number }
+    ensures has { OnOk result (HasAt fields.now entries.new.keys messages.now number (length fields.now)) }
     ensures keeps { Keeps entries.old.keys entries.new.keys }
     ensures only { AddsOnly number entries.old.keys entries.new.keys }
 {
     for (place, indexed) in fields.iter().enumerate() {
-        add_at(entries, letters, number, place as u32, *indexed)?;
+        add_at(entries, messages, number, place as u32, *indexed)?;
     }
     Ok(())
 }
@@ -98,17 +100,17 @@ fn insert_at_all(
 fn remove_at_all(
     fields: &[IndexedField],
     entries: &mut BTreeSet<Entry>,
-    letters: &[Message],
+    messages: &[Message],
     number: u32,
 )
     requires few { length fields.now ≤ 64 }
-    requires recorded { IsRecorded letters.now number }
+    requires recorded { IsRecorded messages.now number }
     ensures others { KeepsOthers number entries.old.keys entries.new.keys }
     ensures adds_none { AddsNone entries.old.keys entries.new.keys }
-    ensures lacks { LacksAt fields.now entries.new.keys letters.now number (length fields.now) }
+    ensures lacks { LacksAt fields.now entries.new.keys messages.now number (length fields.now) }
 {
     for (place, indexed) in fields.iter().enumerate() {
-        remove_at(entries, letters, number, place as u32, *indexed);
+        remove_at(entries, messages, number, place as u32, *indexed);
     }
 }
 
@@ -151,26 +153,26 @@ impl ValueIndex {
     }
 
     /// Adds a recorded number with its values. Without memory some of them may be there.
-    pub fn insert(&mut self, letters: &[Message], number: u32) -> Result<(), NoMemory>
-        requires recorded { IsRecorded letters.now number }
+    pub fn insert(&mut self, messages: &[Message], number: u32) -> Result<(), NoMemory>
+        requires recorded { IsRecorded messages.now number }
         ensures fields { self.new.fields ≡ self.old.fields }
         ensures keeps { Keeps self.old.entries self.new.entries }
         ensures only { AddsOnly number self.old.entries self.new.entries }
-        ensures has { OnOk result (Has self.new letters.now number) }
+        ensures has { OnOk result (Has self.new messages.now number) }
     {
-        insert_at_all(&self.fields, &mut self.entries, letters, number)?;
+        insert_at_all(&self.fields, &mut self.entries, messages, number)?;
         Ok(())
     }
 
     /// Takes a recorded number out.
-    pub fn remove(&mut self, letters: &[Message], number: u32)
-        requires recorded { IsRecorded letters.now number }
+    pub fn remove(&mut self, messages: &[Message], number: u32)
+        requires recorded { IsRecorded messages.now number }
         ensures fields { self.new.fields ≡ self.old.fields }
         ensures others { KeepsOthers number self.old.entries self.new.entries }
         ensures adds_none { AddsNone self.old.entries self.new.entries }
-        ensures lacks { Lacks self.new letters.now number }
+        ensures lacks { Lacks self.new messages.now number }
     {
-        remove_at_all(&self.fields, &mut self.entries, letters, number);
+        remove_at_all(&self.fields, &mut self.entries, messages, number);
     }
 
     /// Takes all numbers out.
@@ -184,7 +186,8 @@ impl ValueIndex {
     /// The numbers from this one on that have the value at the field of the place, in ascending order.
     pub fn numbers_from(&self, place: u32, value: i64, from: u32) -> SameValue<'_>
         ensures ascend { Ascend result }
-        ensures has { (number : ℕ) → from ≤ number → IsIn (entry place value number) self.now.entries → IsIn number result }
+        ensures has { (number : ℕ) → from ≤ number → IsIn (entry place value number) self.now.entries
+            → IsIn number result }
     {
         SameValue::from_start(&self.entries, Entry::new(place, value, from))
     }

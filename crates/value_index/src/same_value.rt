@@ -31,7 +31,8 @@ impl<'a> SameValue<'a> {
     /// Those of the start's value and place, from its number on.
     pub(crate) fn from_start(entries: &'a BTreeSet<Entry>, start: Entry) -> SameValue<'a>
         ensures ascend { Ascend result }
-        ensures has { (number : ℕ) → start.number ≤ number → IsIn (entry start.place start.value number) entries.now.keys → IsIn number result }
+        ensures has { (number : ℕ) → start.number ≤ number → IsIn (entry start.place start.value number)
+            entries.now.keys → IsIn number result }
     {
         SameValue {
             entries: entries.range(start..),

@@ -34,16 +34,16 @@ module _ (P : Assignment → Type 0) where
   found_has ws slots all found = let Has : Option Assignment → Type 0 = λ o. IfSome o P in subst Has (sym found) (fullest_has ws all)
 
 -- the reason by what was found
-pub reason_found : (letters : List Message) (left : List ℕ) (definition : Definition) (number : ℕ) (seen : List ℕ) (ws : List Assignment) (best : Option Assignment) → seen ≡ seen_of definition (length letters) left → contains_number seen number ≡ true
-    → ws ≡ ways letters definition seen number → best ≡ fullest ws → reason_by best ≡ reason_of letters left definition number
-reason_found letters left definition number seen ws best seen_is has ws_is best_is =
-    let among : List ℕ = seen_of definition (length letters) left in
-    let found : Reason = reason_by (fullest (ways letters definition among number)) in
-    ap reason_by (best_is ∙ ap fullest (ws_is ∙ ap (λ (s : List ℕ). ways letters definition s number) seen_is))
+pub reason_found : (messages : List Message) (left : List ℕ) (definition : Definition) (number : ℕ) (seen : List ℕ) (ws : List Assignment) (best : Option Assignment) → seen ≡ seen_of definition (length messages) left → contains_number seen number ≡ true
+    → ws ≡ ways messages definition seen number → best ≡ fullest ws → reason_by best ≡ reason_of messages left definition number
+reason_found messages left definition number seen ws best seen_is has ws_is best_is =
+    let among : List ℕ = seen_of definition (length messages) left in
+    let found : Reason = reason_by (fullest (ways messages definition among number)) in
+    ap reason_by (best_is ∙ ap fullest (ws_is ∙ ap (λ (s : List ℕ). ways messages definition s number) seen_is))
     ∙ sym (ap (λ (b : Bool). if b then found else Passed) (ap (λ (s : List ℕ). contains_number s number) (sym seen_is) ∙ has))
 
-pub reason_passed : (letters : List Message) (left : List ℕ) (definition : Definition) (number : ℕ) (seen : List ℕ) → seen ≡ seen_of definition (length letters) left → contains_number seen number ≡ false → Passed ≡ reason_of letters left definition number
-reason_passed letters left definition number seen seen_is lacks =
-    let among : List ℕ = seen_of definition (length letters) left in
-    let found : Reason = reason_by (fullest (ways letters definition among number)) in
+pub reason_passed : (messages : List Message) (left : List ℕ) (definition : Definition) (number : ℕ) (seen : List ℕ) → seen ≡ seen_of definition (length messages) left → contains_number seen number ≡ false → Passed ≡ reason_of messages left definition number
+reason_passed messages left definition number seen seen_is lacks =
+    let among : List ℕ = seen_of definition (length messages) left in
+    let found : Reason = reason_by (fullest (ways messages definition among number)) in
     sym (ap (λ (b : Bool). if b then found else Passed) (ap (λ (s : List ℕ). contains_number s number) (sym seen_is) ∙ lacks))

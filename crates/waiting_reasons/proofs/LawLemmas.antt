@@ -60,32 +60,32 @@ fullest_most (w ∷ ws) other (inr listed) = as_full_later w other (fullest ws) 
 
 -- ---- the reasons
 
-module _ (letters : List Message) (left : List ℕ) (definition : Definition) (number : ℕ) where
-  is_listed : (other : Assignment) → IsWay letters left definition number other → IsIn other (ways letters definition (seen_of definition (length letters) left) number)
-  is_listed other way = way_listed letters definition (seen_of definition (length letters) left) other way.assigns way.agreeable number way.has
+module _ (messages : List Message) (left : List ℕ) (definition : Definition) (number : ℕ) where
+  is_listed : (other : Assignment) → IsWay messages left definition number other → IsIn other (ways messages definition (seen_of definition (length messages) left) number)
+  is_listed other way = way_listed messages definition (seen_of definition (length messages) left) other way.assigns way.agreeable number way.has
 
-  is_way : (slots : Assignment) → HasIt letters definition (seen_of definition (length letters) left) number slots → IsWay letters left definition number slots
+  is_way : (slots : Assignment) → HasIt messages definition (seen_of definition (length messages) left) number slots → IsWay messages left definition number slots
   is_way slots h = record { assigns = h.agrees.assigns; agreeable = h.agrees.agreeable; has = h.has }
 
-  found : IsIn number (seen_of definition (length letters) left) → (best : Option Assignment) → fullest (ways letters definition (seen_of definition (length letters) left) number) ≡ best → IsReason letters left definition number (reason_by best)
+  found : IsIn number (seen_of definition (length messages) left) → (best : Option Assignment) → fullest (ways messages definition (seen_of definition (length messages) left) number) ≡ best → IsReason messages left definition number (reason_by best)
   found among None e = λ slots way.
-      let as_full = fullest_most (ways letters definition (seen_of definition (length letters) left) number) slots (is_listed slots way) in
+      let as_full = fullest_most (ways messages definition (seen_of definition (length messages) left) number) slots (is_listed slots way) in
       subst (λ (o : Option Assignment). IsAsFull o slots) e as_full
   found among (Some best) e =
-      let all = ways_have letters definition (seen_of definition (length letters) left) number among in
-      let here = found_has (HasIt letters definition (seen_of definition (length letters) left) number) (ways letters definition (seen_of definition (length letters) left) number) best all (sym e) in (
+      let all = ways_have messages definition (seen_of definition (length messages) left) number among in
+      let here = found_has (HasIt messages definition (seen_of definition (length messages) left) number) (ways messages definition (seen_of definition (length messages) left) number) best all (sym e) in (
         is_way best here,
-        λ other way. subst (λ (o : Option Assignment). IsAsFull o other) e (fullest_most (ways letters definition (seen_of definition (length letters) left) number) other (is_listed other way)),
+        λ other way. subst (λ (o : Option Assignment). IsAsFull o other) e (fullest_most (ways messages definition (seen_of definition (length messages) left) number) other (is_listed other way)),
       )
 
-  reason_by_test : (b : Bool) → contains_number (seen_of definition (length letters) left) number ≡ b
-      → IsReason letters left definition number (if b then reason_by (fullest (ways letters definition (seen_of definition (length letters) left) number)) else Passed)
+  reason_by_test : (b : Bool) → contains_number (seen_of definition (length messages) left) number ≡ b
+      → IsReason messages left definition number (if b then reason_by (fullest (ways messages definition (seen_of definition (length messages) left) number)) else Passed)
   reason_by_test false e = e
   reason_by_test true e =
-      found (in_from_contains (seen_of definition (length letters) left) number e) (fullest (ways letters definition (seen_of definition (length letters) left) number)) refl
+      found (in_from_contains (seen_of definition (length messages) left) number e) (fullest (ways messages definition (seen_of definition (length messages) left) number)) refl
 
 pub reasons_are_true : ReasonsAreTrue
-reasons_are_true letters left definition number = reason_by_test letters left definition number (contains_number (seen_of definition (length letters) left) number) refl
+reasons_are_true messages left definition number = reason_by_test messages left definition number (contains_number (seen_of definition (length messages) left) number) refl
 
 -- ---- those that wait are hindered
 
@@ -97,37 +97,37 @@ filled_further (Some m ∷ slots) zero n e = absurd cc
 filled_further (slot ∷ slots) (suc p) n e = let later = filled_further slots p n e in omega (arith, later)
 
 -- what is found is false
-first_is_false : (letters : List Message) (slots : Assignment) (cs : List Condition) (c : Condition) → first_false letters slots cs ≡ Some c → IsIn c cs × (is_decided slots c ≡ true) × (is_true letters slots c ≡ false)
-first_is_false letters slots [] c e = absurd cc
-first_is_false letters slots (x ∷ cs) c e = by (is_decided slots x && not (is_true letters slots x)) refl (first_is_false letters slots cs c) e
+first_is_false : (messages : List Message) (slots : Assignment) (cs : List Condition) (c : Condition) → first_false messages slots cs ≡ Some c → IsIn c cs × (is_decided slots c ≡ true) × (is_true messages slots c ≡ false)
+first_is_false messages slots [] c e = absurd cc
+first_is_false messages slots (x ∷ cs) c e = by (is_decided slots x && not (is_true messages slots x)) refl (first_is_false messages slots cs c) e
   where
-    by : (b : Bool) → (is_decided slots x && not (is_true letters slots x)) ≡ b → (first_false letters slots cs ≡ Some c → IsIn c cs × (is_decided slots c ≡ true) × (is_true letters slots c ≡ false))
-        → (if b then Some x else first_false letters slots cs) ≡ Some c → IsIn c (x ∷ cs) × (is_decided slots c ≡ true) × (is_true letters slots c ≡ false)
+    by : (b : Bool) → (is_decided slots x && not (is_true messages slots x)) ≡ b → (first_false messages slots cs ≡ Some c → IsIn c cs × (is_decided slots c ≡ true) × (is_true messages slots c ≡ false))
+        → (if b then Some x else first_false messages slots cs) ≡ Some c → IsIn c (x ∷ cs) × (is_decided slots c ≡ true) × (is_true messages slots c ≡ false)
     by true t later e =
         let same : x ≡ c = cc in
-        let parts = both_true (is_decided slots x) (not (is_true letters slots x)) t in (
+        let parts = both_true (is_decided slots x) (not (is_true messages slots x)) t in (
           inl same,
           subst (λ (y : Condition). is_decided slots y ≡ true) same parts.0,
-          subst (λ (y : Condition). is_true letters slots y ≡ false) same (not_of (is_true letters slots x) parts.1),
+          subst (λ (y : Condition). is_true messages slots y ≡ false) same (not_of (is_true messages slots x) parts.1),
         )
     by false t later e = let r = later e in (inr r.0, r.1, r.2)
 
-module _ (letters : List Message) (left : List ℕ) (definition : Definition) (number : ℕ) (slots : Assignment) (place further : ℕ) (empty : slice_get slots place ≡ Some None)
-    (may : MayTake letters (seen_of definition (length letters) left) (slice_index definition.patterns place) slots further) (reason : IsReason letters left definition number (Fullest slots)) where
-  hindered_by : (found : Option Condition) → first_false letters (slice_set slots place (Some further)) definition.conjuncts ≡ found → IsHindered letters definition (slice_set slots place (Some further))
+module _ (messages : List Message) (left : List ℕ) (definition : Definition) (number : ℕ) (slots : Assignment) (place further : ℕ) (empty : slice_get slots place ≡ Some None)
+    (may : MayTake messages (seen_of definition (length messages) left) (slice_index definition.patterns place) slots further) (reason : IsReason messages left definition number (Fullest slots)) where
+  hindered_by : (found : Option Condition) → first_false messages (slice_set slots place (Some further)) definition.conjuncts ≡ found → IsHindered messages definition (slice_set slots place (Some further))
   hindered_by (Some c) e =
-      let is = first_is_false letters (slice_set slots place (Some further)) definition.conjuncts c e in
+      let is = first_is_false messages (slice_set slots place (Some further)) definition.conjuncts c e in
       record { conjunct = c; found = e; is_false = record { among = is.0; decided = is.1; untrue = is.2 } }
   hindered_by None e =
-      let way : IsWay letters left definition number (slice_set slots place (Some further)) = record {
-        assigns = assigns_further letters (seen_of definition (length letters) left) definition.patterns slots place further reason.0.assigns empty may.is_live may.of_kind may.apart;
-        agreeable = agreeable_by_none letters (slice_set slots place (Some further)) definition.conjuncts e;
+      let way : IsWay messages left definition number (slice_set slots place (Some further)) = record {
+        assigns = assigns_further messages (seen_of definition (length messages) left) definition.patterns slots place further reason.0.assigns empty may.is_live may.of_kind may.apart;
+        agreeable = agreeable_by_none messages (slice_set slots place (Some further)) definition.conjuncts e;
         has = holds_stays slots place further number empty reason.0.has;
       } in
       let most = reason.1 (slice_set slots place (Some further)) way in
       absurd (omega (arith, most, filled_further slots place further empty))
 
 pub further_are_hindered : FurtherAreHindered
-further_are_hindered letters left definition number slots place further is empty may =
-    let reason : IsReason letters left definition number (Fullest slots) = subst (λ (r : Reason). IsReason letters left definition number r) is (reasons_are_true letters left definition number) in
-    hindered_by letters left definition number slots place further empty may reason (first_false letters (slice_set slots place (Some further)) definition.conjuncts) refl
+further_are_hindered messages left definition number slots place further is empty may =
+    let reason : IsReason messages left definition number (Fullest slots) = subst (λ (r : Reason). IsReason messages left definition number r) is (reasons_are_true messages left definition number) in
+    hindered_by messages left definition number slots place further empty may reason (first_false messages (slice_set slots place (Some further)) definition.conjuncts) refl

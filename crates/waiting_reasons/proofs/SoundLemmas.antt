@@ -7,7 +7,7 @@ use Rattle.std.proofs.lemmas.Bool.Decides.{nat_tests}
 use Rattle.join_base.specs.declared.message.Message.{Message}
 use Rattle.join_base.specs.Taken.{contains_number}
 use Rattle.guard_eval.specs.Condition.{Condition}
-use Rattle.guard_eval.specs.Meaning.{Assignment, letter_at}
+use Rattle.guard_eval.specs.Meaning.{Assignment, recorded_message}
 use Rattle.pattern_core.specs.declared.definition.Definition.{Definition}
 use Rattle.pattern_core.specs.Assigns.{Assigns, MayTake}
 use Rattle.pattern_core.specs.Matches.{is_of_kind, holds_number, is_agreeable, slot_is}
@@ -67,20 +67,20 @@ apart_too (slot ∷ slots) (suc p) n m held other =
     let parts = or_parts (slot_is m slot) (holds_number slots m) held in
     both_false (slot_is m slot) (holds_number (slice_set slots p (Some n)) m) parts.0 (apart_too slots p n m parts.1 other)
 
-module _ (letters : List Message) (seen : List ℕ) where
-  pub assigns_none : (kinds : List ℕ) → Assigns letters seen kinds (replicate (length kinds) None)
+module _ (messages : List Message) (seen : List ℕ) where
+  pub assigns_none : (kinds : List ℕ) → Assigns messages seen kinds (replicate (length kinds) None)
   assigns_none [] = tt
   assigns_none (kind ∷ kinds) = assigns_none kinds
 
-  pub length-assigns : (kinds : List ℕ) (slots : Assignment) → Assigns letters seen kinds slots → length slots ≡ length kinds
+  pub length-assigns : (kinds : List ℕ) (slots : Assignment) → Assigns messages seen kinds slots → length slots ≡ length kinds
   length-assigns [] [] h = refl
   length-assigns [] (slot ∷ slots) h = absurd h
   length-assigns (kind ∷ kinds) [] h = absurd h
   length-assigns (kind ∷ kinds) (None ∷ slots) h = ap suc (length-assigns kinds slots h)
   length-assigns (kind ∷ kinds) (Some n ∷ slots) h = ap suc (length-assigns kinds slots h.1)
 
-  pub assigns_further : (kinds : List ℕ) (slots : Assignment) (p n : ℕ) → Assigns letters seen kinds slots → slice_get slots p ≡ Some None → IsIn n seen → is_of_kind (letter_at letters n) (slice_index kinds p) ≡ true → holds_number slots n ≡ false
-      → Assigns letters seen kinds (slice_set slots p (Some n))
+  pub assigns_further : (kinds : List ℕ) (slots : Assignment) (p n : ℕ) → Assigns messages seen kinds slots → slice_get slots p ≡ Some None → IsIn n seen → is_of_kind (recorded_message messages n) (slice_index kinds p) ≡ true → holds_number slots n ≡ false
+      → Assigns messages seen kinds (slice_set slots p (Some n))
   assigns_further [] [] p n a e among kind apart = absurd cc
   assigns_further [] (slot ∷ slots) p n a e among kind apart = absurd a
   assigns_further (k ∷ kinds) [] p n a e among kind apart = absurd a
@@ -95,29 +95,29 @@ module _ (letters : List Message) (seen : List ℕ) where
 
 -- ---- all that are listed
 
-module _ (letters : List Message) (definition : Definition) (seen : List ℕ) (number : ℕ) where
+module _ (messages : List Message) (definition : Definition) (seen : List ℕ) (number : ℕ) where
   -- an agreeable assignment
   pub record IsAgreeing (slots : Assignment) : Type 0 where
-    pub assigns : Assigns letters seen definition.patterns slots
-    pub agreeable : is_agreeable letters definition.conjuncts slots ≡ true
+    pub assigns : Assigns messages seen definition.patterns slots
+    pub agreeable : is_agreeable messages definition.conjuncts slots ≡ true
 
   -- that has the number
   pub record HasIt (slots : Assignment) : Type 0 where
     pub agrees : IsAgreeing slots
     pub has : holds_number slots number ≡ true
 
-  empty_of_stands : (slots : Assignment) (place n : ℕ) → IsAgreeing slots → place < length definition.patterns → Stands letters definition slots place n → slice_get slots place ≡ Some None
+  empty_of_stands : (slots : Assignment) (place n : ℕ) → IsAgreeing slots → place < length definition.patterns → Stands messages definition slots place n → slice_get slots place ≡ Some None
   empty_of_stands slots place n a within s =
-      let count = length-assigns letters seen definition.patterns slots a.assigns in
+      let count = length-assigns messages seen definition.patterns slots a.assigns in
       empty_there slots place (omega (arith, within, count)) s.empty
 
-  further_agrees : (slots : Assignment) (place n : ℕ) → IsAgreeing slots → place < length definition.patterns → IsIn n seen → Stands letters definition slots place n → IsAgreeing (slice_set slots place (Some n))
+  further_agrees : (slots : Assignment) (place n : ℕ) → IsAgreeing slots → place < length definition.patterns → IsIn n seen → Stands messages definition slots place n → IsAgreeing (slice_set slots place (Some n))
   further_agrees slots place n a within among s = record {
-    assigns = assigns_further letters seen definition.patterns slots place n a.assigns (empty_of_stands slots place n a within s) among s.of_kind s.apart;
+    assigns = assigns_further messages seen definition.patterns slots place n a.assigns (empty_of_stands slots place n a within s) among s.of_kind s.apart;
     agreeable = s.agreeable;
   }
 
-  has_keeps : Keeps letters definition seen HasIt
+  has_keeps : Keeps messages definition seen HasIt
   has_keeps = record {
     further = λ slots place n h within among s. record {
       agrees = further_agrees slots place n h.agrees within among s;
@@ -127,23 +127,23 @@ module _ (letters : List Message) (definition : Definition) (seen : List ℕ) (n
 
   none_agrees : IsAgreeing (no_numbers definition)
   none_agrees = record {
-    assigns = assigns_none letters seen definition.patterns;
-    agreeable = agreeable_empty letters definition.conjuncts (length definition.patterns);
+    assigns = assigns_none messages seen definition.patterns;
+    agreeable = agreeable_empty messages definition.conjuncts (length definition.patterns);
   }
 
-  starts : IsIn number seen → (place : ℕ) → place < length definition.patterns → Stands letters definition (no_numbers definition) place number → HasIt (slice_set (no_numbers definition) place (Some number))
+  starts : IsIn number seen → (place : ℕ) → place < length definition.patterns → Stands messages definition (no_numbers definition) place number → HasIt (slice_set (no_numbers definition) place (Some number))
   starts among place within s =
-      let count = length-assigns letters seen definition.patterns (no_numbers definition) none_agrees.assigns in
+      let count = length-assigns messages seen definition.patterns (no_numbers definition) none_agrees.assigns in
       record {
         agrees = further_agrees (no_numbers definition) place number none_agrees within among s;
         has = holds_set (no_numbers definition) place number (omega (arith, within, count));
       }
 
   -- each that is listed has it
-  pub ways_have : IsIn number seen → AllByRecursion HasIt (ways letters definition seen number)
+  pub ways_have : IsIn number seen → AllByRecursion HasIt (ways messages definition seen number)
   ways_have among =
-      grown_at_have letters definition seen HasIt has_keeps 0 definition.patterns (alone_at letters definition number 0 definition.patterns) (omega arith)
-      (alone_have letters definition HasIt number (starts among) 0 definition.patterns (omega arith))
+      grown_at_have messages definition seen HasIt has_keeps 0 definition.patterns (alone_at messages definition number 0 definition.patterns) (omega arith)
+      (alone_have messages definition HasIt number (starts among) 0 definition.patterns (omega arith))
 
 in_by : (n m : ℕ) (ns : List ℕ) (b : Bool) → (n == m) ≡ b → (contains_number ns n ≡ true → IsIn n ns) → (b || contains_number ns n) ≡ true → IsIn n (m ∷ ns)
 in_by n m ns true e later h = inl (sym (same_number n m e))

@@ -5,7 +5,7 @@ use Rattle.std.proofs.lemmas.Option.{slice_get_within, get_or_from_slice_get}
 use Rattle.join_base.specs.declared.message.Message.{Message}
 use Rattle.join_base.proofs.EachLemmas.{each_at, each_from, each_map}
 use Rattle.guard_eval.specs.Condition.{Condition}
-use Rattle.guard_eval.specs.Meaning.{Assignment, letter_at, needs_of}
+use Rattle.guard_eval.specs.Meaning.{Assignment, recorded_message, needs_of}
 use Rattle.guard_eval.proofs.ExtendLemmas.{both_true}
 use Rattle.pattern_core.specs.declared.definition.Definition.{Definition}
 use Rattle.pattern_core.specs.Matches.{is_of_kind, holds_number, usable}
@@ -20,7 +20,7 @@ use Rattle.fair_semantics.specs.declared.run.Entry.{Entry}
 use Rattle.fair_semantics.specs.declared.run.Run.{Run}
 use Rattle.fair_semantics.specs.Fair.{rules_of}
 use Rattle.fair_semantics.specs.Fits.{ActorRunFits, EntryFits, RunFits}
-use Rattle.fair_semantics.specs.Step.{fits, letters_of}
+use Rattle.fair_semantics.specs.Step.{fits, recorded_messages}
 use Rattle.fair_semantics.proofs.ReadyLemmas.{needs_suit}
 use Rattle.fair_semantics.proofs.TypedLemmas.{condition_typed}
 use Rattle.waiting_reasons.specs.Inside.{RuleSuits, SuitsWith}
@@ -31,18 +31,18 @@ use Rattle.waiting_reasons.proofs.WaysLemmas.{recorded_kind}
 
 -- ---- definitions
 
-module _ (sorts : Sorts) (letters : List Message) (fitting : AllByRecursion (λ m. fits sorts m ≡ true) letters) where
-  rule_suits : (actors : ℕ) (rule : Rule) → IsTypedRule actors sorts rule → RuleSuits letters rule
+module _ (sorts : Sorts) (messages : List Message) (fitting : AllByRecursion (λ m. fits sorts m ≡ true) messages) where
+  rule_suits : (actors : ℕ) (rule : Rule) → IsTypedRule actors sorts rule → RuleSuits messages rule
   rule_suits actors rule typed = record {
     some = typed.some_patterns;
     few = typed.few_patterns;
-    needs = each_from (IsTypedCondition sorts rule.definition.patterns) (λ (c : Condition). AllByRecursion (NeedSuits letters rule.definition.patterns) (needs_of c))
-        (λ c t. needs_suit sorts letters fitting rule.definition.patterns (needs_of c) (condition_typed sorts rule.definition.patterns c t))
+    needs = each_from (IsTypedCondition sorts rule.definition.patterns) (λ (c : Condition). AllByRecursion (NeedSuits messages rule.definition.patterns) (needs_of c))
+        (λ c t. needs_suit sorts messages fitting rule.definition.patterns (needs_of c) (condition_typed sorts rule.definition.patterns c t))
         rule.definition.conjuncts typed.guard;
   }
 
-  typed_suit : (actors : ℕ) (rules : List Rule) → AllByRecursion (IsTypedRule actors sorts) rules → AllByRecursion (RuleSuits letters) rules
-  typed_suit actors rules typed = each_from (IsTypedRule actors sorts) (RuleSuits letters) (rule_suits actors) rules typed
+  typed_suit : (actors : ℕ) (rules : List Rule) → AllByRecursion (IsTypedRule actors sorts) rules → AllByRecursion (RuleSuits messages) rules
+  typed_suit actors rules typed = each_from (IsTypedRule actors sorts) (RuleSuits messages) (rule_suits actors) rules typed
 
 module _ (plan : Plan) (actor : ℕ) (typed : IsTyped plan) where
   rules_typed : (o : Option ActorPlan) → slice_get plan.actors actor ≡ o → AllByRecursion (IsTypedRule (length plan.actors) (kind_types plan.kinds)) (rules_of o)
@@ -58,22 +58,22 @@ module _ (plan : Plan) (actor : ℕ) (typed : IsTyped plan) where
   few_rules = rules_few (slice_get plan.actors actor) refl
 
   module _ (run : Run) (run_fits : RunFits plan run) where
-    letters_fit : (o : Option ActorRun) → slice_get run.actors actor ≡ o → AllByRecursion (λ m. fits (kind_types plan.kinds) m ≡ true) (letters_of (entries_in o))
-    letters_fit None e = tt
-    letters_fit (Some own) e =
+    messages_fit : (o : Option ActorRun) → slice_get run.actors actor ≡ o → AllByRecursion (λ m. fits (kind_types plan.kinds) m ≡ true) (recorded_messages (entries_in o))
+    messages_fit None e = tt
+    messages_fit (Some own) e =
         let own_fits = each_at (ActorRunFits plan run.version run.feeds) run.actors actor own e run_fits.each in
         each_map (EntryFits plan run.version run.feeds) (λ (m : Message). fits (kind_types plan.kinds) m ≡ true) (λ (entry : Entry). entry.message) (λ entry h. h.message.kind) own.entries own_fits.entries
 
     -- its definitions suit its messages
-    rules_suit : AllByRecursion (RuleSuits (letters_of (entries_in (slice_get run.actors actor)))) (rules_of (slice_get plan.actors actor))
+    rules_suit : AllByRecursion (RuleSuits (recorded_messages (entries_in (slice_get run.actors actor)))) (rules_of (slice_get plan.actors actor))
     rules_suit =
-        typed_suit (kind_types plan.kinds) (letters_of (entries_in (slice_get run.actors actor))) (letters_fit (slice_get run.actors actor) refl) (length plan.actors)
+        typed_suit (kind_types plan.kinds) (recorded_messages (entries_in (slice_get run.actors actor))) (messages_fit (slice_get run.actors actor) refl) (length plan.actors)
         (rules_of (slice_get plan.actors actor)) (rules_typed (slice_get plan.actors actor) refl)
 
-    pub told_suit : (rules : List Rule) (letters : List Message) → rules ≡ rules_of (slice_get plan.actors actor) → letters ≡ letters_of (entries_in (slice_get run.actors actor)) → AllByRecursion (RuleSuits letters) rules
-    told_suit rules letters rules_are letters_are =
-        subst (λ (rs : List Rule). AllByRecursion (RuleSuits letters) rs) (sym rules_are)
-        (subst (λ (ms : List Message). AllByRecursion (RuleSuits ms) (rules_of (slice_get plan.actors actor))) (sym letters_are) rules_suit)
+    pub told_suit : (rules : List Rule) (messages : List Message) → rules ≡ rules_of (slice_get plan.actors actor) → messages ≡ recorded_messages (entries_in (slice_get run.actors actor)) → AllByRecursion (RuleSuits messages) rules
+    told_suit rules messages rules_are messages_are =
+        subst (λ (rs : List Rule). AllByRecursion (RuleSuits messages) rs) (sym rules_are)
+        (subst (λ (ms : List Message). AllByRecursion (RuleSuits ms) (rules_of (slice_get plan.actors actor))) (sym messages_are) rules_suit)
 
 -- ---- assignments
 
@@ -82,30 +82,30 @@ each_take P zero xs all = tt
 each_take P (suc n) [] all = tt
 each_take P (suc n) (x ∷ xs) all = (all.0, each_take P n xs all.1)
 
-module _ (letters : List Message) (kinds : List ℕ) (slots : Assignment) (place kind : ℕ) (at : slice_get kinds place ≡ Some kind) (empty : slice_get slots place ≡ Some None) (suits : SlotsSuit letters kinds slots) where
+module _ (messages : List Message) (kinds : List ℕ) (slots : Assignment) (place kind : ℕ) (at : slice_get kinds place ≡ Some kind) (empty : slice_get slots place ≡ Some None) (suits : SlotsSuit messages kinds slots) where
   -- with a number of the kind that it has not
-  pub further_suits : (number : ℕ) → is_of_kind (letter_at letters number) kind ≡ true → holds_number slots number ≡ false → SuitsWith letters kinds slots place number
+  pub further_suits : (number : ℕ) → is_of_kind (recorded_message messages number) kind ≡ true → holds_number slots number ≡ false → SuitsWith messages kinds slots place number
   further_suits number of_kind apart =
       let here : slice_index kinds place ≡ kind = get_or_from_slice_get kinds place kind 0 at in
-      suits_further letters kinds slots place number suits empty (recorded_kind letters number kind of_kind) (ap (is_of_kind (letter_at letters number)) here ∙ of_kind) apart
+      suits_further messages kinds slots place number suits empty (recorded_kind messages number kind of_kind) (ap (is_of_kind (recorded_message messages number)) here ∙ of_kind) apart
 
   -- with each that waits
-  usable_suit : (left : List ℕ) → AllByRecursion (SuitsWith letters kinds slots place) (usable letters left kind slots)
+  usable_suit : (left : List ℕ) → AllByRecursion (SuitsWith messages kinds slots place) (usable messages left kind slots)
   usable_suit [] = tt
-  usable_suit (n ∷ left) = by (is_of_kind (letter_at letters n) kind && not (holds_number slots n)) refl (usable_suit left)
+  usable_suit (n ∷ left) = by (is_of_kind (recorded_message messages n) kind && not (holds_number slots n)) refl (usable_suit left)
     where
-      by : (b : Bool) → (is_of_kind (letter_at letters n) kind && not (holds_number slots n)) ≡ b → AllByRecursion (SuitsWith letters kinds slots place) (usable letters left kind slots)
-          → AllByRecursion (SuitsWith letters kinds slots place) (cond b (n ∷ usable letters left kind slots) (usable letters left kind slots))
+      by : (b : Bool) → (is_of_kind (recorded_message messages n) kind && not (holds_number slots n)) ≡ b → AllByRecursion (SuitsWith messages kinds slots place) (usable messages left kind slots)
+          → AllByRecursion (SuitsWith messages kinds slots place) (cond b (n ∷ usable messages left kind slots) (usable messages left kind slots))
       by false e later = later
       by true e later =
-          let parts = both_true (is_of_kind (letter_at letters n) kind) (not (holds_number slots n)) e in
+          let parts = both_true (is_of_kind (recorded_message messages n) kind) (not (holds_number slots n)) e in
           (further_suits n parts.0 (not_of (holds_number slots n) parts.1), later)
 
   -- with each of the first five
-  pub first_suit : (left waiting first : List ℕ) → waiting ≡ usable letters left kind slots → first ≡ take 5 waiting → AllByRecursion (SuitsWith letters kinds slots place) first
+  pub first_suit : (left waiting first : List ℕ) → waiting ≡ usable messages left kind slots → first ≡ take 5 waiting → AllByRecursion (SuitsWith messages kinds slots place) first
   first_suit left waiting first waiting_is first_is =
-      let all : AllByRecursion (SuitsWith letters kinds slots place) (take 5 (usable letters left kind slots)) = each_take (SuitsWith letters kinds slots place) 5 (usable letters left kind slots) (usable_suit left) in
-      subst (λ (ns : List ℕ). AllByRecursion (SuitsWith letters kinds slots place) ns) (sym (first_is ∙ ap (take 5) waiting_is)) all
+      let all : AllByRecursion (SuitsWith messages kinds slots place) (take 5 (usable messages left kind slots)) = each_take (SuitsWith messages kinds slots place) 5 (usable messages left kind slots) (usable_suit left) in
+      subst (λ (ns : List ℕ). AllByRecursion (SuitsWith messages kinds slots place) ns) (sym (first_is ∙ ap (take 5) waiting_is)) all
 
 none_held : (n number : ℕ) → holds_number (replicate n None) number ≡ false
 none_held zero number = refl
@@ -124,6 +124,6 @@ pub alone_empty : (definition : Definition) (place kind : ℕ) → slice_get def
 alone_empty definition place kind at = none_at (length definition.patterns) place (slice_get_within definition.patterns place kind at)
 
 -- and may have one of its kind
-pub alone_suit : (letters : List Message) (definition : Definition) (place kind number : ℕ) → slice_get definition.patterns place ≡ Some kind → is_of_kind (letter_at letters number) kind ≡ true → SuitsWith letters definition.patterns (no_numbers definition) place number
-alone_suit letters definition place kind number at of_kind =
-    further_suits letters definition.patterns (no_numbers definition) place kind at (alone_empty definition place kind at) (suits_empty letters definition.patterns) number of_kind (none_held (length definition.patterns) number)
+pub alone_suit : (messages : List Message) (definition : Definition) (place kind number : ℕ) → slice_get definition.patterns place ≡ Some kind → is_of_kind (recorded_message messages number) kind ≡ true → SuitsWith messages definition.patterns (no_numbers definition) place number
+alone_suit messages definition place kind number at of_kind =
+    further_suits messages definition.patterns (no_numbers definition) place kind at (alone_empty definition place kind at) (suits_empty messages definition.patterns) number of_kind (none_held (length definition.patterns) number)

@@ -5,7 +5,7 @@ use Rattle.std.specs.List.{flat_map}
 use Rattle.std.proofs.lemmas.Bool.Decides.{nat_tests}
 use Rattle.std.proofs.lemmas.List.{length-set, length-replicate}
 use Rattle.join_base.specs.declared.message.Message.{Message}
-use Rattle.guard_eval.specs.Meaning.{Assignment, letter_at, number_at, is_slot_filled}
+use Rattle.guard_eval.specs.Meaning.{Assignment, recorded_message, number_at, is_slot_filled}
 use Rattle.guard_eval.proofs.ExtendLemmas.{Extends}
 use Rattle.pattern_core.specs.declared.definition.Definition.{Definition}
 use Rattle.pattern_core.specs.Assigns.{Assigns}
@@ -98,13 +98,13 @@ at_held (slot ∷ slots) (suc p) n e = or_second (slot_is n slot) (holds_number 
 
 -- ---- the way that is to be listed
 
-module _ (letters : List Message) (seen : List ℕ) where
+module _ (messages : List Message) (seen : List ℕ) where
   record Numbered (kinds : List ℕ) (p n : ℕ) : Type 0 where
     pub is_live : IsIn n seen
-    pub of_kind : is_of_kind (letter_at letters n) (slice_index kinds p) ≡ true
+    pub of_kind : is_of_kind (recorded_message messages n) (slice_index kinds p) ≡ true
     pub within : p < length kinds
 
-  numbered : (kinds : List ℕ) (slots : Assignment) → Assigns letters seen kinds slots → (p n : ℕ) → number_at slots p ≡ Some n → Numbered kinds p n
+  numbered : (kinds : List ℕ) (slots : Assignment) → Assigns messages seen kinds slots → (p n : ℕ) → number_at slots p ≡ Some n → Numbered kinds p n
   numbered [] [] a p n e = absurd cc
   numbered [] (slot ∷ slots) a p n e = absurd a
   numbered (kind ∷ kinds) [] a p n e = absurd a
@@ -113,7 +113,7 @@ module _ (letters : List Message) (seen : List ℕ) where
       let same : m ≡ n = cc in
       record {
         is_live = subst (λ (k : ℕ). IsIn k seen) same a.0.is_live;
-        of_kind = subst (λ (k : ℕ). is_of_kind (letter_at letters k) kind ≡ true) same a.0.of_kind;
+        of_kind = subst (λ (k : ℕ). is_of_kind (recorded_message messages k) kind ≡ true) same a.0.of_kind;
         within = omega arith;
       }
   numbered (kind ∷ kinds) (None ∷ slots) a (suc p) n e =
@@ -122,7 +122,7 @@ module _ (letters : List Message) (seen : List ℕ) where
       let r = numbered kinds slots a.1 p n e in record { is_live = r.is_live; of_kind = r.of_kind; within = omega (arith, r.within) }
 
   -- no two patterns have one number
-  one_place : (kinds : List ℕ) (slots : Assignment) → Assigns letters seen kinds slots → (p q n : ℕ) → number_at slots p ≡ Some n → number_at slots q ≡ Some n → p ≡ q
+  one_place : (kinds : List ℕ) (slots : Assignment) → Assigns messages seen kinds slots → (p q n : ℕ) → number_at slots p ≡ Some n → number_at slots q ≡ Some n → p ≡ q
   one_place [] [] a p q n e f = absurd cc
   one_place [] (slot ∷ slots) a p q n e f = absurd a
   one_place (kind ∷ kinds) [] a p q n e f = absurd a
@@ -138,15 +138,15 @@ module _ (letters : List Message) (seen : List ℕ) where
   one_place (kind ∷ kinds) (None ∷ slots) a (suc p) (suc q) n e f = ap suc (one_place kinds slots a p q n e f)
   one_place (kind ∷ kinds) (Some m ∷ slots) a (suc p) (suc q) n e f = ap suc (one_place kinds slots a.1 p q n e f)
 
-in_longer : (letters : List Message) (definition : Definition) (slots : Assignment) (place n : ℕ) → may_stand letters definition slots place n ≡ true → IsIn (slice_set slots place (Some n)) (longer letters definition slots place n)
-in_longer letters definition slots place n may =
+in_longer : (messages : List Message) (definition : Definition) (slots : Assignment) (place n : ℕ) → may_stand messages definition slots place n ≡ true → IsIn (slice_set slots place (Some n)) (longer messages definition slots place n)
+in_longer messages definition slots place n may =
     let x : Assignment = slice_set slots place (Some n) in
     let In : Bool → Type 0 = λ b. IsIn x (if b then x ∷ [] else []) in
     subst In (sym may) (inl refl)
 
-module _ (letters : List Message) (definition : Definition) (seen : List ℕ) (other : Assignment) (assigns : Assigns letters seen definition.patterns other) (agreeable : is_agreeable letters definition.conjuncts other ≡ true) where
+module _ (messages : List Message) (definition : Definition) (seen : List ℕ) (other : Assignment) (assigns : Assigns messages seen definition.patterns other) (agreeable : is_agreeable messages definition.conjuncts other ≡ true) where
   whole : length other ≡ length definition.patterns
-  whole = length-assigns letters seen definition.patterns other assigns
+  whole = length-assigns messages seen definition.patterns other assigns
 
   not_filled : is_slot_filled None ≡ true → ⊥
   not_filled e = cc
@@ -208,13 +208,13 @@ module _ (letters : List Message) (definition : Definition) (seen : List ℕ) (o
           elim (part.each p) [ inl same ↦ inl (there ∙ same) | inr none ↦ inr (there ∙ none) ]
 
   -- its number may stand at an empty pattern of a part
-  part_may : (place m : ℕ) (slots : Assignment) → Part place slots → place < length slots → number_at slots place ≡ None → number_at other place ≡ Some m → may_stand letters definition slots place m ≡ true
+  part_may : (place m : ℕ) (slots : Assignment) → Part place slots → place < length slots → number_at slots place ≡ None → number_at other place ≡ Some m → may_stand messages definition slots place m ≡ true
   part_may place m slots part within none at =
-      may_from letters definition slots place m record {
-        of_kind = (numbered letters seen definition.patterns other assigns place m at).of_kind;
+      may_from messages definition slots place m record {
+        of_kind = (numbered messages seen definition.patterns other assigns place m at).of_kind;
         empty = ap is_slot_filled none;
         apart = lacks (holds_number slots m) refl;
-        agreeable = agreeable_below letters (slice_set slots place (Some m)) other (extends_with slots place m within (part_extends place slots part) at) definition.conjuncts agreeable;
+        agreeable = agreeable_below messages (slice_set slots place (Some m)) other (extends_with slots place m within (part_extends place slots part) at) definition.conjuncts agreeable;
       }
     where
       lacks : (b : Bool) → holds_number slots m ≡ b → holds_number slots m ≡ false
@@ -222,13 +222,13 @@ module _ (letters : List Message) (definition : Definition) (seen : List ℕ) (o
       lacks true e =
           let held = held_at slots m e in
           let there : number_at other held.0 ≡ Some m = part_extends place slots part held.0 (ap is_slot_filled held.1) ∙ held.1 in
-          let same = one_place letters seen definition.patterns other assigns held.0 place m there at in
+          let same = one_place messages seen definition.patterns other assigns held.0 place m there at in
           absurd (not_filled (sym (ap is_slot_filled (ap (number_at slots) same ∙ none)) ∙ ap is_slot_filled held.1))
 
   -- of a part that is listed a longer one is
   record Next (place : ℕ) (ws : List Assignment) : Type 0 where
     pub slots : Assignment
-    pub listed : IsIn slots (grown letters definition seen place ws)
+    pub listed : IsIn slots (grown messages definition seen place ws)
     pub part : Part (place + 1) slots
 
   next : (place : ℕ) (ws : List Assignment) (slots : Assignment) → place < length definition.patterns → IsIn slots ws → Part place slots → Next place ws
@@ -240,7 +240,7 @@ module _ (letters : List Message) (definition : Definition) (seen : List ℕ) (o
       stays : number_at slots place ≡ number_at other place → Next place ws
       stays same = record {
         slots = slots;
-        listed = IsIn-append_left slots ws (flat_map (longer_at letters definition seen place) ws) listed;
+        listed = IsIn-append_left slots ws (flat_map (longer_at messages definition seen place) ws) listed;
         part = part_same place slots part same;
       }
 
@@ -249,22 +249,22 @@ module _ (letters : List Message) (definition : Definition) (seen : List ℕ) (o
       by (Some m) e none =
           let more : Assignment = slice_set slots place (Some m) in
           let may = part_may place m slots part inside none e in
-          let among = (numbered letters seen definition.patterns other assigns place m e).is_live in
-          let here = IsIn-flat_map (longer letters definition slots place) m more seen among (in_longer letters definition slots place m may) in
+          let among = (numbered messages seen definition.patterns other assigns place m e).is_live in
+          let here = IsIn-flat_map (longer messages definition slots place) m more seen among (in_longer messages definition slots place m may) in
           record {
             slots = more;
-            listed = IsIn-append_right more ws (flat_map (longer_at letters definition seen place) ws) (IsIn-flat_map (longer_at letters definition seen place) slots more ws listed here);
+            listed = IsIn-append_right more ws (flat_map (longer_at messages definition seen place) ws) (IsIn-flat_map (longer_at messages definition seen place) slots more ws listed here);
             part = part_with place m slots part inside e;
           }
 
-  complete : (kinds : List ℕ) (place : ℕ) (ws : List Assignment) (slots : Assignment) → place + length kinds ≡ length definition.patterns → IsIn slots ws → Part place slots → IsIn other (grown_at letters definition seen place kinds ws)
+  complete : (kinds : List ℕ) (place : ℕ) (ws : List Assignment) (slots : Assignment) → place + length kinds ≡ length definition.patterns → IsIn slots ws → Part place slots → IsIn other (grown_at messages definition seen place kinds ws)
   complete [] place ws slots many listed part =
       let count = part.count in
       let same = same_slots slots other count (λ p l. part.below p (omega (arith, l, count, whole, many))) in
       subst (λ (s : Assignment). IsIn s ws) same listed
   complete (kind ∷ kinds) place ws slots many listed part =
       let more = next place ws slots (omega (arith, many)) listed part in
-      complete kinds (place + 1) (grown letters definition seen place ws) more.slots (omega (arith, many)) more.listed more.part
+      complete kinds (place + 1) (grown messages definition seen place ws) more.slots (omega (arith, many)) more.listed more.part
 
   -- ---- from the number alone on
 
@@ -278,7 +278,7 @@ module _ (letters : List Message) (definition : Definition) (seen : List ℕ) (o
 
     within_none : q < length (no_numbers definition)
     within_none =
-        let here = (numbered letters seen definition.patterns other assigns q number at).within in
+        let here = (numbered messages seen definition.patterns other assigns q number at).within in
         let count = length-replicate {A = Option ℕ} (length definition.patterns) None in
         omega (arith, here, count)
 
@@ -294,39 +294,39 @@ module _ (letters : List Message) (definition : Definition) (seen : List ℕ) (o
             inl (subst (λ (k : ℕ). number_at (slice_set (no_numbers definition) q (Some number)) k ≡ number_at other k) (same_number q p e) (set_same (no_numbers definition) q (Some number) within_none ∙ sym at))
         by p false e = inr (set_other (no_numbers definition) q p (Some number) (other_number q p e) ∙ none_number (length definition.patterns) p)
 
-    first_may : may_stand letters definition (no_numbers definition) q number ≡ true
+    first_may : may_stand messages definition (no_numbers definition) q number ≡ true
     first_may =
-        may_from letters definition (no_numbers definition) q number record {
-          of_kind = (numbered letters seen definition.patterns other assigns q number at).of_kind;
+        may_from messages definition (no_numbers definition) q number record {
+          of_kind = (numbered messages seen definition.patterns other assigns q number at).of_kind;
           empty = ap is_slot_filled (none_number (length definition.patterns) q);
           apart = none_holds (length definition.patterns) number;
           agreeable =
-              agreeable_below letters (slice_set (no_numbers definition) q (Some number)) other
+              agreeable_below messages (slice_set (no_numbers definition) q (Some number)) other
               (extends_with (no_numbers definition) q number within_none (part_extends 0 (no_numbers definition) none_part) at) definition.conjuncts agreeable;
         }
 
-    in_alone : (kinds : List ℕ) (place : ℕ) → place ≤ q → q < place + length kinds → IsIn (slice_set (no_numbers definition) q (Some number)) (alone_at letters definition number place kinds)
+    in_alone : (kinds : List ℕ) (place : ℕ) → place ≤ q → q < place + length kinds → IsIn (slice_set (no_numbers definition) q (Some number)) (alone_at messages definition number place kinds)
     in_alone [] place l m = absurd (omega (arith, l, m))
     in_alone (kind ∷ kinds) place l m = alone_by kinds place l m (place == q) refl (in_alone kinds (place + 1))
       where
         alone_by : (kinds : List ℕ) (place : ℕ) → place ≤ q → q < place + suc (length kinds) → (b : Bool) → (place == q) ≡ b
-            → (place + 1 ≤ q → q < place + 1 + length kinds → IsIn (slice_set (no_numbers definition) q (Some number)) (alone_at letters definition number (place + 1) kinds))
-            → IsIn (slice_set (no_numbers definition) q (Some number)) (longer letters definition (no_numbers definition) place number ++ alone_at letters definition number (place + 1) kinds)
+            → (place + 1 ≤ q → q < place + 1 + length kinds → IsIn (slice_set (no_numbers definition) q (Some number)) (alone_at messages definition number (place + 1) kinds))
+            → IsIn (slice_set (no_numbers definition) q (Some number)) (longer messages definition (no_numbers definition) place number ++ alone_at messages definition number (place + 1) kinds)
         alone_by kinds place l m true e later =
-            let here = in_longer letters definition (no_numbers definition) q number first_may in
+            let here = in_longer messages definition (no_numbers definition) q number first_may in
             let x : Assignment = slice_set (no_numbers definition) q (Some number) in
-            IsIn-append_left x (longer letters definition (no_numbers definition) place number) (alone_at letters definition number (place + 1) kinds)
-            (subst (λ (k : ℕ). IsIn x (longer letters definition (no_numbers definition) k number)) (sym (same_number place q e)) here)
+            IsIn-append_left x (longer messages definition (no_numbers definition) place number) (alone_at messages definition number (place + 1) kinds)
+            (subst (λ (k : ℕ). IsIn x (longer messages definition (no_numbers definition) k number)) (sym (same_number place q e)) here)
         alone_by kinds place l m false e later =
             let x : Assignment = slice_set (no_numbers definition) q (Some number) in
             let above : place + 1 ≤ q = greater place q l e in
-            IsIn-append_right x (longer letters definition (no_numbers definition) place number) (alone_at letters definition number (place + 1) kinds) (later above (omega (arith, m)))
+            IsIn-append_right x (longer messages definition (no_numbers definition) place number) (alone_at messages definition number (place + 1) kinds) (later above (omega (arith, m)))
 
-    listed_from : IsIn other (ways letters definition seen number)
+    listed_from : IsIn other (ways messages definition seen number)
     listed_from =
-        let here = (numbered letters seen definition.patterns other assigns q number at).within in
-        complete definition.patterns 0 (alone_at letters definition number 0 definition.patterns) (slice_set (no_numbers definition) q (Some number)) (omega arith) (in_alone definition.patterns 0 (omega arith) (omega (arith, here))) first_part
+        let here = (numbered messages seen definition.patterns other assigns q number at).within in
+        complete definition.patterns 0 (alone_at messages definition number 0 definition.patterns) (slice_set (no_numbers definition) q (Some number)) (omega arith) (in_alone definition.patterns 0 (omega arith) (omega (arith, here))) first_part
 
   -- a way that has the number is listed
-  pub way_listed : (number : ℕ) → holds_number other number ≡ true → IsIn other (ways letters definition seen number)
+  pub way_listed : (number : ℕ) → holds_number other number ≡ true → IsIn other (ways messages definition seen number)
   way_listed number has = let held = held_at other number has in listed_from number held.0 held.1

@@ -8,13 +8,13 @@ use Rattle.guard_eval.specs.declared.term.Place.{Place}
 
 -- the first conjunct that is decided and false
 abbrev pub first_false : List Message → Assignment → List Condition → Option Condition
-first_false letters slots [] = None
-first_false letters slots (conjunct ∷ more) = if is_decided slots conjunct && not (is_true letters slots conjunct) then Some conjunct else first_false letters slots more
+first_false messages slots [] = None
+first_false messages slots (conjunct ∷ more) = if is_decided slots conjunct && not (is_true messages slots conjunct) then Some conjunct else first_false messages slots more
 
 -- the first conjunct that is not true, where no pattern is empty
 abbrev pub first_untrue : List Message → Assignment → List Condition → Option Condition
-first_untrue letters slots [] = None
-first_untrue letters slots (conjunct ∷ more) = if is_true letters slots conjunct then first_untrue letters slots more else Some conjunct
+first_untrue messages slots [] = None
+first_untrue messages slots (conjunct ∷ more) = if is_true messages slots conjunct then first_untrue messages slots more else Some conjunct
 
 -- the places of some variables, and of those of a conjunct in the order of its text
 abbrev pub places_in : List Need → List Place

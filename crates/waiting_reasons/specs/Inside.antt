@@ -9,11 +9,11 @@ use Rattle.waiting_reasons.specs.declared.reason.Reason.{Reason}
 use Rattle.waiting_reasons.specs.declared.reason.Reason.TheVariants.{Passed, Misfits, Fullest}
 
 abbrev pub RuleSuits : List Message → Rule → Type 0
-RuleSuits letters rule = DefinitionSuits letters rule.definition
+RuleSuits messages rule = DefinitionSuits messages rule.definition
 
 -- with the number at the pattern too the assignment suits
 abbrev pub SuitsWith : List Message → List ℕ → Assignment → ℕ → ℕ → Type 0
-SuitsWith letters kinds slots place number = SlotsSuit letters kinds (slice_set slots place (Some number))
+SuitsWith messages kinds slots place number = SlotsSuit messages kinds (slice_set slots place (Some number))
 
 -- the assignment has a place for each pattern
 abbrev pub HasPatterns : Definition → Assignment → Type 0
@@ -21,9 +21,9 @@ HasPatterns definition slots = length slots ≡ length definition.patterns
 
 -- the assignment of a reason suits
 abbrev pub ReasonSuits : List Message → List ℕ → Reason → Type 0
-ReasonSuits letters kinds Passed = Unit {0}
-ReasonSuits letters kinds Misfits = Unit {0}
-ReasonSuits letters kinds (Fullest slots) = SlotsSuit letters kinds slots
+ReasonSuits messages kinds Passed = Unit {0}
+ReasonSuits messages kinds Misfits = Unit {0}
+ReasonSuits messages kinds (Fullest slots) = SlotsSuit messages kinds slots
 
 -- it has so many patterns
 abbrev pub ReasonCounts : ℕ → Reason → Type 0

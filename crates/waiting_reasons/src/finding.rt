@@ -5,7 +5,7 @@ ghost use Rattle.pattern_core.specs.Suits.{DefinitionSuits};
 ghost use Rattle.waiting_reasons.specs.Inside.{HasPatterns, ReasonCounts, ReasonSuits};
 ghost use Rattle.waiting_reasons.specs.Ways.{fuller, fullest, reason_of};
 
-use crate::letters::{contains_number, seen_of};
+use crate::messages::{contains_number, seen_of};
 use crate::reason::Reason;
 use crate::slots::filled_count;
 use crate::ways::ways_of;
@@ -53,20 +53,20 @@ fn fullest(definition: &Definition, ways: Items<Slots>) -> Option<Slots>
 pub fn reason_of(
     alloc: Global,
     definition: &Definition,
-    letters: &[Message],
+    messages: &[Message],
     left: &[u32],
     number: u32,
 ) -> Result<Reason, NoMemory>
-    requires definition { DefinitionSuits letters.now definition.now }
-    ensures reason { IfOk result (λ r. r ≡ reason_of letters.now left.now definition.now number) }
-    ensures suits { IfOk result (ReasonSuits letters.now definition.now.patterns) }
+    requires definition { DefinitionSuits messages.now definition.now }
+    ensures reason { IfOk result (λ r. r ≡ reason_of messages.now left.now definition.now number) }
+    ensures suits { IfOk result (ReasonSuits messages.now definition.now.patterns) }
     ensures counts { IfOk result (ReasonCounts (length definition.now.patterns)) }
 {
-    let seen = seen_of(alloc, definition, letters.len(), left)?;
+    let seen = seen_of(alloc, definition, messages.len(), left)?;
     if !contains_number(seen.as_slice(), number) {
         return Ok(Reason::Passed);
     }
-    let ways = ways_of(alloc, definition, letters, seen.as_slice(), number)?;
+    let ways = ways_of(alloc, definition, messages, seen.as_slice(), number)?;
     match fullest(definition, ways) {
         Some(slots) => Ok(Reason::Fullest(slots)),
         None => Ok(Reason::Misfits),

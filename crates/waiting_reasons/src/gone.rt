@@ -4,7 +4,7 @@ ghost use Rattle.std.specs.Fmt.{decimal};
 ghost use Rattle.waiting_reasons.specs.Gone.{arrival_text, fate_text, has_taken, numbers_taken, rule_text, taker};
 ghost use Rattle.waiting_reasons.specs.Text.{gone_line};
 
-use crate::letters::{contains_number, find_letter};
+use crate::messages::{contains_number, find_message};
 use crate::values::write_numbered;
 use fair_semantics::Entry;
 use join_base::{Bytes, Message, NoMemory, write_number};
@@ -88,14 +88,14 @@ pub fn write_gone(
     text: &mut Bytes,
     plan: &Plan,
     entries: &[Entry],
-    letters: &[Message],
+    messages: &[Message],
     number: u32,
 ) -> Result<(), NoMemory>
-    ensures { OnOk result (text.new ≡ text.old ++ gone_line plan.now entries.now letters.now number) }
+    ensures { OnOk result (text.new ≡ text.old ++ gone_line plan.now entries.now messages.now number) }
 {
-    match find_letter(letters, number) {
+    match find_message(messages, number) {
         Some(_) => {
-            write_numbered(text, plan, letters, number)?;
+            write_numbered(text, plan, messages, number)?;
             write_fate(text, entries, number)?;
             text.push_all(b"\n")
         }

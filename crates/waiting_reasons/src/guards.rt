@@ -13,14 +13,15 @@ use pattern_core::Definition;
 pub fn first_false<'a>(
     definition: &'a Definition,
     slots: &Slots,
-    letters: &[Message],
+    messages: &[Message],
 ) -> Option<&'a Conjunct>
-    requires definition { DefinitionSuits letters.now definition.now }
-    requires suits { SlotsSuit letters.now definition.now.patterns slots.now }
-    ensures { MatchOption result (first_false letters.now slots.now definition.now.conjuncts ≡ None) (λ c. first_false letters.now slots.now definition.now.conjuncts ≡ Some (conjunct_condition c.now)) }
+    requires definition { DefinitionSuits messages.now definition.now }
+    requires suits { SlotsSuit messages.now definition.now.patterns slots.now }
+    ensures { MatchOption result (first_false messages.now slots.now definition.now.conjuncts ≡ None)
+        (λ c. first_false messages.now slots.now definition.now.conjuncts ≡ Some (conjunct_condition c.now)) }
 {
     for conjunct in definition.conjuncts.as_slice() {
-        if decided(conjunct, slots) && !holds(conjunct, slots, letters) {
+        if decided(conjunct, slots) && !holds(conjunct, slots, messages) {
             return Some(conjunct);
         }
     }
@@ -29,12 +30,12 @@ pub fn first_false<'a>(
 
 /// Whether every decided conjunct is true.
 #[tactic(auto, using(crate::proofs::GuardLemmas::none_is_agreeable, crate::proofs::GuardLemmas::some_is_not))]
-pub fn agrees(definition: &Definition, slots: &Slots, letters: &[Message]) -> bool
-    requires definition { DefinitionSuits letters.now definition.now }
-    requires suits { SlotsSuit letters.now definition.now.patterns slots.now }
-    ensures { result ≡ is_agreeable letters.now definition.now.conjuncts slots.now }
+pub fn agrees(definition: &Definition, slots: &Slots, messages: &[Message]) -> bool
+    requires definition { DefinitionSuits messages.now definition.now }
+    requires suits { SlotsSuit messages.now definition.now.patterns slots.now }
+    ensures { result ≡ is_agreeable messages.now definition.now.conjuncts slots.now }
 {
-    match first_false(definition, slots, letters) {
+    match first_false(definition, slots, messages) {
         Some(_) => false,
         None => true,
     }
@@ -44,15 +45,16 @@ pub fn agrees(definition: &Definition, slots: &Slots, letters: &[Message]) -> bo
 pub fn first_untrue<'a>(
     definition: &'a Definition,
     slots: &Slots,
-    letters: &[Message],
+    messages: &[Message],
 ) -> Option<&'a Conjunct>
-    requires definition { DefinitionSuits letters.now definition.now }
-    requires suits { SlotsSuit letters.now definition.now.patterns slots.now }
+    requires definition { DefinitionSuits messages.now definition.now }
+    requires suits { SlotsSuit messages.now definition.now.patterns slots.now }
     requires full { is_full slots.now ≡ true }
-    ensures { MatchOption result (first_untrue letters.now slots.now definition.now.conjuncts ≡ None) (λ c. first_untrue letters.now slots.now definition.now.conjuncts ≡ Some (conjunct_condition c.now)) }
+    ensures { MatchOption result (first_untrue messages.now slots.now definition.now.conjuncts ≡ None)
+        (λ c. first_untrue messages.now slots.now definition.now.conjuncts ≡ Some (conjunct_condition c.now)) }
 {
     for conjunct in definition.conjuncts.as_slice() {
-        if !holds(conjunct, slots, letters) {
+        if !holds(conjunct, slots, messages) {
             return Some(conjunct);
         }
     }

@@ -1,7 +1,7 @@
 //! Why messages wait at the end of a run.
 //!
-//! - `print_why` appends a line for each message that an actor has left, or all that is said of one of them. Of one that
-//!   doesn't wait it says what became of it.
+//! - `print_why` appends a line for each message that an actor has left, or all that is said of one of them. Of one
+//!   that doesn't wait it says what became of it.
 //! - `reasons_law` and `hindered_law` say that the reasons are true.
 //!
 //! A definition with a pattern of its kind doesn't take a message for one of three reasons. Its window has passed it,
@@ -21,8 +21,8 @@ mod finding;
 mod gone;
 mod guards;
 mod law;
-mod letters;
 mod lines;
+mod messages;
 mod notes;
 mod patterns;
 mod places;

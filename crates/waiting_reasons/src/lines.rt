@@ -5,7 +5,7 @@ ghost use Rattle.waiting_reasons.specs.Inside.{ReasonSuits, RuleSuits};
 ghost use Rattle.waiting_reasons.specs.Text.{message_lines, reason_lines, rules_lines, taken_lines};
 
 use crate::finding::reason_of;
-use crate::letters::takes_kind;
+use crate::messages::takes_kind;
 use crate::notes::{write_rule_note, write_untaken};
 use crate::patterns::{write_full, write_misfits, write_patterns};
 use crate::reason::Reason;
@@ -20,21 +20,22 @@ fn write_reason_lines(
     text: &mut Bytes,
     plan: &Plan,
     rule: &Rule,
-    letters: &[Message],
+    messages: &[Message],
     left: &[u32],
     number: u32,
     reason: &Reason,
 ) -> Result<(), NoMemory>
-    requires rule { RuleSuits letters.now rule.now }
-    requires suits { ReasonSuits letters.now rule.now.definition.patterns reason.now }
-    ensures { OnOk result (text.new ≡ text.old ++ reason_lines plan.now rule.now letters.now left.now number reason.now) }
+    requires rule { RuleSuits messages.now rule.now }
+    requires suits { ReasonSuits messages.now rule.now.definition.patterns reason.now }
+    ensures { OnOk result (text.new ≡ text.old ++ reason_lines plan.now rule.now messages.now left.now
+        number reason.now) }
 {
     match reason {
         Reason::Passed => Ok(()),
-        Reason::Misfits => write_misfits(alloc, text, plan, rule, letters, number),
+        Reason::Misfits => write_misfits(alloc, text, plan, rule, messages, number),
         Reason::Fullest(slots) => {
-            write_patterns(alloc, text, plan, rule, letters, left, slots)?;
-            write_full(alloc, text, rule, letters, slots)
+            write_patterns(alloc, text, plan, rule, messages, left, slots)?;
+            write_full(alloc, text, rule, messages, slots)
         }
     }
 }
@@ -45,21 +46,21 @@ fn write_rule(
     text: &mut Bytes,
     plan: &Plan,
     rule: &Rule,
-    letters: &[Message],
+    messages: &[Message],
     left: &[u32],
     number: u32,
     from: u32,
 ) -> Result<(), NoMemory>
-    requires rule { RuleSuits letters.now rule.now }
-    ensures { OnOk result (text.new ≡ text.old ++ taken_lines plan.now letters.now left.now number from rule.now) }
+    requires rule { RuleSuits messages.now rule.now }
+    ensures { OnOk result (text.new ≡ text.old ++ taken_lines plan.now messages.now left.now number from rule.now) }
 {
-    if !takes_kind(letters, number, rule) {
+    if !takes_kind(messages, number, rule) {
         return Ok(());
     }
-    let reason = reason_of(alloc, &rule.definition, letters, left, number)?;
+    let reason = reason_of(alloc, &rule.definition, messages, left, number)?;
     write_rule_note(text, from, rule, &reason)?;
     text.push_all(b"\n")?;
-    write_reason_lines(alloc, text, plan, rule, letters, left, number, &reason)
+    write_reason_lines(alloc, text, plan, rule, messages, left, number, &reason)
 }
 
 fn write_rules(
@@ -67,17 +68,17 @@ fn write_rules(
     text: &mut Bytes,
     plan: &Plan,
     rules: &[Rule],
-    letters: &[Message],
+    messages: &[Message],
     left: &[u32],
     number: u32,
 ) -> Result<(), NoMemory>
-    requires all { AllByRecursion (RuleSuits letters.now) rules.now }
+    requires all { AllByRecursion (RuleSuits messages.now) rules.now }
     requires few { length rules.now ≤ 16 }
-    ensures { OnOk result (text.new ≡ text.old ++ rules_lines plan.now letters.now left.now number 1 rules.now) }
+    ensures { OnOk result (text.new ≡ text.old ++ rules_lines plan.now messages.now left.now number 1 rules.now) }
 {
     for (place, rule) in rules.iter().enumerate() {
         let from = place as u32 + 1;
-        write_rule(alloc, text, plan, rule, letters, left, number, from)?;
+        write_rule(alloc, text, plan, rule, messages, left, number, from)?;
     }
     Ok(())
 }
@@ -88,16 +89,16 @@ pub fn write_message(
     text: &mut Bytes,
     plan: &Plan,
     rules: &[Rule],
-    letters: &[Message],
+    messages: &[Message],
     left: &[u32],
     number: u32,
 ) -> Result<(), NoMemory>
-    requires all { AllByRecursion (RuleSuits letters.now) rules.now }
+    requires all { AllByRecursion (RuleSuits messages.now) rules.now }
     requires few { length rules.now ≤ 16 }
-    ensures { OnOk result (text.new ≡ text.old ++ message_lines plan.now rules.now letters.now left.now number) }
+    ensures { OnOk result (text.new ≡ text.old ++ message_lines plan.now rules.now messages.now left.now number) }
 {
-    write_numbered(text, plan, letters, number)?;
-    write_untaken(text, letters, number, rules)?;
+    write_numbered(text, plan, messages, number)?;
+    write_untaken(text, messages, number, rules)?;
     text.push_all(b"\n")?;
-    write_rules(alloc, text, plan, rules, letters, left, number)
+    write_rules(alloc, text, plan, rules, messages, left, number)
 }

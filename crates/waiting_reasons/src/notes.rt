@@ -5,7 +5,7 @@ ghost use Rattle.waiting_reasons.specs.Inside.{ReasonCounts, RuleSuits};
 ghost use Rattle.waiting_reasons.specs.Text.{filled_text, message_line, reason_text, rule_note, rule_notes, taken_note, untaken_text, waiting_lines};
 
 use crate::finding::reason_of;
-use crate::letters::{is_taken, takes_kind};
+use crate::messages::{is_taken, takes_kind};
 use crate::reason::Reason;
 use crate::slots::filled_count;
 use crate::values::write_numbered;
@@ -58,19 +58,19 @@ pub fn write_rule_note(
 fn write_taken_note(
     alloc: Global,
     text: &mut Bytes,
-    letters: &[Message],
+    messages: &[Message],
     left: &[u32],
     number: u32,
     from: u32,
     rule: &Rule,
 ) -> Result<(), NoMemory>
-    requires rule { RuleSuits letters.now rule.now }
-    ensures { OnOk result (text.new ≡ text.old ++ taken_note letters.now left.now number from rule.now) }
+    requires rule { RuleSuits messages.now rule.now }
+    ensures { OnOk result (text.new ≡ text.old ++ taken_note messages.now left.now number from rule.now) }
 {
-    if !takes_kind(letters, number, rule) {
+    if !takes_kind(messages, number, rule) {
         return Ok(());
     }
-    let reason = reason_of(alloc, &rule.definition, letters, left, number)?;
+    let reason = reason_of(alloc, &rule.definition, messages, left, number)?;
     text.push_all(b"; ")?;
     write_rule_note(text, from, rule, &reason)
 }
@@ -78,17 +78,17 @@ fn write_taken_note(
 fn write_rule_notes(
     alloc: Global,
     text: &mut Bytes,
-    letters: &[Message],
+    messages: &[Message],
     left: &[u32],
     number: u32,
     rules: &[Rule],
 ) -> Result<(), NoMemory>
-    requires all { AllByRecursion (RuleSuits letters.now) rules.now }
+    requires all { AllByRecursion (RuleSuits messages.now) rules.now }
     requires few { length rules.now ≤ 16 }
-    ensures { OnOk result (text.new ≡ text.old ++ rule_notes letters.now left.now number 1 rules.now) }
+    ensures { OnOk result (text.new ≡ text.old ++ rule_notes messages.now left.now number 1 rules.now) }
 {
     for (place, rule) in rules.iter().enumerate() {
-        write_taken_note(alloc, text, letters, left, number, place as u32 + 1, rule)?;
+        write_taken_note(alloc, text, messages, left, number, place as u32 + 1, rule)?;
     }
     Ok(())
 }
@@ -96,13 +96,13 @@ fn write_rule_notes(
 /// `; no rule takes it` where none has a pattern of the message's kind.
 pub fn write_untaken(
     text: &mut Bytes,
-    letters: &[Message],
+    messages: &[Message],
     number: u32,
     rules: &[Rule],
 ) -> Result<(), NoMemory>
-    ensures { OnOk result (text.new ≡ text.old ++ untaken_text rules.now letters.now number) }
+    ensures { OnOk result (text.new ≡ text.old ++ untaken_text rules.now messages.now number) }
 {
-    if is_taken(letters, number, rules) {
+    if is_taken(messages, number, rules) {
         return Ok(());
     }
     text.push_all(b"; no rule takes it")
@@ -114,17 +114,17 @@ fn write_message_line(
     text: &mut Bytes,
     plan: &Plan,
     rules: &[Rule],
-    letters: &[Message],
+    messages: &[Message],
     left: &[u32],
     number: u32,
 ) -> Result<(), NoMemory>
-    requires all { AllByRecursion (RuleSuits letters.now) rules.now }
+    requires all { AllByRecursion (RuleSuits messages.now) rules.now }
     requires few { length rules.now ≤ 16 }
-    ensures { OnOk result (text.new ≡ text.old ++ message_line plan.now rules.now letters.now left.now number) }
+    ensures { OnOk result (text.new ≡ text.old ++ message_line plan.now rules.now messages.now left.now number) }
 {
-    write_numbered(text, plan, letters, number)?;
-    write_rule_notes(alloc, text, letters, left, number, rules)?;
-    write_untaken(text, letters, number, rules)?;
+    write_numbered(text, plan, messages, number)?;
+    write_rule_notes(alloc, text, messages, left, number, rules)?;
+    write_untaken(text, messages, number, rules)?;
     text.push_all(b"\n")
 }
 
@@ -133,15 +133,16 @@ fn write_message_lines(
     text: &mut Bytes,
     plan: &Plan,
     rules: &[Rule],
-    letters: &[Message],
+    messages: &[Message],
     left: &[u32],
 ) -> Result<(), NoMemory>
-    requires all { AllByRecursion (RuleSuits letters.now) rules.now }
+    requires all { AllByRecursion (RuleSuits messages.now) rules.now }
     requires few { length rules.now ≤ 16 }
-    ensures { OnOk result (text.new ≡ text.old ++ flat_map (message_line plan.now rules.now letters.now left.now) left.now) }
+    ensures { OnOk result (text.new ≡ text.old ++ flat_map (message_line plan.now rules.now messages.now
+        left.now) left.now) }
 {
     for number in left {
-        write_message_line(alloc, text, plan, rules, letters, left, *number)?;
+        write_message_line(alloc, text, plan, rules, messages, left, *number)?;
     }
     Ok(())
 }
@@ -152,15 +153,15 @@ pub fn write_waiting(
     text: &mut Bytes,
     plan: &Plan,
     rules: &[Rule],
-    letters: &[Message],
+    messages: &[Message],
     left: &[u32],
 ) -> Result<(), NoMemory>
-    requires all { AllByRecursion (RuleSuits letters.now) rules.now }
+    requires all { AllByRecursion (RuleSuits messages.now) rules.now }
     requires few { length rules.now ≤ 16 }
-    ensures { OnOk result (text.new ≡ text.old ++ waiting_lines plan.now rules.now letters.now left.now) }
+    ensures { OnOk result (text.new ≡ text.old ++ waiting_lines plan.now rules.now messages.now left.now) }
 {
     if left.is_empty() {
         return text.push_all(b"nothing waits\n");
     }
-    write_message_lines(alloc, text, plan, rules, letters, left)
+    write_message_lines(alloc, text, plan, rules, messages, left)
 }

@@ -10,7 +10,7 @@ ghost use Rattle.waiting_reasons.specs.Text.{candidate_line, candidate_text, ful
 ghost use Rattle.waiting_reasons.specs.Ways.{no_numbers};
 
 use crate::guards::{first_false, first_untrue};
-use crate::letters::{is_of_kind, is_seen, usable};
+use crate::messages::{is_of_kind, is_seen, usable};
 use crate::values::{write_false, write_numbered};
 use crate::ways::no_numbers;
 use join_base::{Bytes, Message, NoMemory, Slots, write_number};
@@ -39,22 +39,24 @@ fn write_further(
     alloc: Global,
     text: &mut Bytes,
     rule: &Rule,
-    letters: &[Message],
+    messages: &[Message],
     slots: &Slots,
     place: u32,
     number: u32,
 ) -> Result<(), NoMemory>
-    requires rule { RuleSuits letters.now rule.now }
+    requires rule { RuleSuits messages.now rule.now }
     requires empty { slice_get slots.now place ≡ Some None }
-    requires longer { SuitsWith letters.now rule.now.definition.patterns slots.now place number }
-    ensures { OnOk result (text.new ≡ text.old ++ further_text rule.now letters.now slots.now place number) }
+    requires longer { SuitsWith messages.now rule.now.definition.patterns slots.now place number }
+    ensures { OnOk result (text.new ≡ text.old ++ further_text rule.now messages.now slots.now place number) }
 {
     let longer = slots.with(place, number);
     let patterns = rule.definition.patterns.len() as u32;
-    match first_false(&rule.definition, &longer, letters) {
+    match first_false(&rule.definition, &longer, messages) {
         Some(conjunct) => {
             let variables = rule.variables.as_slice();
-            write_false(alloc, text, variables, letters, patterns, &longer, conjunct)
+            write_false(
+                alloc, text, variables, messages, patterns, &longer, conjunct,
+            )
         }
         None => text.push_all(b"it fits"),
     }
@@ -65,20 +67,20 @@ fn write_candidate_text(
     alloc: Global,
     text: &mut Bytes,
     rule: &Rule,
-    letters: &[Message],
+    messages: &[Message],
     slots: &Slots,
     place: u32,
     number: u32,
 ) -> Result<(), NoMemory>
-    requires rule { RuleSuits letters.now rule.now }
+    requires rule { RuleSuits messages.now rule.now }
     requires empty { slice_get slots.now place ≡ Some None }
-    requires longer { SuitsWith letters.now rule.now.definition.patterns slots.now place number }
-    ensures { OnOk result (text.new ≡ text.old ++ candidate_text rule.now letters.now slots.now place number) }
+    requires longer { SuitsWith messages.now rule.now.definition.patterns slots.now place number }
+    ensures { OnOk result (text.new ≡ text.old ++ candidate_text rule.now messages.now slots.now place number) }
 {
-    if !is_seen(rule.definition.window, letters.len(), number) {
+    if !is_seen(rule.definition.window, messages.len(), number) {
         return text.push_all(b"the window has passed it");
     }
-    write_further(alloc, text, rule, letters, slots, place, number)
+    write_further(alloc, text, rule, messages, slots, place, number)
 }
 
 // `    N KIND(VALUES): WHY`.
@@ -87,20 +89,21 @@ fn write_candidate(
     text: &mut Bytes,
     plan: &Plan,
     rule: &Rule,
-    letters: &[Message],
+    messages: &[Message],
     slots: &Slots,
     place: u32,
     number: u32,
 ) -> Result<(), NoMemory>
-    requires rule { RuleSuits letters.now rule.now }
+    requires rule { RuleSuits messages.now rule.now }
     requires empty { slice_get slots.now place ≡ Some None }
-    requires longer { SuitsWith letters.now rule.now.definition.patterns slots.now place number }
-    ensures { OnOk result (text.new ≡ text.old ++ candidate_line plan.now rule.now letters.now slots.now place number) }
+    requires longer { SuitsWith messages.now rule.now.definition.patterns slots.now place number }
+    ensures { OnOk result (text.new ≡ text.old ++ candidate_line plan.now rule.now messages.now slots.now
+        place number) }
 {
     text.push_all(b"    ")?;
-    write_numbered(text, plan, letters, number)?;
+    write_numbered(text, plan, messages, number)?;
     text.push_all(b": ")?;
-    write_candidate_text(alloc, text, rule, letters, slots, place, number)?;
+    write_candidate_text(alloc, text, rule, messages, slots, place, number)?;
     text.push_all(b"\n")
 }
 
@@ -109,18 +112,19 @@ fn write_candidates(
     text: &mut Bytes,
     plan: &Plan,
     rule: &Rule,
-    letters: &[Message],
+    messages: &[Message],
     slots: &Slots,
     place: u32,
     numbers: &[u32],
 ) -> Result<(), NoMemory>
-    requires rule { RuleSuits letters.now rule.now }
+    requires rule { RuleSuits messages.now rule.now }
     requires empty { slice_get slots.now place ≡ Some None }
-    requires all { AllByRecursion (SuitsWith letters.now rule.now.definition.patterns slots.now place) numbers.now }
-    ensures { OnOk result (text.new ≡ text.old ++ flat_map (candidate_line plan.now rule.now letters.now slots.now place) numbers.now) }
+    requires all { AllByRecursion (SuitsWith messages.now rule.now.definition.patterns slots.now place) numbers.now }
+    ensures { OnOk result (text.new ≡ text.old ++ flat_map (candidate_line plan.now rule.now messages.now slots.now
+        place) numbers.now) }
 {
     for number in numbers {
-        write_candidate(alloc, text, plan, rule, letters, slots, place, *number)?;
+        write_candidate(alloc, text, plan, rule, messages, slots, place, *number)?;
     }
     Ok(())
 }
@@ -156,26 +160,27 @@ fn write_missing(
     text: &mut Bytes,
     plan: &Plan,
     rule: &Rule,
-    letters: &[Message],
+    messages: &[Message],
     left: &[u32],
     slots: &Slots,
     place: u32,
     kind: u32,
 ) -> Result<(), NoMemory>
-    requires rule { RuleSuits letters.now rule.now }
-    requires suits { SlotsSuit letters.now rule.now.definition.patterns slots.now }
+    requires rule { RuleSuits messages.now rule.now }
+    requires suits { SlotsSuit messages.now rule.now.definition.patterns slots.now }
     requires empty { slice_get slots.now place ≡ Some None }
     requires kind { slice_get rule.now.definition.patterns place ≡ Some kind }
-    ensures { OnOk result (text.new ≡ text.old ++ missing_lines plan.now rule.now letters.now slots.now place kind (usable letters.now left.now kind slots.now)) }
+    ensures { OnOk result (text.new ≡ text.old ++ missing_lines plan.now rule.now messages.now slots.now place kind
+        (usable messages.now left.now kind slots.now)) }
 {
     let patterns = rule.definition.patterns.len() as u32;
-    let waiting = usable(alloc, letters, left, kind, patterns, slots)?;
+    let waiting = usable(alloc, messages, left, kind, patterns, slots)?;
     let first = first_five(waiting.as_slice());
     write_front(text, plan, rule, place, kind)?;
     text.push_all(b" is missing: ")?;
     write_waits(text, waiting.len())?;
     text.push_all(b"\n")?;
-    write_candidates(alloc, text, plan, rule, letters, slots, place, first)
+    write_candidates(alloc, text, plan, rule, messages, slots, place, first)
 }
 
 // `  PATTERN is N`.
@@ -201,20 +206,21 @@ fn write_slot(
     text: &mut Bytes,
     plan: &Plan,
     rule: &Rule,
-    letters: &[Message],
+    messages: &[Message],
     left: &[u32],
     slots: &Slots,
     place: u32,
     kind: u32,
 ) -> Result<(), NoMemory>
-    requires rule { RuleSuits letters.now rule.now }
-    requires suits { SlotsSuit letters.now rule.now.definition.patterns slots.now }
+    requires rule { RuleSuits messages.now rule.now }
+    requires suits { SlotsSuit messages.now rule.now.definition.patterns slots.now }
     requires kind { slice_get rule.now.definition.patterns place ≡ Some kind }
-    ensures { OnOk result (text.new ≡ text.old ++ slot_lines plan.now rule.now letters.now left.now slots.now place kind (number_at slots.now place)) }
+    ensures { OnOk result (text.new ≡ text.old ++ slot_lines plan.now rule.now messages.now left.now slots.now place
+        kind (number_at slots.now place)) }
 {
     match slots.get(place) {
         Some(number) => write_standing(text, plan, rule, place, kind, number),
-        None => write_missing(alloc, text, plan, rule, letters, left, slots, place, kind),
+        None => write_missing(alloc, text, plan, rule, messages, left, slots, place, kind),
     }
 }
 
@@ -224,13 +230,14 @@ pub fn write_patterns(
     text: &mut Bytes,
     plan: &Plan,
     rule: &Rule,
-    letters: &[Message],
+    messages: &[Message],
     left: &[u32],
     slots: &Slots,
 ) -> Result<(), NoMemory>
-    requires rule { RuleSuits letters.now rule.now }
-    requires suits { SlotsSuit letters.now rule.now.definition.patterns slots.now }
-    ensures { OnOk result (text.new ≡ text.old ++ pattern_lines plan.now rule.now letters.now left.now slots.now 0 rule.now.definition.patterns) }
+    requires rule { RuleSuits messages.now rule.now }
+    requires suits { SlotsSuit messages.now rule.now.definition.patterns slots.now }
+    ensures { OnOk result (text.new ≡ text.old ++ pattern_lines plan.now rule.now messages.now left.now slots.now 0
+        rule.now.definition.patterns) }
 {
     for (place, kind) in rule.definition.patterns.as_slice().iter().enumerate() {
         write_slot(
@@ -238,7 +245,7 @@ pub fn write_patterns(
             text,
             plan,
             rule,
-            letters,
+            messages,
             left,
             slots,
             place as u32,
@@ -253,19 +260,20 @@ fn write_untrue(
     alloc: Global,
     text: &mut Bytes,
     rule: &Rule,
-    letters: &[Message],
+    messages: &[Message],
     slots: &Slots,
 ) -> Result<(), NoMemory>
-    requires rule { RuleSuits letters.now rule.now }
-    requires suits { SlotsSuit letters.now rule.now.definition.patterns slots.now }
+    requires rule { RuleSuits messages.now rule.now }
+    requires suits { SlotsSuit messages.now rule.now.definition.patterns slots.now }
     requires full { is_full slots.now ≡ true }
-    ensures { OnOk result (text.new ≡ text.old ++ obstacle_text rule.now.variables letters.now slots.now (first_untrue letters.now slots.now rule.now.definition.conjuncts)) }
+    ensures { OnOk result (text.new ≡ text.old ++ obstacle_text rule.now.variables messages.now slots.now
+        (first_untrue messages.now slots.now rule.now.definition.conjuncts)) }
 {
     let patterns = rule.definition.patterns.len() as u32;
-    match first_untrue(&rule.definition, slots, letters) {
+    match first_untrue(&rule.definition, slots, messages) {
         Some(conjunct) => {
             let variables = rule.variables.as_slice();
-            write_false(alloc, text, variables, letters, patterns, slots, conjunct)
+            write_false(alloc, text, variables, messages, patterns, slots, conjunct)
         }
         None => text.push_all(b"it fits"),
     }
@@ -276,18 +284,18 @@ pub fn write_full(
     alloc: Global,
     text: &mut Bytes,
     rule: &Rule,
-    letters: &[Message],
+    messages: &[Message],
     slots: &Slots,
 ) -> Result<(), NoMemory>
-    requires rule { RuleSuits letters.now rule.now }
-    requires suits { SlotsSuit letters.now rule.now.definition.patterns slots.now }
-    ensures { OnOk result (text.new ≡ text.old ++ full_line rule.now letters.now slots.now) }
+    requires rule { RuleSuits messages.now rule.now }
+    requires suits { SlotsSuit messages.now rule.now.definition.patterns slots.now }
+    ensures { OnOk result (text.new ≡ text.old ++ full_line rule.now messages.now slots.now) }
 {
     if !is_full(rule.definition.patterns.len() as u32, slots) {
         return Ok(());
     }
     text.push_all(b"  ")?;
-    write_untrue(alloc, text, rule, letters, slots)?;
+    write_untrue(alloc, text, rule, messages, slots)?;
     text.push_all(b"\n")
 }
 
@@ -297,23 +305,23 @@ fn write_misfit(
     text: &mut Bytes,
     plan: &Plan,
     rule: &Rule,
-    letters: &[Message],
+    messages: &[Message],
     none: &Slots,
     number: u32,
     place: u32,
     kind: u32,
 ) -> Result<(), NoMemory>
-    requires rule { RuleSuits letters.now rule.now }
+    requires rule { RuleSuits messages.now rule.now }
     requires none { none.now ≡ no_numbers rule.now.definition }
     requires kind { slice_get rule.now.definition.patterns place ≡ Some kind }
-    ensures { OnOk result (text.new ≡ text.old ++ misfit_line plan.now rule.now letters.now number place kind) }
+    ensures { OnOk result (text.new ≡ text.old ++ misfit_line plan.now rule.now messages.now number place kind) }
 {
-    if !is_of_kind(letters, number, kind) {
+    if !is_of_kind(messages, number, kind) {
         return Ok(());
     }
     write_front(text, plan, rule, place, kind)?;
     text.push_all(b": ")?;
-    write_further(alloc, text, rule, letters, none, place, number)?;
+    write_further(alloc, text, rule, messages, none, place, number)?;
     text.push_all(b"\n")
 }
 
@@ -323,11 +331,12 @@ pub fn write_misfits(
     text: &mut Bytes,
     plan: &Plan,
     rule: &Rule,
-    letters: &[Message],
+    messages: &[Message],
     number: u32,
 ) -> Result<(), NoMemory>
-    requires rule { RuleSuits letters.now rule.now }
-    ensures { OnOk result (text.new ≡ text.old ++ misfit_lines plan.now rule.now letters.now number 0 rule.now.definition.patterns) }
+    requires rule { RuleSuits messages.now rule.now }
+    ensures { OnOk result (text.new ≡ text.old ++ misfit_lines plan.now rule.now messages.now number 0
+        rule.now.definition.patterns) }
 {
     let none = no_numbers(&rule.definition);
     for (place, kind) in rule.definition.patterns.as_slice().iter().enumerate() {
@@ -336,7 +345,7 @@ pub fn write_misfits(
             text,
             plan,
             rule,
-            letters,
+            messages,
             &none,
             number,
             place as u32,

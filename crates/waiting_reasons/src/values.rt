@@ -9,7 +9,7 @@ ghost use Rattle.arrival_log.specs.LogText.{comma_joined, message_text, value_te
 ghost use Rattle.waiting_reasons.specs.Guards.{has_place};
 ghost use Rattle.waiting_reasons.specs.Text.{false_text, numbered_text, value_note, value_notes};
 
-use crate::letters::find_letter;
+use crate::messages::find_message;
 use crate::places::{has_place, places_of};
 use crate::slots::number_at;
 use guard_eval::{Conjunct, Place};
@@ -64,14 +64,14 @@ fn write_message(text: &mut Bytes, plan: &Plan, message: &Message) -> Result<(),
 pub fn write_numbered(
     text: &mut Bytes,
     plan: &Plan,
-    letters: &[Message],
+    messages: &[Message],
     number: u32,
 ) -> Result<(), NoMemory>
-    ensures { OnOk result (text.new ≡ text.old ++ numbered_text plan.now letters.now number) }
+    ensures { OnOk result (text.new ≡ text.old ++ numbered_text plan.now messages.now number) }
 {
     write_number(text, i128::from(number))?;
     text.push_all(b" ")?;
-    match find_letter(letters, number) {
+    match find_message(messages, number) {
         Some(message) => write_message(text, plan, message),
         None => Ok(()),
     }
@@ -81,17 +81,17 @@ pub fn write_numbered(
 
 // The value of a variable, if it has one.
 fn value_at<'a>(
-    letters: &'a [Message],
+    messages: &'a [Message],
     patterns: u32,
     slots: &Slots,
     place: Place,
 ) -> Option<ValueRef<'a>>
     requires { length slots.now ≡ patterns }
-    ensures { option_map value_seen result ≡ value_at letters.now slots.now place }
+    ensures { option_map value_seen result ≡ value_at messages.now slots.now place }
 {
     match number_at(patterns, slots, place.pattern) {
         None => None,
-        Some(number) => match find_letter(letters, number) {
+        Some(number) => match find_message(messages, number) {
             None => None,
             Some(message) => message.fields.get(place.field as usize),
         },
@@ -102,18 +102,18 @@ fn value_at<'a>(
 fn write_value_note(
     text: &mut Bytes,
     variables: &[Row],
-    letters: &[Message],
+    messages: &[Message],
     patterns: u32,
     slots: &Slots,
     place: Place,
 ) -> Result<(), NoMemory>
     requires { length slots.now ≡ patterns }
-    ensures { OnOk result (text.new ≡ text.old ++ value_note variables.now letters.now slots.now place) }
+    ensures { OnOk result (text.new ≡ text.old ++ value_note variables.now messages.now slots.now place) }
 {
     text.push_all(b", ")?;
     write_variable(text, variables, place)?;
     text.push_all(b" = ")?;
-    match value_at(letters, patterns, slots, place) {
+    match value_at(messages, patterns, slots, place) {
         Some(value) => write_value(text, value),
         None => Ok(()),
     }
@@ -123,36 +123,37 @@ fn write_value_note(
 fn write_new_note(
     text: &mut Bytes,
     variables: &[Row],
-    letters: &[Message],
+    messages: &[Message],
     patterns: u32,
     slots: &Slots,
     earlier: &[Place],
     place: Place,
 ) -> Result<(), NoMemory>
     requires { length slots.now ≡ patterns }
-    ensures { OnOk result (text.new ≡ text.old ++ (if has_place earlier.now place then [] else value_note variables.now letters.now slots.now place)) }
+    ensures { OnOk result (text.new ≡ text.old ++ (if has_place earlier.now place then [] else value_note variables.now
+        messages.now slots.now place)) }
 {
     if has_place(earlier, place) {
         return Ok(());
     }
-    write_value_note(text, variables, letters, patterns, slots, place)
+    write_value_note(text, variables, messages, patterns, slots, place)
 }
 
 fn write_value_notes(
     text: &mut Bytes,
     variables: &[Row],
-    letters: &[Message],
+    messages: &[Message],
     patterns: u32,
     slots: &Slots,
     places: &[Place],
 ) -> Result<(), NoMemory>
     requires { length slots.now ≡ patterns }
-    ensures { OnOk result (text.new ≡ text.old ++ value_notes variables.now letters.now slots.now [] places.now) }
+    ensures { OnOk result (text.new ≡ text.old ++ value_notes variables.now messages.now slots.now [] places.now) }
 {
     for index in 0..places.len() {
         let (earlier, _) = places.split_at(index);
         let place = places[index];
-        write_new_note(text, variables, letters, patterns, slots, earlier, place)?;
+        write_new_note(text, variables, messages, patterns, slots, earlier, place)?;
     }
     Ok(())
 }
@@ -162,16 +163,24 @@ pub fn write_false(
     alloc: Global,
     text: &mut Bytes,
     variables: &[Row],
-    letters: &[Message],
+    messages: &[Message],
     patterns: u32,
     slots: &Slots,
     conjunct: &Conjunct,
 ) -> Result<(), NoMemory>
     requires { length slots.now ≡ patterns }
-    ensures { OnOk result (text.new ≡ text.old ++ false_text variables.now letters.now slots.now (conjunct_condition conjunct.now)) }
+    ensures { OnOk result (text.new ≡ text.old ++ false_text variables.now messages.now slots.now (conjunct_condition
+        conjunct.now)) }
 {
     let places = places_of(alloc, conjunct)?;
     write_conjunct(text, variables, conjunct)?;
     text.push_all(b" is false")?;
-    write_value_notes(text, variables, letters, patterns, slots, places.as_slice())
+    write_value_notes(
+        text,
+        variables,
+        messages,
+        patterns,
+        slots,
+        places.as_slice(),
+    )
 }

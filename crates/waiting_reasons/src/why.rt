@@ -8,8 +8,8 @@ ghost use Rattle.waiting_reasons.specs.Inside.{RuleSuits};
 ghost use Rattle.waiting_reasons.specs.Text.{entries_in, left_in, why_lines, why_text};
 
 use crate::gone::write_gone;
-use crate::letters::{contains_number, copy_letters};
 use crate::lines::write_message;
+use crate::messages::{contains_number, copy_messages};
 use crate::notes::write_waiting;
 use fair_semantics::{Entry, Run};
 use join_base::{Bytes, Message, NoMemory};
@@ -52,21 +52,22 @@ fn write_why(
     plan: &Plan,
     rules: &[Rule],
     entries: &[Entry],
-    letters: &[Message],
+    messages: &[Message],
     left: &[u32],
     wanted: Option<u32>,
 ) -> Result<(), NoMemory>
-    requires all { AllByRecursion (RuleSuits letters.now) rules.now }
+    requires all { AllByRecursion (RuleSuits messages.now) rules.now }
     requires few { length rules.now ≤ 16 }
-    ensures { OnOk result (text.new ≡ text.old ++ why_lines plan.now rules.now entries.now letters.now left.now wanted) }
+    ensures { OnOk result (text.new ≡ text.old ++ why_lines plan.now rules.now entries.now messages.now
+        left.now wanted) }
 {
     match wanted {
-        None => write_waiting(alloc, text, plan, rules, letters, left),
+        None => write_waiting(alloc, text, plan, rules, messages, left),
         Some(number) => {
             if !contains_number(left, number) {
-                return write_gone(text, plan, entries, letters, number);
+                return write_gone(text, plan, entries, messages, number);
             }
-            write_message(alloc, text, plan, rules, letters, left, number)
+            write_message(alloc, text, plan, rules, messages, left, number)
         }
     }
 }
@@ -93,7 +94,7 @@ pub fn print_why(
     ensures err { OnErr result (out.new ≡ out.old) }
 {
     let entries = entries_at(run, actor);
-    let letters = copy_letters(alloc, entries)?;
+    let messages = copy_messages(alloc, entries)?;
     let rules = rules_at(plan, actor);
     let left = left_at(run, actor);
     let mut text = Bytes::new(alloc);
@@ -103,7 +104,7 @@ pub fn print_why(
         plan,
         rules,
         entries,
-        letters.as_slice(),
+        messages.as_slice(),
         left,
         wanted,
     )?;

@@ -5,7 +5,7 @@ use Rattle.script_types.specs.declared.plan.Plan.{Plan}
 use Rattle.fair_semantics.specs.declared.run.Limits.{Limits}
 use Rattle.fair_semantics.specs.declared.run.Run.{Run}
 use Rattle.fair_semantics.specs.Linked.{IsLinked}
-use Rattle.run_order.specs.Order.{IsScheduled}
+use Rattle.run_order_law.specs.Order.{IsScheduled}
 use Rattle.live_board.specs.declared.totals.Totals.{Totals}
 use Rattle.watch_run.specs.BoardText.{totals_in}
 

@@ -5,7 +5,7 @@ ghost use Rattle.std.specs.Thread.{IsSend, IsSync};
 ghost use Rattle.script_types.specs.Typed.{IsTyped};
 ghost use Rattle.fair_semantics.specs.Fits.{IsFrom1To, PostFits};
 ghost use Rattle.fair_semantics.specs.Linked.{IsLinked};
-ghost use Rattle.run_order.specs.Order.{IsScheduled};
+ghost use Rattle.run_order_law.specs.Order.{IsScheduled};
 ghost use Rattle.actor_turn.specs.Held.{AreLimits};
 ghost use Rattle.live_board.specs.Glasses.{left_rows};
 ghost use Rattle.live_board.specs.Monitors.{glass_of};

@@ -2,7 +2,7 @@ use Rattle.std.proofs.Common.{refl, sym, subst, ◌∙◌}
 use Rattle.turn_lock.specs.Seats.{view_of}
 use Rattle.actor_cells.specs.declared.cell.Cell.{Cell}
 use Rattle.actor_cells.specs.Lawful.{cell_tag, history_of, tally_of}
-use Rattle.actor_cells.specs.Served.{Turns}
+use Rattle.actor_cells.specs.Served.{TakesInTurn}
 use Rattle.actor_pool.specs.Helpers.{seat_of}
 use Rattle.actor_pool.specs.Beside.{setting_in}
 use Rattle.actor_pool.proofs.BesideLemmas.{got-fits, turn-faulted, turn-fits}
@@ -31,7 +31,7 @@ returns-in-Ok-served-clause-served g c =
       left = c.serve_and_show-served.new.cell;
       turn = turn-taken c.args.actor c.in-Ok.held.index (seat_of c.args.helper.now) (view_of c.try_turn.new.seat) (view_of c.release-asked.new.seat)
           c.in-Ok.held.cell c.cell.result.now c.serve_and_show-served.new.cell back.0 c.in-Ok.ensures.place c.cell.ensures.value c.in-Ok.ensures.got c.in-Ok-served.ensures.kept back.2;
-      tallies = subst (λ (x : Cell). Turns (tally_of x) (tally_of c.serve_and_show-served.new.cell) c.in-Ok-served.turned) c.cell.ensures.value c.in-Ok-served.ensures.turned;
+      tallies = subst (λ (x : Cell). TakesInTurn (tally_of x) (tally_of c.serve_and_show-served.new.cell) c.in-Ok-served.turned) c.cell.ensures.value c.in-Ok-served.ensures.turned;
       sent = c.in-Ok-served.ensures.sent;
     }
 

@@ -16,8 +16,8 @@ loop-number-preserved c =
       fields = c.remove.ensures.fields ∙ c.loop-number.invariant.fields;
       others = λ e free there. c.remove.ensures.others e (λ same. let both : true ≡ false = sym (contains_at taken i c.loop-number-test.true) ∙ sym (ap (contains_number taken) same) ∙ free in absurd cc) (c.loop-number.invariant.others e free there);
       adds_none = λ e there. c.loop-number.invariant.adds_none e (c.remove.ensures.adds_none e there);
-      gone = one_more_gone taken i c.loop-number.index c.remove.new.self c.args.letters.now c.loop-number-test.true c.remove.ensures.fields c.remove.ensures.adds_none c.loop-number.invariant.gone c.remove.ensures.lacks;
+      gone = one_more_gone taken i c.loop-number.index c.remove.new.self c.args.messages.now c.loop-number-test.true c.remove.ensures.fields c.remove.ensures.adds_none c.loop-number.invariant.gone c.remove.ensures.lacks;
     }
 
 pub returns-clause-gone : goal.returns-clause-gone
-returns-clause-gone c = subst (λ (ns : List ℕ). LacksTaken ns c.loop-number.index c.args.letters.now) (take_all c.loop-number.number-index c.args.taken.now c.loop-number-test.false) c.loop-number.invariant.gone
+returns-clause-gone c = subst (λ (ns : List ℕ). LacksTaken ns c.loop-number.index c.args.messages.now) (take_all c.loop-number.number-index c.args.taken.now c.loop-number-test.false) c.loop-number.invariant.gone

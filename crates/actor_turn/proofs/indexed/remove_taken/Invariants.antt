@@ -10,5 +10,5 @@ invariant-loop-number l = record {
   fields : l.index.fields ≡ l.initial.index.fields;
   others : KeepsUntaken l.taken l.initial.index.entries l.index.entries;
   adds_none : AddsNone l.initial.index.entries l.index.entries;
-  gone : LacksTaken (take l.number-index l.taken) l.index l.letters;
+  gone : LacksTaken (take l.number-index l.taken) l.index l.messages;
 }

@@ -12,11 +12,11 @@ loop-signed-preserved c =
     let i : ℕ = c.loop-signed.signed-index in
     let d : Signed = record { minus = false; leaf = Number (pos 0) } in
     let split = drop_more xs i d c.loop-signed-test.true in
-    leaves_less a.letters.now a.known a.pattern a.wanted a.term.now (drop i xs) (drop (i + 1) xs) (get_or xs i d) c.loop-signed.split c.in_ok-split.split split c.in_ok-split.ensures c.loop-signed.invariant
+    leaves_less a.messages.now a.known a.pattern a.wanted a.term.now (drop i xs) (drop (i + 1) xs) (get_or xs i d) c.loop-signed.split c.in_ok-split.split split c.in_ok-split.ensures c.loop-signed.invariant
 
 pub returns : goal.returns
 returns c =
     let a = c.args in
     let xs : List Signed = c.leaves-signed-items.result.now in
     let i : ℕ = c.loop-signed.signed-index in
-    leaves_none a.letters.now a.known a.pattern a.wanted a.term.now (drop i xs) c.loop-signed.split (drop_all i xs (omega (arith, c.loop-signed-test.false))) c.loop-signed.invariant
+    leaves_none a.messages.now a.known a.pattern a.wanted a.term.now (drop i xs) c.loop-signed.split (drop_all i xs (omega (arith, c.loop-signed-test.false))) c.loop-signed.invariant

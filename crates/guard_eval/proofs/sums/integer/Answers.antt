@@ -14,4 +14,4 @@ returns-in-Some c =
     let same : c.requires.number ≡ c.in-Some.number = cc in
     let above : 1 ≤ c.in-Some.number = omega (arith, same, c.requires.above_zero) in
     read ∙ c.int_value.ensures
-    ∙ ap int_of (sym (value_at_parts c.args.letters.now c.args.slots.now c.args.place c.in-Some.number c.letter-message.result.now (value_seen c.at.result) here above c.letter-message.ensures.item c.at.ensures.item))
+    ∙ ap int_of (sym (value_at_parts c.args.messages.now c.args.slots.now c.args.place c.in-Some.number c.recorded_message-message.result.now (value_seen c.at.result) here above c.recorded_message-message.ensures.item c.at.ensures.item))

@@ -8,8 +8,8 @@ use Rattle.guard_eval.proofs.truth.+holds.Given as goal
 -- the atoms that are left are ready, and decide
 abbrev pub invariant-holds-loop-atom : goal.invariant-holds-loop-atom
 invariant-holds-loop-atom l = record {
-  ready : AreReady l.letters l.slots (needs_of (atoms_condition (drop l.atom-index l.atom-items)));
-  told : is_true l.letters l.slots (atoms_condition (drop l.atom-index l.atom-items)) ≡ is_true l.letters l.slots (atoms_condition l.atom-items);
+  ready : AreReady l.messages l.slots (needs_of (atoms_condition (drop l.atom-index l.atom-items)));
+  told : is_true l.messages l.slots (atoms_condition (drop l.atom-index l.atom-items)) ≡ is_true l.messages l.slots (atoms_condition l.atom-items);
 }
 
 abbrev pub decreases-atom_holds : goal.decreases-atom_holds

@@ -3,7 +3,7 @@ use Rattle.std.proofs.lemmas.Result.{err_from_is_err_and}
 use Rattle.fair_semantics.specs.declared.run.Run.{Run}
 use Rattle.log_reader.specs.declared.draft.Draft.{Draft}
 use Rattle.log_reader.specs.Log.{IsLogOf}
-use Rattle.log_reader.proofs.ReadLemmas.{Reads, failed, not_read, reads_first, reads_more, reads_whole, refused_empty, refused_first}
+use Rattle.log_reader.proofs.ReadLemmas.{ReadsLines, failed, not_read, reads_first, reads_more, reads_whole, refused_empty, refused_first}
 use Rattle.log_reader.proofs.read.read_log.Goals as goal
 
 pub returns-in_default : goal.returns-in_default
@@ -16,7 +16,7 @@ returns-in_default-read_head c = record {
 
 pub lines-init : goal.lines-init
 lines-init c =
-    subst (λ (d : Draft). Reads c.args.plan.now c.args.bytes.now c.in-Some.behind.now 1 d) (sym c.new-draft.ensures)
+    subst (λ (d : Draft). ReadsLines c.args.plan.now c.args.bytes.now c.in-Some.behind.now 1 d) (sym c.new-draft.ensures)
     (reads_first c.args.plan.now c.args.bytes.now c.in-Some.first.now c.in-Some.behind.now c.in-Some-read_head.head c.in-Some.ensures.parts c.in-Some-read_head.ensures.found)
 
 pub returns-in_err-advance : goal.returns-in_err-advance

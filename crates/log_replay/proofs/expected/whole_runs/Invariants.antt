@@ -1,5 +1,5 @@
 use Rattle.std.proofs.Common.{◌≡◌, ◌++◌, ◌-◌, ◌<◌, ◌≤◌, ℕ, length}
-use Rattle.run_fits.specs.FitsLaw.{RulesFit}
+use Rattle.run_fit_law.specs.FitsLaw.{RulesFit}
 use Rattle.log_replay.specs.Shared.{whole_runs}
 use Rattle.log_replay.proofs.expected.whole_runs.Given as goal
 

@@ -1,5 +1,5 @@
 use Rattle.std.proofs.Common.{◌≡◌, ◌++◌, ◌-◌, ◌<◌, ◌≤◌, ℕ, length}
-use Rattle.run_fits.specs.FitsLaw.{RulesFit}
+use Rattle.run_fit_law.specs.FitsLaw.{RulesFit}
 use Rattle.log_replay.specs.Shared.{kept_runs}
 use Rattle.log_replay.proofs.replaying.kept_runs.Given as goal
 

@@ -1,6 +1,6 @@
 use Rattle.std.proofs.Common.{◌∙◌, ap, sym}
 use Rattle.std.proofs.lemmas.Option.{get_or_from_slice_get}
-use Rattle.guard_eval.specs.Meaning.{letter_at}
+use Rattle.guard_eval.specs.Meaning.{recorded_message}
 use Rattle.pattern_core.specs.Matches.{is_of_kind}
 use Rattle.match_tree.specs.Offering.{offered}
 use Rattle.match_tree.proofs.ThinLemmas.{itself_barred, kind_barred}
@@ -13,4 +13,4 @@ pub returns : goal.returns
 returns c = λ e slots number.
     let o = offered c.args.offer.now in
     let kind = get_or_from_slice_get o.definition.patterns c.args.other c.at-kind.result.now 0 c.at-kind.ensures.item in
-    kind_barred o slots c.args.pattern c.args.other number (ap (is_of_kind (letter_at o.letters o.number)) kind ∙ sym c.has_kind.ensures ∙ e)
+    kind_barred o slots c.args.pattern c.args.other number (ap (is_of_kind (recorded_message o.messages o.number)) kind ∙ sym c.has_kind.ensures ∙ e)

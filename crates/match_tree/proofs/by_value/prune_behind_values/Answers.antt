@@ -9,7 +9,7 @@ use Rattle.match_tree.specs.Routes.{Branch, row_routes}
 use Rattle.match_tree.specs.Offering.{offered}
 use Rattle.match_tree.specs.Order.{IsSoundRow}
 use Rattle.match_tree.specs.Pruned.{AreShort, pruned}
-use Rattle.match_tree.specs.Thinned.{NodesGoOn}
+use Rattle.match_tree.specs.Thinned.{NodesContinuePath}
 use Rattle.match_tree.proofs.LeafLemmas.{leaves_kept}
 use Rattle.match_tree.proofs.by_value.prune_behind_values.Goals as goal
 use Rattle.match_tree.proofs.by_value.prune_behind_values.Goals.{in-Empty, in-One, in-Leaves, in-Mixed}
@@ -24,7 +24,7 @@ prune_mixed-requires c =
       empty = c.requires.empty;
       can = c.requires.can;
       recorded = c.requires.recorded;
-      go_on = at (λ xs. NodesGoOn (offered a.offer.now) a.slots.now a.pattern xs) c.requires.go_on;
+      go_on = at (λ xs. NodesContinuePath (offered a.offer.now) a.slots.now a.pattern xs) c.requires.go_on;
       few = at (λ xs. length (row_routes 0 xs) < 2 ^ 64) c.requires.few;
       sound = at (λ xs. IsSoundRow xs) c.requires.sound;
       short = at (λ xs. AllByRecursion (λ node. AreShort a.levels node.routes) xs) c.requires.short;

@@ -26,11 +26,11 @@ prune_number-thinned-requires c =
     let a = c.args in
     let inv = c.loop-number.invariant in
     let xs = c.as_slice-number-items.result.now in
-    let recorded = subst (λ (ns : List ℕ). AllByRecursion (IsRecorded a.offer.now.letters.now) ns) (sym c.as_slice-number-items.ensures.same) c.requires.recorded in
+    let recorded = subst (λ (ns : List ℕ). AllByRecursion (IsRecorded a.offer.now.messages.now) ns) (sym c.as_slice-number-items.ensures.same) c.requires.recorded in
     record {
       empty = c.requires.empty;
       can = c.requires.can;
-      recorded = all_at (IsRecorded a.offer.now.letters.now) xs c.loop-number.number-index 0 c.loop-number-test.true recorded;
+      recorded = all_at (IsRecorded a.offer.now.messages.now) xs c.loop-number.number-index 0 c.loop-number-test.true recorded;
       go_on = inv.go_on;
       few = omega (arith, c.requires.few, inv.counted);
       sound = inv.sound;

@@ -4,7 +4,7 @@ use Rattle.match_tree.specs.Routes.{row_routes}
 use Rattle.match_tree.specs.Offering.{offered}
 use Rattle.match_tree.specs.Order.{IsSoundRow}
 use Rattle.match_tree.specs.Pruned.{AreShort, pruned}
-use Rattle.match_tree.specs.Thinned.{NodesGoOn}
+use Rattle.match_tree.specs.Thinned.{NodesContinuePath}
 use Rattle.match_tree.proofs.by_value.prune_mixed.Given as goal
 
 -- without the others, the routes are those without all numbers so far
@@ -12,7 +12,7 @@ abbrev pub invariant-loop-number : goal.invariant-loop-number
 invariant-loop-number l = record {
   few : length l.others ≤ l.number-index;
   left : map (pruned l.others) l.nodes.items ≡ map (pruned (take l.number-index l.number-items)) l.initial.nodes.items;
-  go_on : NodesGoOn (offered l.offer) l.slots l.pattern l.nodes.items;
+  go_on : NodesContinuePath (offered l.offer) l.slots l.pattern l.nodes.items;
   sound : IsSoundRow l.nodes.items;
   short : AllByRecursion (λ node. AreShort l.levels node.routes) l.nodes.items;
   counted : l.gone + length (row_routes 0 l.nodes.items) ≡ length (row_routes 0 l.initial.nodes.items);

@@ -5,7 +5,7 @@ use Rattle.match_tree.specs.Routes.{Branch, row_routes, node_routes, lacks}
 use Rattle.match_tree.specs.Offering.{offered}
 use Rattle.match_tree.specs.Order.{IsOrderedNode, IsSoundRow}
 use Rattle.match_tree.specs.Pruned.{AreShort, pruned, without_numbers}
-use Rattle.match_tree.specs.Thinned.{GoOn, NodesGoOn}
+use Rattle.match_tree.specs.Thinned.{ContinuePath, NodesContinuePath}
 use Rattle.match_tree.proofs.CountLemmas.{sound_filter}
 use Rattle.match_tree.proofs.PruneLemmas.{all_filtered, pruned_leaves, pruned_row, short_below}
 use Rattle.match_tree.proofs.ThinLemmas.{nodes_go_on}
@@ -17,13 +17,13 @@ prune_behind_values-requires c =
     let o = offered a.offer.now in
     let row = a.row.now in
     let is = c.remove_numbers-gone.ensures.left in
-    let go_on = all_filtered (λ (x : Branch). GoOn o a.slots.now (node_routes a.pattern x)) _ row (nodes_go_on o a.slots.now a.pattern row c.requires.lead) in
+    let go_on = all_filtered (λ (x : Branch). ContinuePath o a.slots.now (node_routes a.pattern x)) _ row (nodes_go_on o a.slots.now a.pattern row c.requires.lead) in
     let short = all_filtered (λ (x : Branch). AreShort (a.levels - 1) x.routes) _ row (short_below a.levels 0 row c.requires.short) in
     record {
       empty = c.requires.empty;
       can = c.requires.can;
       recorded = c.requires.recorded;
-      go_on = subst (λ (xs : List Branch). NodesGoOn o a.slots.now a.pattern xs) (sym is) go_on;
+      go_on = subst (λ (xs : List Branch). NodesContinuePath o a.slots.now a.pattern xs) (sym is) go_on;
       few = omega (arith, c.requires.few, c.remove_numbers-gone.ensures.gone);
       sound = subst (λ (xs : List Branch). IsSoundRow xs) (sym is) (sound_filter _ row c.requires.sound);
       short = subst (λ (xs : List Branch). AllByRecursion (λ node. AreShort (a.levels - 1) node.routes) xs) (sym is) short;

@@ -12,11 +12,11 @@ prune_each-requires c =
     let a = c.args in
     let o = offered a.offer.now in
     let slots : c.new-slots.result ≡ replicate (length o.definition.patterns) None = c.new-slots.ensures ∙ ap (λ (n : ℕ). replicate n None) c.len.ensures.count in
-    let recorded = recorded_standing o.letters o.number a.numbers.now c.requires.can.recorded in
+    let recorded = recorded_standing o.messages o.number a.numbers.now c.requires.can.recorded in
     record {
       empty = slots;
       can = subst (CanOffer o) (sym slots) c.requires.can;
-      recorded = subst (λ (ns : List ℕ). AllByRecursion (IsRecorded o.letters) ns) (sym c.standing-those.ensures) recorded;
+      recorded = subst (λ (ns : List ℕ). AllByRecursion (IsRecorded o.messages) ns) (sym c.standing-those.ensures) recorded;
       lead = subst (λ (s : Assignment). LeadOn o s (rows_routes 0 a.rows.now)) (sym slots) c.requires.lead;
       patterns = c.requires.patterns;
       few = c.requires.few;

@@ -4,4 +4,4 @@ use Rattle.match_tree.proofs.offer.candidate.Goals as goal
 
 pub taken-requires-clause-count : goal.taken-requires-clause-count
 taken-requires-clause-count c =
-    length-SlotsSuit c.args.offer.now.letters.now c.args.offer.now.definition.now.patterns c.args.slots.now c.requires.suits ∙ sym c.len.ensures.count
+    length-SlotsSuit c.args.offer.now.messages.now c.args.offer.now.definition.now.patterns c.args.slots.now c.requires.suits ∙ sym c.len.ensures.count

@@ -9,5 +9,5 @@ is_full-requires c =
     let a = c.args in
     ap (λ (s : Assignment). length s) c.with.ensures
     ∙ length-set a.slots.now (get_or c.as_slice-pattern-items.result.now c.loop-pattern.pattern-index 0) (Some a.offer.now.number)
-    ∙ length-SlotsSuit a.offer.now.letters.now a.offer.now.definition.now.patterns a.slots.now c.requires.can.suits
+    ∙ length-SlotsSuit a.offer.now.messages.now a.offer.now.definition.now.patterns a.slots.now c.requires.can.suits
     ∙ sym c.len-count.ensures.count

@@ -3,7 +3,7 @@ use Rattle.std.specs.List.{filter}
 use Rattle.match_tree.specs.Offers.{places}
 use Rattle.std.proofs.lemmas.List.{length_push, append-nil}
 use Rattle.std.proofs.lemmas.Option.{get_or_from_slice_get}
-use Rattle.guard_eval.specs.Meaning.{letter_at}
+use Rattle.guard_eval.specs.Meaning.{recorded_message}
 use Rattle.pattern_core.specs.Matches.{is_of_kind}
 use Rattle.match_tree.proofs.RootLemmas.{kinds_more}
 use Rattle.match_tree.proofs.reserve.of_kind.Goals as goal
@@ -13,11 +13,11 @@ pub loop-pattern-preserved : goal.loop-pattern-preserved
 loop-pattern-preserved c =
     let a = c.args in
     let kinds = a.definition.now.patterns in
-    let f : ℕ → Bool = λ p. is_of_kind (letter_at a.letters.now a.number) (slice_index kinds p) in
+    let f : ℕ → Bool = λ p. is_of_kind (recorded_message a.messages.now a.number) (slice_index kinds p) in
     let i : ℕ = c.loop-pattern.pattern in
     let within : i < length kinds = omega (arith, c.loop-pattern-test.true, c.len-pattern-end.ensures.count) in
     let kind = get_or_from_slice_get kinds i c.at.result.now 0 c.at.ensures.item in
-    let answer : f i ≡ c.has_kind.result = ap (is_of_kind (letter_at a.letters.now a.number)) kind ∙ sym c.has_kind.ensures in
+    let answer : f i ≡ c.has_kind.result = ap (is_of_kind (recorded_message a.messages.now a.number)) kind ∙ sym c.has_kind.ensures in
     let more = kinds_more f kinds i within in
     let front : List ℕ = filter f (places 0 (take i kinds)) in
     let by : Bool → List ℕ = λ b. front ++ cond b (i ∷ []) [] in

@@ -1,12 +1,12 @@
 use Rattle.std.proofs.Common.{◌≡◌, ◌≤◌, length, take, slice_index}
 use Rattle.std.specs.List.{filter}
-use Rattle.guard_eval.specs.Meaning.{letter_at}
+use Rattle.guard_eval.specs.Meaning.{recorded_message}
 use Rattle.pattern_core.specs.Matches.{is_of_kind}
 use Rattle.match_tree.specs.Offers.{places}
 use Rattle.match_tree.proofs.reserve.of_kind.Given as goal
 
 abbrev pub invariant-loop-pattern : goal.invariant-loop-pattern
 invariant-loop-pattern l = record {
-  found : l.found ≡ filter (λ p. is_of_kind (letter_at l.letters l.number) (slice_index l.definition.patterns p)) (places 0 (take l.pattern l.definition.patterns));
+  found : l.found ≡ filter (λ p. is_of_kind (recorded_message l.messages l.number) (slice_index l.definition.patterns p)) (places 0 (take l.pattern l.definition.patterns));
   few : length l.found ≤ l.pattern;
 }

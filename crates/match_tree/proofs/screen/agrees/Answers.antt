@@ -25,7 +25,7 @@ all_hold-requires-clause-suits c =
     let whole : with_number (with_number a.slots.now a.pattern a.number) a.screen.now.other o.number ≡ c.with-whole.result =
     ap (λ (s : Assignment). with_number s a.screen.now.other o.number) (sym c.with-longer.ensures) ∙ sym c.with-whole.ensures
     in
-    subst (SlotsSuit o.letters o.definition.patterns) whole (whole_suits o a.slots.now a.pattern a.number a.screen.now.other c.requires.can c.requires.screen.alone)
+    subst (SlotsSuit o.messages o.definition.patterns) whole (whole_suits o a.slots.now a.pattern a.number a.screen.now.other c.requires.can c.requires.screen.alone)
 
 pub all_hold-requires-clause-decided : goal.all_hold-requires-clause-decided
 all_hold-requires-clause-decided c =
@@ -44,4 +44,4 @@ returns c =
     let whole : with_number (with_number a.slots.now a.pattern a.number) a.screen.now.other o.number ≡ c.with-whole.result =
     ap (λ (s : Assignment). with_number s a.screen.now.other o.number) (sym c.with-longer.ensures) ∙ sym c.with-whole.ensures
     in
-    λ no. disagrees o a.slots.now a.pattern a.number a.screen.now.other (none_is_free a.slots.now a.pattern c.requires.free) c.requires.screen.alone (ap (is_agreeable o.letters o.definition.conjuncts) whole ∙ c.all_hold.ensures no)
+    λ no. disagrees o a.slots.now a.pattern a.number a.screen.now.other (none_is_free a.slots.now a.pattern c.requires.free) c.requires.screen.alone (ap (is_agreeable o.messages o.definition.conjuncts) whole ∙ c.all_hold.ensures no)

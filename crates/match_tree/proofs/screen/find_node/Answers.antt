@@ -17,14 +17,14 @@ loop-place-preserved g c =
     let within : place < length nodes = omega (arith, c.loop-place-test.true, c.len-place-end.ensures, a.nodes.now.ok.0) in
     let node : c.index.result.now ≡ node_at nodes place = c.index.ensures ∙ get_or_default nodes place c.index.result.now (leaf 0) within in
     let number : c.number.result ≡ slice_index numbers place = c.number.ensures ∙ ap (λ (n : Branch). n.number) node ∙ sym (number_there nodes numbers place refl) in
-    let here : passes a.letters.now (Some a.key) (slice_index numbers place) ≡ false = subst (λ (n : ℕ). passes a.letters.now (Some a.key) n ≡ false) number (sym c.has_value.ensures ∙ c.if-has_value.false) in
+    let here : passes a.messages.now (Some a.key) (slice_index numbers place) ≡ false = subst (λ (n : ℕ). passes a.messages.now (Some a.key) n ≡ false) number (sym c.has_value.ensures ∙ c.if-has_value.false) in
     let before = c.loop-place.invariant in
     record {
       lacking = λ i l m. elim (cases_lt i place) [
         | inl below ↦ before.lacking i l below
         | inr above ↦
             let at : place ≡ i = omega (arith, m, above) in
-            subst (λ (k : ℕ). passes a.letters.now (Some a.key) (slice_index numbers k) ≡ false) at here
+            subst (λ (k : ℕ). passes a.messages.now (Some a.key) (slice_index numbers k) ≡ false) at here
       ];
       counted = omega (arith, before.counted, c.tick.ensures);
     }

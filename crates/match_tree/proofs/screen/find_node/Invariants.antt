@@ -6,6 +6,6 @@ use Rattle.match_tree.proofs.screen.find_node.Given as goal
 -- those so far have not the key's value, and each was counted
 abbrev pub invariant-loop-place : goal.invariant-loop-place
 invariant-loop-place g l = record {
-  lacking : AreLacking l.letters (Some l.key) (map (λ node. node.number) l.nodes.items) l.from l.place;
+  lacking : AreLacking l.messages (Some l.key) (map (λ node. node.number) l.nodes.items) l.from l.place;
   counted : l.steps + l.from ≡ l.initial.steps + l.place;
 }

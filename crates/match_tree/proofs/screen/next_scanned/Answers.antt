@@ -22,7 +22,7 @@ loop-place-init g c =
     let o = offered a.offer.now in
     let e = c.with_key-place.ensures in
     let to : ℕ = c.with_key-place.result in
-    let lacking = subst (λ (k : Option Key). AreLacking o.letters k (numbers_in c.of-numbers.result) a.from to) c.key_of-key.ensures e.lacking in
+    let lacking = subst (λ (k : Option Key). AreLacking o.messages k (numbers_in c.of-numbers.result) a.from to) c.key_of-key.ensures e.lacking in
     record {
       from = e.from;
       within = omega (arith, e.within, c.len-end.ensures);
@@ -55,7 +55,7 @@ loop-place-preserved g c =
     let number : c.at.result ≡ (node_at a.row.now place).number = c.at.ensures ∙ number_there a.row.now (numbers_in c.of-numbers.result) place c.of-numbers.ensures in
     let here = subst (IsWorthless o a.slots.now a.pattern) number (c.is_worth.ensures.left_out c.if-is_worth.false) in
     let before = worthless_on o a.slots.now a.pattern a.row.now a.from place c.loop-place.invariant.worthless here in
-    let lacking = subst (λ (k : Option Key). AreLacking o.letters k (numbers_in c.of-numbers.result) (place + 1) to) c.key_of-key.ensures e.lacking in
+    let lacking = subst (λ (k : Option Key). AreLacking o.messages k (numbers_in c.of-numbers.result) (place + 1) to) c.key_of-key.ensures e.lacking in
     let within : to ≤ length a.row.now = omega (arith, e.within, c.len-end.ensures, ap (λ (ns : List ℕ). length ns) c.of-numbers.ensures, length-map a.row.now (λ (node : Branch). node.number)) in
     record {
       from = omega (arith, c.loop-place.invariant.from, e.from);

@@ -12,16 +12,16 @@ with_long slots longer p n w = ap (λ (s : Assignment). length s) w.is ∙ lengt
 pub with_free-requires : goal.with_free-requires
 with_free-requires c =
     let o = offered c.args.offer.now in
-    length-SlotsSuit o.letters o.definition.patterns c.args.slots.now c.requires.can.suits ∙ sym c.len-patterns.ensures.count
+    length-SlotsSuit o.messages o.definition.patterns c.args.slots.now c.requires.can.suits ∙ sym c.len-patterns.ensures.count
 
 pub with_free-requires-2 : goal.with_free-requires-2
 with_free-requires-2 c =
     let a = c.args in
     let o = offered a.offer.now in
-    with_long a.slots.now c.in_ok-longer.longer a.pattern o.number c.in_ok-longer.ensures ∙ length-SlotsSuit o.letters o.definition.patterns a.slots.now c.requires.can.suits ∙ sym c.len-patterns.ensures.count
+    with_long a.slots.now c.in_ok-longer.longer a.pattern o.number c.in_ok-longer.ensures ∙ length-SlotsSuit o.messages o.definition.patterns a.slots.now c.requires.can.suits ∙ sym c.len-patterns.ensures.count
 
 pub tests_of-requires-clause-long : goal.tests_of-requires-clause-long
 tests_of-requires-clause-long c =
     let a = c.args in
     let o = offered a.offer.now in
-    with_long c.in_ok-longer.longer c.in_ok-whole.whole _ o.number c.in_ok-whole.ensures ∙ with_long a.slots.now c.in_ok-longer.longer a.pattern o.number c.in_ok-longer.ensures ∙ length-SlotsSuit o.letters o.definition.patterns a.slots.now c.requires.can.suits
+    with_long c.in_ok-longer.longer c.in_ok-whole.whole _ o.number c.in_ok-whole.ensures ∙ with_long a.slots.now c.in_ok-longer.longer a.pattern o.number c.in_ok-longer.ensures ∙ length-SlotsSuit o.messages o.definition.patterns a.slots.now c.requires.can.suits

@@ -9,5 +9,5 @@ abbrev pub invariant-loop-number : goal.invariant-loop-number
 invariant-loop-number g l = record {
   settled : l.tree.reserve ≡ None;
   same : l.tree.definition ≡ l.initial.tree.definition;
-  can : AllByRecursion (CanOffer (offer_to l.tree l.letters l.number)) l.tree.paths;
+  can : AllByRecursion (CanOffer (offer_to l.tree l.messages l.number)) l.tree.paths;
 }

@@ -15,6 +15,6 @@ offer_each-requires-clause-settled g c = ap (λ (u : Tree). u.reserve) c.in_ok-t
 pub offer_each-requires-clause-can : goal.offer_each-requires-clause-can
 offer_each-requires-clause-can g c =
     let d = c.in_ok-definition.definition in
-    let letters = c.in_ok-letters.letters in
-    let suits = samples_suit letters d (omega (arith, c.in_ok-definition.ensures.count, c.requires.some)) (omega (arith, c.in_ok-definition.ensures.count, c.requires.most)) c.in_ok-letters.ensures.ints c.in_ok-definition.ensures.samples in
-    opening_can letters _ _ d c.as_slice-shown.ensures.same c.in_ok-tree.ensures.opening suits (omega (arith, c.in_ok-letters.ensures.count))
+    let messages = c.in_ok-messages.messages in
+    let suits = samples_suit messages d (omega (arith, c.in_ok-definition.ensures.count, c.requires.some)) (omega (arith, c.in_ok-definition.ensures.count, c.requires.most)) c.in_ok-messages.ensures.ints c.in_ok-definition.ensures.samples in
+    opening_can messages _ _ d c.as_slice-shown.ensures.same c.in_ok-tree.ensures.opening suits (omega (arith, c.in_ok-messages.ensures.count))

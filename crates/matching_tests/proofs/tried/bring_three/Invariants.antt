@@ -9,6 +9,6 @@ abbrev pub invariant-loop-number : goal.invariant-loop-number
 invariant-loop-number g l = record {
   settled : l.tree.reserve ≡ None;
   definition : l.tree.definition ≡ pair;
-  can : AllByRecursion (CanOffer (offer_to l.tree l.letters l.number)) l.tree.paths;
+  can : AllByRecursion (CanOffer (offer_to l.tree l.messages l.number)) l.tree.paths;
   among : AreAmong l.tree.paths kept;
 }

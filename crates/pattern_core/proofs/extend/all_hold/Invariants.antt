@@ -9,6 +9,6 @@ use Rattle.pattern_core.proofs.extend.all_hold.Given as goal
 -- the conjuncts that are left suit, and decide
 abbrev pub invariant-loop-conjunct : goal.invariant-loop-conjunct
 invariant-loop-conjunct l = record {
-  needs : AllByRecursion (λ c. AllByRecursion (NeedSuits l.letters l.definition.patterns) (needs_of c)) (map conjunct_condition (drop l.conjunct-index l.conjunct-items));
-  told : makes_all_true l.letters (map conjunct_condition (drop l.conjunct-index l.conjunct-items)) l.slots ≡ makes_all_true l.letters l.definition.conjuncts l.slots;
+  needs : AllByRecursion (λ c. AllByRecursion (NeedSuits l.messages l.definition.patterns) (needs_of c)) (map conjunct_condition (drop l.conjunct-index l.conjunct-items));
+  told : makes_all_true l.messages (map conjunct_condition (drop l.conjunct-index l.conjunct-items)) l.slots ≡ makes_all_true l.messages l.definition.conjuncts l.slots;
 }

@@ -1,4 +1,4 @@
-use Rattle.script_places.proofs.LawLemmas.{places_do_not_matter}
+use Rattle.place_law.proofs.LawLemmas.{places_do_not_matter}
 use Rattle.plan_law.proofs.LawLemmas.{plans_read_back, plans_spell_their_tree}
 use Rattle.plan_law.proofs.law.print_law.Goals as goal
 

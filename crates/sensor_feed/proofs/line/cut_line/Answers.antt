@@ -7,7 +7,7 @@ use Rattle.csv.specs.declared.parser.State.TheVariants as st
 use Rattle.sensor_feed.specs.Feed.{Record}
 use Rattle.sensor_feed.proofs.LineLemmas.{ends_at_last, ends_here, goes_on, next_field, nows, nows_more}
 use Rattle.sensor_feed.proofs.line.cut_line.Goals as goal
-use Rattle.sensor_feed.proofs.line.cut_line.Goals.{then-byte-eq44+in_ok-push, else-byte-eq44+else-ends_line}
+use Rattle.sensor_feed.proofs.line.cut_line.Goals.{then-byte-eq44+in_ok-push, else-byte-eq44+else-ends_row}
 
 not_equal : (a b : ℕ) → (a ≡ b → ⊥) → (a == b) ≡ false
 not_equal a b other = grind (arith, nat_tests)
@@ -28,22 +28,22 @@ loop-place-preserved c =
                 (nows_more w.push.new.self.items old _ (take (place - c.loop-place.start) (drop c.loop-place.start text)) w.in_ok-push.ensures.items refl)
                 ∙ next_field text (nows old) c.loop-place.start place before within told w.if-byte-eq44.true c.requires.plain;
           })
-      | else-byte-eq44+else-ends_line w ↦
+      | else-byte-eq44+else-ends_row w ↦
           rw (w.fields-is, w.start-is) (record {
             start = omega (arith, before);
-            told = goes_on text (nows old) c.loop-place.start place before within told (not_equal _ 44 w.if-byte-eq44.false) (sym w.if-ends_line.ensures);
+            told = goes_on text (nows old) c.loop-place.start place before within told (not_equal _ 44 w.if-byte-eq44.false) (sym w.if-ends_row.ensures);
           })
     ]
 
-pub returns-then-ends_line : goal.returns-then-ends_line
-returns-then-ends_line c =
+pub returns-then-ends_row : goal.returns-then-ends_row
+returns-then-ends_row c =
     let text = c.args.text.now in
     let start = c.loop-place.start in
     let place = c.loop-place.place in
     let old = c.loop-place.fields.items in
-    let fields = nows_more c.push-then-ends_line.new.self.items old _ (take (place - start) (drop start text)) c.in_ok-push-2.ensures.items refl in
+    let fields = nows_more c.push-then-ends_row.new.self.items old _ (take (place - start) (drop start text)) c.in_ok-push-2.ensures.items refl in
     rw (fields, c.split_at.ensures.back) (
-    ends_here text (nows old) start place c.loop-place.invariant.start c.loop-place-test.true c.loop-place.invariant.told (not_equal _ 44 c.if-byte-eq44.false) (sym c.if-ends_line.ensures) c.requires.plain)
+    ends_here text (nows old) start place c.loop-place.invariant.start c.loop-place-test.true c.loop-place.invariant.told (not_equal _ 44 c.if-byte-eq44.false) (sym c.if-ends_row.ensures) c.requires.plain)
 
 pub returns : goal.returns
 returns c =

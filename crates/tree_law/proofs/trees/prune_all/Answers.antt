@@ -18,6 +18,6 @@ prune-requires c =
     record {
       few = c.requires.few;
       settled = before (λ t. t.reserve ≡ None) c.requires.settled;
-      can = before (CanOfferTo a.letters.now a.number) c.requires.can;
-      indexed = before (HasPaths a.index.now a.letters.now) c.requires.indexed;
+      can = before (CanOfferTo a.messages.now a.number) c.requires.can;
+      indexed = before (HasPaths a.index.now a.messages.now) c.requires.indexed;
     }

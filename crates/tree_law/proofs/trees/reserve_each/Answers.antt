@@ -9,7 +9,7 @@ returns-in_err-reserve_for-clause-same g c =
     let now = c.loop-tree.trees in
     let e = c.reserve_for.ensures in
     let like = like_tree (get_or now i d) c.reserve_for.new.self e.definition e.rule e.paths in
-    refused_same c.args.letters.now c.args.number c.args.trees.now now i d c.reserve_for.new.self c.loop-tree-test.true c.loop-tree.invariant.reserving like
+    refused_same c.args.messages.now c.args.number c.args.trees.now now i d c.reserve_for.new.self c.loop-tree-test.true c.loop-tree.invariant.reserving like
 
 pub loop-tree-preserved : goal.loop-tree-preserved
 loop-tree-preserved g c =
@@ -20,8 +20,8 @@ loop-tree-preserved g c =
     let like = like_tree (get_or now i d) c.reserve_for.new.self e.definition e.rule e.paths in
     record {
       reserving =
-          reserving_more c.args.letters.now c.args.number c.args.trees.now now i d c.reserve_for.new.self c.loop-tree-test.true c.loop-tree.invariant.reserving like
-          (reserved_at c.args.letters.now c.args.number (get_or now i d) c.reserve_for.new.self like c.in_ok-reserve_for.ensures.reserved);
+          reserving_more c.args.messages.now c.args.number c.args.trees.now now i d c.reserve_for.new.self c.loop-tree-test.true c.loop-tree.invariant.reserving like
+          (reserved_at c.args.messages.now c.args.number (get_or now i d) c.reserve_for.new.self like c.in_ok-reserve_for.ensures.reserved);
       stepped =
-          tries_more c.args.letters.now c.args.number c.args.trees.now now i d c.args.steps.now c.loop-tree.steps c.reserve_for.new.steps c.loop-tree-test.true c.loop-tree.invariant.reserving c.loop-tree.invariant.stepped e.stepped;
+          tries_more c.args.messages.now c.args.number c.args.trees.now now i d c.args.steps.now c.loop-tree.steps c.reserve_for.new.steps c.loop-tree-test.true c.loop-tree.invariant.reserving c.loop-tree.invariant.stepped e.stepped;
     }

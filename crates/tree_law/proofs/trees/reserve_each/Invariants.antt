@@ -5,6 +5,6 @@ use Rattle.tree_law.proofs.trees.reserve_each.Given as goal
 
 abbrev pub invariant-loop-tree : goal.invariant-loop-tree
 invariant-loop-tree g l = record {
-  reserving : IsReserving l.letters l.number l.initial.trees l.trees l.tree-index;
-  stepped : l.steps + tries_at l.letters l.number (drop l.tree-index l.initial.trees) ≤ l.initial.steps + tries_at l.letters l.number l.initial.trees;
+  reserving : IsReserving l.messages l.number l.initial.trees l.trees l.tree-index;
+  stepped : l.steps + tries_at l.messages l.number (drop l.tree-index l.initial.trees) ≤ l.initial.steps + tries_at l.messages l.number l.initial.trees;
 }

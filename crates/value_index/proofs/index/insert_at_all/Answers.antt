@@ -12,5 +12,5 @@ pub loop-place-preserved : goal.loop-place-preserved
 loop-place-preserved c = record {
   keeps = λ e there. c.add_at.ensures.keeps e (c.loop-place.invariant.keeps e there);
   only = λ e apart there. c.loop-place.invariant.only e apart (c.add_at.ensures.only e apart there);
-  has = has_more c.args.fields.now c.loop-place.entries.keys c.add_at.new.entries.keys c.args.letters.now c.args.number c.loop-place.place (record { kind = 0; field = 0; words = false }) (omega arith) c.add_at.ensures.keeps c.loop-place.invariant.has c.in_ok-add_at.ensures.has;
+  has = has_more c.args.fields.now c.loop-place.entries.keys c.add_at.new.entries.keys c.args.messages.now c.args.number c.loop-place.place (record { kind = 0; field = 0; words = false }) (omega arith) c.add_at.ensures.keeps c.loop-place.invariant.has c.in_ok-add_at.ensures.has;
 }

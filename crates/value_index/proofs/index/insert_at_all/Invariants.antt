@@ -6,5 +6,5 @@ abbrev pub invariant-loop-place : goal.invariant-loop-place
 invariant-loop-place l = record {
   keeps : Keeps l.initial.entries.keys l.entries.keys;
   only : AddsOnly l.number l.initial.entries.keys l.entries.keys;
-  has : HasAt l.fields l.entries.keys l.letters l.number l.place;
+  has : HasAt l.fields l.entries.keys l.messages l.number l.place;
 }

@@ -6,5 +6,5 @@ abbrev pub invariant-loop-place : goal.invariant-loop-place
 invariant-loop-place l = record {
   others : KeepsOthers l.number l.initial.entries.keys l.entries.keys;
   adds_none : AddsNone l.initial.entries.keys l.entries.keys;
-  lacks : LacksAt l.fields l.entries.keys l.letters l.number l.place;
+  lacks : LacksAt l.fields l.entries.keys l.messages l.number l.place;
 }

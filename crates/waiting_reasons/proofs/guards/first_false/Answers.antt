@@ -12,15 +12,15 @@ use Rattle.waiting_reasons.proofs.guards.first_false.Goals as goal
 pub decided-requires : goal.decided-requires
 decided-requires c =
     let a = c.args in
-    let Suit : List Condition → Type 0 = λ cs. AllByRecursion (λ x. AllByRecursion (NeedSuits a.letters.now a.definition.now.patterns) (needs_of x)) cs in
+    let Suit : List Condition → Type 0 = λ cs. AllByRecursion (λ x. AllByRecursion (NeedSuits a.messages.now a.definition.now.patterns) (needs_of x)) cs in
     let left = left_of conjunct_condition c.as_slice-conjunct-items.result.now c.loop-conjunct.conjunct-index c.conjunct-item.result c.loop-conjunct-test.true c.conjunct-item.is in
-    have_places a.letters.now a.definition.now.patterns a.slots.now (needs_of (conjunct_condition c.conjunct-item.result)) (length-SlotsSuit a.letters.now a.definition.now.patterns a.slots.now c.requires.suits) (subst Suit left c.loop-conjunct.invariant.needs).0
+    have_places a.messages.now a.definition.now.patterns a.slots.now (needs_of (conjunct_condition c.conjunct-item.result)) (length-SlotsSuit a.messages.now a.definition.now.patterns a.slots.now c.requires.suits) (subst Suit left c.loop-conjunct.invariant.needs).0
 
 pub holds-requires : goal.holds-requires
 holds-requires c =
     let a = c.args in
-    let Suit : List Condition → Type 0 = λ cs. AllByRecursion (λ x. AllByRecursion (NeedSuits a.letters.now a.definition.now.patterns) (needs_of x)) cs in
+    let Suit : List Condition → Type 0 = λ cs. AllByRecursion (λ x. AllByRecursion (NeedSuits a.messages.now a.definition.now.patterns) (needs_of x)) cs in
     let left = left_of conjunct_condition c.as_slice-conjunct-items.result.now c.loop-conjunct.conjunct-index c.conjunct-item.result c.loop-conjunct-test.true c.conjunct-item.is in
     let needs = needs_of (conjunct_condition c.conjunct-item.result) in
     let filled = (both_true (has_some needs) (list_all (is_filled a.slots.now) needs) (sym c.decided.ensures ∙ c.if-decided.true)).1 in
-    record { ready = ready_where_filled a.letters.now a.definition.now.patterns a.slots.now needs c.requires.suits (subst Suit left c.loop-conjunct.invariant.needs).0 filled }
+    record { ready = ready_where_filled a.messages.now a.definition.now.patterns a.slots.now needs c.requires.suits (subst Suit left c.loop-conjunct.invariant.needs).0 filled }

@@ -11,6 +11,6 @@ pub holds-requires : goal.holds-requires
 holds-requires c =
     let a = c.args in
     let kinds = a.definition.now.patterns in
-    let Suit : List Condition → Type 0 = λ cs. AllByRecursion (λ x. AllByRecursion (NeedSuits a.letters.now kinds) (needs_of x)) cs in
+    let Suit : List Condition → Type 0 = λ cs. AllByRecursion (λ x. AllByRecursion (NeedSuits a.messages.now kinds) (needs_of x)) cs in
     let left = left_of conjunct_condition c.as_slice-conjunct-items.result.now c.loop-conjunct.conjunct-index c.conjunct-item.result c.loop-conjunct-test.true c.conjunct-item.is in
-    record { ready = ready_where_full a.letters.now kinds a.slots.now (needs_of (conjunct_condition c.conjunct-item.result)) c.requires.suits (subst Suit left c.loop-conjunct.invariant.needs).0 c.requires.full }
+    record { ready = ready_where_full a.messages.now kinds a.slots.now (needs_of (conjunct_condition c.conjunct-item.result)) c.requires.suits (subst Suit left c.loop-conjunct.invariant.needs).0 c.requires.full }

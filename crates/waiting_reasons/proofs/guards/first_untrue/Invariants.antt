@@ -9,6 +9,6 @@ use Rattle.waiting_reasons.proofs.guards.first_untrue.Given as goal
 -- the conjuncts that are left suit, and decide
 abbrev pub invariant-loop-conjunct : goal.invariant-loop-conjunct
 invariant-loop-conjunct l = record {
-  needs : AllByRecursion (λ c. AllByRecursion (NeedSuits l.letters l.definition.patterns) (needs_of c)) (map conjunct_condition (drop l.conjunct-index l.conjunct-items));
-  told : first_untrue l.letters l.slots (map conjunct_condition (drop l.conjunct-index l.conjunct-items)) ≡ first_untrue l.letters l.slots l.definition.conjuncts;
+  needs : AllByRecursion (λ c. AllByRecursion (NeedSuits l.messages l.definition.patterns) (needs_of c)) (map conjunct_condition (drop l.conjunct-index l.conjunct-items));
+  told : first_untrue l.messages l.slots (map conjunct_condition (drop l.conjunct-index l.conjunct-items)) ≡ first_untrue l.messages l.slots l.definition.conjuncts;
 }

@@ -1,6 +1,6 @@
 use Rattle.std.proofs.Common.{◌≡◌, drop}
 use Rattle.join_base.specs.Taken.{contains_number}
-use Rattle.waiting_reasons.proofs.letters.contains_number.Given as goal
+use Rattle.waiting_reasons.proofs.messages.contains_number.Given as goal
 
 -- the numbers that are left decide
 abbrev pub invariant-loop-other : goal.invariant-loop-other

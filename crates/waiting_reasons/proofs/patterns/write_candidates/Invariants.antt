@@ -6,6 +6,6 @@ use Rattle.waiting_reasons.proofs.patterns.write_candidates.Given as goal
 
 abbrev pub invariant-loop-number : goal.invariant-loop-number
 invariant-loop-number l = record {
-  told : l.text ≡ l.initial.text ++ flat_map (candidate_line l.plan l.rule l.letters l.slots l.place) (take l.number-index l.numbers);
-  all : AllByRecursion (SuitsWith l.letters l.rule.definition.patterns l.slots l.place) (drop l.number-index l.numbers);
+  told : l.text ≡ l.initial.text ++ flat_map (candidate_line l.plan l.rule l.messages l.slots l.place) (take l.number-index l.numbers);
+  all : AllByRecursion (SuitsWith l.messages l.rule.definition.patterns l.slots l.place) (drop l.number-index l.numbers);
 }

@@ -11,5 +11,5 @@ write_further-requires-clause-empty c =
 pub write_further-requires-clause-longer : goal.write_further-requires-clause-longer
 write_further-requires-clause-longer c =
     let a = c.args in
-    subst (λ (s : Assignment). SuitsWith a.letters.now a.rule.now.definition.patterns s a.place a.number) (sym c.requires.none)
-    (alone_suit a.letters.now a.rule.now.definition a.place a.kind a.number c.requires.kind (sym c.is_of_kind.ensures ∙ c.if-not-is_of_kind.false))
+    subst (λ (s : Assignment). SuitsWith a.messages.now a.rule.now.definition.patterns s a.place a.number) (sym c.requires.none)
+    (alone_suit a.messages.now a.rule.now.definition a.place a.kind a.number c.requires.kind (sym c.is_of_kind.ensures ∙ c.if-not-is_of_kind.false))

@@ -8,17 +8,17 @@ use Rattle.waiting_reasons.proofs.patterns.write_slot.Goals as goal
 
 pub get-requires : goal.get-requires
 get-requires c = record {
-  within = omega (arith, slice_get_within c.args.rule.now.definition.patterns c.args.place c.args.kind c.requires.kind, length-SlotsSuit c.args.letters.now c.args.rule.now.definition.patterns c.args.slots.now c.requires.suits);
+  within = omega (arith, slice_get_within c.args.rule.now.definition.patterns c.args.place c.args.kind c.requires.kind, length-SlotsSuit c.args.messages.now c.args.rule.now.definition.patterns c.args.slots.now c.requires.suits);
 }
 
 pub returns-in-Some : goal.returns-in-Some
 returns-in-Some c =
     let a = c.args in
     let there = number_there a.slots.now a.place (Some c.in-Some.number) c.in-Some.ensures.place in
-    on_ok_weaker c.write_standing.result (λ e. e ∙ ap (λ (o : Option ℕ). a.text.now ++ slot_lines a.plan.now a.rule.now a.letters.now a.left.now a.slots.now a.place a.kind o) there) c.write_standing.ensures
+    on_ok_weaker c.write_standing.result (λ e. e ∙ ap (λ (o : Option ℕ). a.text.now ++ slot_lines a.plan.now a.rule.now a.messages.now a.left.now a.slots.now a.place a.kind o) there) c.write_standing.ensures
 
 pub returns-in-None : goal.returns-in-None
 returns-in-None c =
     let a = c.args in
     let there = number_there a.slots.now a.place None c.in-None.ensures.place in
-    on_ok_weaker c.write_missing.result (λ e. e ∙ ap (λ (o : Option ℕ). a.text.now ++ slot_lines a.plan.now a.rule.now a.letters.now a.left.now a.slots.now a.place a.kind o) there) c.write_missing.ensures
+    on_ok_weaker c.write_missing.result (λ e. e ∙ ap (λ (o : Option ℕ). a.text.now ++ slot_lines a.plan.now a.rule.now a.messages.now a.left.now a.slots.now a.place a.kind o) there) c.write_missing.ensures

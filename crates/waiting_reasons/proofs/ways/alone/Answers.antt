@@ -6,4 +6,4 @@ use Rattle.waiting_reasons.proofs.ways.alone.Goals as goal
 pub push_longer-requires-clause-suits : goal.push_longer-requires-clause-suits
 push_longer-requires-clause-suits c =
     let kinds = c.args.definition.now.patterns in
-    subst (SlotsSuit c.args.letters.now kinds) (sym c.requires.none) (suits_empty c.args.letters.now kinds)
+    subst (SlotsSuit c.args.messages.now kinds) (sym c.requires.none) (suits_empty c.args.messages.now kinds)

@@ -7,6 +7,6 @@ use Rattle.waiting_reasons.proofs.ways.grow.Given as goal
 -- those that are left suit, and what the others give
 abbrev pub invariant-loop-slots : goal.invariant-loop-slots
 invariant-loop-slots l = record {
-  all : AllByRecursion (SlotsSuit l.letters l.definition.patterns) (drop l.slots-index l.slots-items);
-  told : l.more ≡ flat_map (longer_at l.letters l.definition l.seen l.place) (take l.slots-index l.slots-items);
+  all : AllByRecursion (SlotsSuit l.messages l.definition.patterns) (drop l.slots-index l.slots-items);
+  told : l.more ≡ flat_map (longer_at l.messages l.definition l.seen l.place) (take l.slots-index l.slots-items);
 }

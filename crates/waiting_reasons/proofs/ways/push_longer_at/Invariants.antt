@@ -4,4 +4,4 @@ use Rattle.waiting_reasons.specs.Ways.{longer}
 use Rattle.waiting_reasons.proofs.ways.push_longer_at.Given as goal
 
 abbrev pub invariant-loop-number : goal.invariant-loop-number
-invariant-loop-number l = l.found ≡ l.initial.found ++ flat_map (longer l.letters l.definition l.slots l.place) (take l.number-index l.seen)
+invariant-loop-number l = l.found ≡ l.initial.found ++ flat_map (longer l.messages l.definition l.slots l.place) (take l.number-index l.seen)

@@ -1,6 +1,6 @@
 use Rattle.std.proofs.Common.{sym, subst, List, ◌∙◌}
 use Rattle.actor_cells.specs.declared.cell.LinkTally.{LinkTally}
-use Rattle.actor_cells.specs.Served.{Turns}
+use Rattle.actor_cells.specs.Served.{TakesInTurn}
 use Rattle.actor_cells.proofs.CellLemmas.{kept-trans}
 use Rattle.actor_cells.proofs.RoundLemmas.{same-tally}
 use Rattle.actor_cells.proofs.cell.Cell.serve.Goals as goal
@@ -14,7 +14,7 @@ pub returns-clause-turned : goal.returns-clause-turned
 returns-clause-turned g c =
     let first = same-tally c.args.self.now c.send_rest.new.self (c.send_rest.ensures.inward ∙ c.note.ensures.inward) in
     let last = same-tally c.take_all.new.self c.send.new.self c.send.ensures.inward in
-    subst (λ (x : List LinkTally × List LinkTally). Turns x.0 x.1 c.in_ok-turned.turned) (λ i. (first i, sym last i)) c.in_ok-turned.ensures.turned
+    subst (λ (x : List LinkTally × List LinkTally). TakesInTurn x.0 x.1 c.in_ok-turned.turned) (λ i. (first i, sym last i)) c.in_ok-turned.ensures.turned
 
 pub returns-in_err-turned-clause-kept : goal.returns-in_err-turned-clause-kept
 returns-in_err-turned-clause-kept g c =

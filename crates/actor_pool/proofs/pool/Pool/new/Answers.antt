@@ -1,6 +1,6 @@
 use Rattle.std.proofs.Common.{arith, ap, sym, subst, ◌∙◌, ◌≡◌, List, All, length, map}
 use Rattle.std.proofs.lemmas.List.{length-map}
-use Rattle.cell_links.specs.declared.poster.Poster as ends
+use Rattle.cell_links.specs.declared.feed_links.FeedLinks as ends
 use Rattle.cell_links.specs.Ends.{link_count}
 use Rattle.actor_cells.specs.declared.cell.Cell.{Cell}
 use Rattle.actor_cells.specs.Lawful.{cell_tag}

@@ -1,8 +1,8 @@
 use Rattle.std.proofs.Common.{◌≡◌, ◌∙◌, ℕ, false, ap, sym, subst, refl}
 use Rattle.fair_semantics.specs.declared.run.Run.{Run}
 use Rattle.fair_semantics.specs.Linked.{IsLinked}
-use Rattle.run_order.specs.Order.{shown}
-use Rattle.run_order.proofs.LawLemmas.{runs_are_schedules}
+use Rattle.run_order_law.specs.Order.{shown}
+use Rattle.run_order_law.proofs.LawLemmas.{runs_are_schedules}
 use Rattle.actor_system.specs.Serving.{Serving, some_waits, system_in}
 use Rattle.actor_system.specs.Inside.{serving_of}
 use Rattle.actor_system.proofs.FinishLemmas.{finished, links}

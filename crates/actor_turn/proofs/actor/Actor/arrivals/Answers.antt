@@ -10,7 +10,7 @@ returns c =
     let a = c.self.inside in
     record {
       count =
-          ap length c.letters.ensures.letters
+          ap length c.messages.ensures.messages
           ∙ length-map a.mail.mail.arrivals (λ (r : Received). r.message)
           ∙ sym (entries_count 1 a.mail.mail.arrivals a.firings.items c.self.invariant.rest.fired)
           ∙ ap (λ (h : Held). length h.state.entries) c.self.view_is;

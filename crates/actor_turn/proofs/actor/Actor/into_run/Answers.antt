@@ -12,7 +12,7 @@ pub returns-clause-run : goal.returns-clause-run
 returns-clause-run c =
     let a = c.self.inside in
     let e = c.into_parts-parts.ensures in
-    let arrivals = (λ i. received_of (e.letters i) (e.marks i)) ∙ received_again a.mail.mail.arrivals in
+    let arrivals = (λ i. received_of (e.messages i) (e.marks i)) ∙ received_again a.mail.mail.arrivals in
     let entries = c.into_entries.ensures ∙ ap (λ (rs : List Received). entries_of 1 rs a.firings.items) arrivals in
     let partials = c.partials-partials.ensures.count ∙ ap (λ (h : Held). partials_of h.setting.rules h.state) (sym c.self.view_is) in
     let run : ◌≡◌ {A = ActorRun} (record { entries = c.into_entries.result; late = c.into_parts-parts.result.late; ending = a.ending; left = c.into_parts-parts.result.left; partials = c.partials-partials.result }) (run_of (held_of a).setting.rules (held_of a).state)

@@ -13,6 +13,6 @@ returns c =
     let counted = c.count_paths.ensures.count ∙ ap (λ (ts : List Tree). min (path_count ts) (2 ^ 64 - 1)) c.deref.ensures.value in
     record {
       count =
-          partials_counted (setting_in a) a.mail.mail a.firings.items a.ending a.trees.items c.count_paths.result c.self.invariant.rest c.letters.ensures.sound.ascending counted
+          partials_counted (setting_in a) a.mail.mail a.firings.items a.ending a.trees.items c.count_paths.result c.self.invariant.rest c.messages.ensures.sound.ascending counted
           ∙ ap (λ (h : Held). partials_of h.setting.rules h.state) c.self.view_is;
     }

@@ -7,7 +7,7 @@ use Rattle.std.specs.Vec.{with_items}
 use Rattle.join_base.specs.declared.message.Message.{Message}
 use Rattle.join_base.specs.declared.message.Source.{Source}
 use Rattle.join_base.specs.declared.message.Stamped.{Stamped}
-use Rattle.mailbox_core.specs.Mail.{IsRecorded, Mail, Received, latest, letters_of, next_arrival, with_arrival, without_last}
+use Rattle.mailbox_core.specs.Mail.{IsRecorded, Mail, Received, latest, recorded_messages, next_arrival, with_arrival, without_last}
 use Rattle.fair_semantics.specs.declared.run.Entry.{Entry}
 use Rattle.match_tree.specs.Tree.{Tree}
 use Rattle.pattern_core.specs.Suits as recorded_in
@@ -63,7 +63,7 @@ steps g c =
     let a = c.self.inside in
     let i = c.self.invariant in
     let takes = not_refused a _ c.args.message c.args.stamp c.self.view_is c.requires.taken in
-    let few = subst (λ (ts : List Tree). c.record.new.steps ≤ c.args.steps.now + tries_at (letters_of a.mail.mail.arrivals ++ c.args.message ∷ []) (length a.mail.mail.arrivals + 1) ts) c.deref_mut.ensures.value c.record.ensures.steps in
+    let few = subst (λ (ts : List Tree). c.record.new.steps ≤ c.args.steps.now + tries_at (recorded_messages a.mail.mail.arrivals ++ c.args.message ∷ []) (length a.mail.mail.arrivals + 1) ts) c.deref_mut.ensures.value c.record.ensures.steps in
     steps_few (length a.outboxes.items) (setting_in a) a.mail.mail a.firings.items a.ending a.trees.items i.told i.rest c.args.source c.args.message c.args.stamp takes c.args.steps.now c.record.new.steps few
 
 -- the trees were offered the number
@@ -96,7 +96,7 @@ kept g c =
     (keeps_done (length a.outboxes.items) (setting_in a) a.mail.mail a.firings.items a.ending a.trees.items i.told i.rest c.args.source c.args.message c.args.stamp takes offered (e.same ∙ c.deref_mut.ensures.value) e.reserved running rising best c.in_ok-number.number a.limits.partials c.keep-outcome.new.trees c.record.new.mail.mail c.keep-outcome.new.mail.mail c.keep-outcome.new.ending c.keep-outcome.result e.number refl e.recorded keeps)
 
 -- the match may fire
-may : (g : _) (c : In-Some g) → MayFire (letters_of (with_arrival c.self.inside.mail.mail c.args.source c.args.message c.args.stamp).arrivals) (length c.self.inside.outboxes.items) c.self.inside.rules c.in-Some.chosen
+may : (g : _) (c : In-Some g) → MayFire (recorded_messages (with_arrival c.self.inside.mail.mail c.args.source c.args.message c.args.stamp).arrivals) (length c.self.inside.outboxes.items) c.self.inside.rules c.in-Some.chosen
 may g c =
     let a = c.self.inside in
     let i = c.self.invariant in
@@ -149,14 +149,14 @@ record-requires-clause-can g c =
     let a = c.self.inside in
     let i = c.self.invariant in
     let takes = not_refused a _ c.args.message c.args.stamp c.self.view_is c.requires.taken in
-    subst (λ (ts : List Tree). AllByRecursion (CanOfferTo (letters_of a.mail.mail.arrivals ++ c.args.message ∷ []) (length a.mail.mail.arrivals + 1)) ts) (sym c.deref_mut.ensures.value)
+    subst (λ (ts : List Tree). AllByRecursion (CanOfferTo (recorded_messages a.mail.mail.arrivals ++ c.args.message ∷ []) (length a.mail.mail.arrivals + 1)) ts) (sym c.deref_mut.ensures.value)
     (can_record (length a.outboxes.items) (setting_in a) a.mail.mail a.firings.items a.ending a.trees.items i.told i.rest c.args.source c.args.message c.args.stamp takes)
 
 pub record-requires-clause-indexed : goal.record-requires-clause-indexed
 record-requires-clause-indexed g c =
     let a = c.self.inside in
     let i = c.self.invariant in
-    subst (λ (ts : List Tree). AllByRecursion (HasPaths a.index (letters_of a.mail.mail.arrivals ++ c.args.message ∷ [])) ts) (sym c.deref_mut.ensures.value)
+    subst (λ (ts : List Tree). AllByRecursion (HasPaths a.index (recorded_messages a.mail.mail.arrivals ++ c.args.message ∷ [])) ts) (sym c.deref_mut.ensures.value)
     (paths_indexed (setting_in a) a.mail.mail a.firings.items a.ending a.trees.items i.rest a.index i.indexed c.args.source c.args.message c.args.stamp)
 
 pub returns-in_err-number-clause-steps : goal.returns-in_err-number-clause-steps
@@ -218,7 +218,7 @@ pub insert-requires : goal.insert-requires
 insert-requires g c =
     let a = c.self.inside in
     let e = c.in_ok-number.ensures in
-    let shown = ap length (c.letters.ensures.letters ∙ ap (λ (m : Mail). letters_of m.arrivals) e.recorded) ∙ length-map (with_arrival a.mail.mail c.args.source c.args.message c.args.stamp).arrivals (λ (r : Received). r.message) ∙ length-append a.mail.mail.arrivals _ in
+    let shown = ap length (c.messages.ensures.messages ∙ ap (λ (m : Mail). recorded_messages m.arrivals) e.recorded) ∙ length-map (with_arrival a.mail.mail c.args.source c.args.message c.args.stamp).arrivals (λ (r : Received). r.message) ∙ length-append a.mail.mail.arrivals _ in
     record { recorded = (omega arith, omega arith) }
 
 unindexed_inside : (g : _) (c : After-give_up g) → IsAtRest (setting_in c.self.inside) c.give_up.new.mail.mail c.reserve_entry.new.firings.items c.self.inside.ending (with_items (with_items c.self.inside.trees c.record.new.trees) c.give_up.new.trees).items
@@ -280,14 +280,14 @@ invariant_of-self-in_default-best_of g c =
     let a = c.self.inside in
     let i = c.self.invariant in
     let rest = kept_inside g (goal.at.invariant_of-self-in_default-best_of g c).After-empty_ended in
-    let letters = ap length c.letters-arrivals.ensures.letters ∙ length-map a.mail.mail.arrivals (λ (r : Received). r.message) in
+    let messages = ap length c.messages-arrivals.ensures.messages ∙ length-map a.mail.mail.arrivals (λ (r : Received). r.message) in
     let place = c.in-Ok.ensures.room in
     let firings : c.push.new.self.items ≡ a.firings.items ++ None ∷ [] = rw (c.push.ensures.items, c.unwrap.ensures, c.none.ensures.none) (ap (λ (fs : List (Option Firing)). fs ++ None ∷ []) c.reserve_entry.ensures.firings) in
     let more = ap length firings ∙ length-append a.firings.items (None ∷ []) in
     let room : length c.keep-outcome.new.mail.mail.arrivals ≤ vec_capacity c.reserve_entry.new.entries = omega (arith, rest.fired, i.rest.fired) in
     let e = c.in_ok-number.ensures in
     let P : List Message × ℕ → Type 0 = λ x. Has c.insert.new.self x.0 x.1 in
-    let shown = c.letters.ensures.letters ∙ ap (λ (m : Mail). letters_of m.arrivals) e.recorded in
+    let shown = c.messages.ensures.messages ∙ ap (λ (m : Mail). recorded_messages m.arrivals) e.recorded in
     let newest = subst P (λ j. (shown j, e.number j)) c.in-Ok-insert.ensures.has in
     let only = subst (λ (n : ℕ). AddsOnly n a.index.entries c.insert.new.self.entries) e.number c.insert.ensures.only in
     let running = runs_still a _ c.args.message c.args.stamp c.self.view_is c.requires.taken in
@@ -333,10 +333,10 @@ fire-requires-clause-exists g c = (may g (goal.at.fire-requires-clause-exists g 
 pub fire-requires-clause-ready : goal.fire-requires-clause-ready
 fire-requires-clause-ready g c =
     let a = c.self.inside in
-    let letters = ap (λ (m : Mail). letters_of m.arrivals) (sym c.in_ok-number.ensures.recorded) in
+    let messages = ap (λ (m : Mail). recorded_messages m.arrivals) (sym c.in_ok-number.ensures.recorded) in
     let boxes = ap length (sym c.deref_mut-3.ensures.value) in
-    subst (λ (n : ℕ). BodyReady n (letters_of c.record.new.mail.mail.arrivals) c.in-Some.chosen.taken (body_at a.rules c.in-Some.chosen.rule)) boxes
-    (subst (λ (ms : List Message). BodyReady (length a.outboxes.items) ms c.in-Some.chosen.taken (body_at a.rules c.in-Some.chosen.rule)) letters (may g (goal.at.fire-requires-clause-ready g c).In-Some).ready)
+    subst (λ (n : ℕ). BodyReady n (recorded_messages c.record.new.mail.mail.arrivals) c.in-Some.chosen.taken (body_at a.rules c.in-Some.chosen.rule)) boxes
+    (subst (λ (ms : List Message). BodyReady (length a.outboxes.items) ms c.in-Some.chosen.taken (body_at a.rules c.in-Some.chosen.rule)) messages (may g (goal.at.fire-requires-clause-ready g c).In-Some).ready)
 
 pub fire-requires-clause-recorded : goal.fire-requires-clause-recorded
 fire-requires-clause-recorded g c =
@@ -352,10 +352,10 @@ fire-requires-clause-reserved g c =
     subst (λ (ts : List Tree). AllByRecursion (HasReserve c.in_ok-number.number) ts) (sym (c.deref_mut-2.ensures.value ∙ again)) (reserved g (goal.at.fire-requires-clause-reserved g c).In_ok-number)
 
 -- the messages as they are recorded
-letters_now : (g : _) (c : In_ok-number g) → letters_of c.self.inside.mail.mail.arrivals ++ c.args.message ∷ [] ≡ letters_of c.record.new.mail.mail.arrivals
-letters_now g c =
+messages_now : (g : _) (c : In_ok-number g) → recorded_messages c.self.inside.mail.mail.arrivals ++ c.args.message ∷ [] ≡ recorded_messages c.record.new.mail.mail.arrivals
+messages_now g c =
     let arrivals = c.self.inside.mail.mail.arrivals in
-    sym (map-append (λ (r : Received). r.message) arrivals (next_arrival arrivals c.args.source c.args.message c.args.stamp ∷ [])) ∙ ap (λ (m : Mail). letters_of m.arrivals) (sym c.in_ok-number.ensures.recorded)
+    sym (map-append (λ (r : Received). r.message) arrivals (next_arrival arrivals c.args.source c.args.message c.args.stamp ∷ [])) ∙ ap (λ (m : Mail). recorded_messages m.arrivals) (sym c.in_ok-number.ensures.recorded)
 
 pub fire-requires-clause-can : goal.fire-requires-clause-can
 fire-requires-clause-can g c =
@@ -366,14 +366,14 @@ fire-requires-clause-can g c =
     let offered : List Tree = c.record.new.trees in
     let long : length offered ≡ a.trees.len = omega (arith, c.record.auto.trees, c.deref_mut.ensures.len) in
     let again = take_at offered (drop (length offered) a.trees.items) a.trees.len long in
-    let before : List Message = letters_of a.mail.mail.arrivals ++ c.args.message ∷ [] in
+    let before : List Message = recorded_messages a.mail.mail.arrivals ++ c.args.message ∷ [] in
     let number : ℕ = length a.mail.mail.arrivals + 1 in
     let can = can_record (length a.outboxes.items) (setting_in a) a.mail.mail a.firings.items a.ending a.trees.items i.told i.rest c.args.source c.args.message c.args.stamp takes in
     let there = unsettled_can before number offered (subst (λ (ts : List Tree). AllByRecursion (CanOfferTo before number) ts) (sym (e.same ∙ c.deref_mut.ensures.value)) can) in
-    let letters = letters_now g (goal.at.fire-requires-clause-can g c).In_ok-number in
+    let messages = messages_now g (goal.at.fire-requires-clause-can g c).In_ok-number in
     let trees : offered ≡ c.deref_mut-2.result.now = sym (c.deref_mut-2.ensures.value ∙ again) in
     let P : List Message × ℕ × List Tree → Type 0 = λ x. AllByRecursion (CanOfferTo x.0 x.1) x.2 in
-    subst P (λ j. (letters j, sym e.number j, trees j)) there
+    subst P (λ j. (messages j, sym e.number j, trees j)) there
 
 pub fire-requires-clause-indexed : goal.fire-requires-clause-indexed
 fire-requires-clause-indexed g c =
@@ -383,24 +383,24 @@ fire-requires-clause-indexed g c =
     let offered : List Tree = c.record.new.trees in
     let long : length offered ≡ a.trees.len = omega (arith, c.record.auto.trees, c.deref_mut.ensures.len) in
     let again = take_at offered (drop (length offered) a.trees.items) a.trees.len long in
-    let before : List Message = letters_of a.mail.mail.arrivals ++ c.args.message ∷ [] in
+    let before : List Message = recorded_messages a.mail.mail.arrivals ++ c.args.message ∷ [] in
     let indexed = paths_indexed (setting_in a) a.mail.mail a.firings.items a.ending a.trees.items i.rest a.index i.indexed c.args.source c.args.message c.args.stamp in
     let there = unsettled_paths a.index before offered (subst (λ (ts : List Tree). AllByRecursion (HasPaths a.index before) ts) (sym (e.same ∙ c.deref_mut.ensures.value)) indexed) in
-    let letters = letters_now g (goal.at.fire-requires-clause-indexed g c).In_ok-number in
+    let messages = messages_now g (goal.at.fire-requires-clause-indexed g c).In_ok-number in
     let trees : offered ≡ c.deref_mut-2.result.now = sym (c.deref_mut-2.ensures.value ∙ again) in
     let P : List Message × List Tree → Type 0 = λ x. AllByRecursion (HasPaths a.index x.0) x.1 in
-    subst P (λ j. (letters j, trees j)) there
+    subst P (λ j. (messages j, trees j)) there
 
 -- the firing took the numbers of the match, and they leave the index
 pub remove_taken-requires : goal.remove_taken-requires
 remove_taken-requires g c =
     let a = c.self.inside in
     let f = c.in-Ok-fire.ensures in
-    let letters : c.letters-in-Ok-fire.result.now ≡ letters_of (with_arrival a.mail.mail c.args.source c.args.message c.args.stamp).arrivals = c.letters-in-Ok-fire.ensures.letters ∙ ap (λ (m : Mail). letters_of m.arrivals) f.mail ∙ ap (λ (m : Mail). letters_of m.arrivals) c.in_ok-number.ensures.recorded in
+    let messages : c.messages-in-Ok-fire.result.now ≡ recorded_messages (with_arrival a.mail.mail c.args.source c.args.message c.args.stamp).arrivals = c.messages-in-Ok-fire.ensures.messages ∙ ap (λ (m : Mail). recorded_messages m.arrivals) f.mail ∙ ap (λ (m : Mail). recorded_messages m.arrivals) c.in_ok-number.ensures.recorded in
     let taken = c.as_slice-taken.ensures.same ∙ ap (λ (f : Firing). f.taken) c.deref-in-Ok-fire.ensures ∙ ap firing_taken c.in-Ok-fire.ensures.firing in
-    let all = each_recorded (letters_of (with_arrival a.mail.mail c.args.source c.args.message c.args.stamp).arrivals) c.in-Some.chosen.taken (may g (goal.at.remove_taken-requires g c).In-Some).recorded in
+    let all = each_recorded (recorded_messages (with_arrival a.mail.mail c.args.source c.args.message c.args.stamp).arrivals) c.in-Some.chosen.taken (may g (goal.at.remove_taken-requires g c).In-Some).recorded in
     let P : List Message × List ℕ → Type 0 = λ x. All (recorded_in.IsRecorded x.0) x.1 in
-    record { recorded = subst P (λ j. (sym letters j, sym taken j)) all }
+    record { recorded = subst P (λ j. (sym messages j, sym taken j)) all }
 
 fired_indexed : (g : _) (c : After-empty_ended-in-Ok-fire g) → (is_running c.fire.new.ending ≡ false → c.fire.new.mail.mail.live ≡ []) → IsIndexOf c.empty_ended-in-Ok-fire.new.index c.fire.new.mail.mail
 fired_indexed g c none =
@@ -417,9 +417,9 @@ fired_indexed g c none =
     let taken = c.as_slice-taken.ensures.same ∙ ap (λ (f : Firing). f.taken) c.deref-in-Ok-fire.ensures ∙ ap firing_taken c.in-Ok-fire.ensures.firing in
     let others = subst (λ (ns : List ℕ). KeepsUntaken ns a.index.entries c.remove_taken.new.index.entries) taken c.remove_taken.ensures.others in
     let f = c.in-Ok-fire.ensures in
-    let letters = c.letters-in-Ok-fire.ensures.letters ∙ ap (λ (m : Mail). letters_of m.arrivals) f.mail ∙ ap (λ (m : Mail). letters_of m.arrivals) e.recorded in
+    let messages = c.messages-in-Ok-fire.ensures.messages ∙ ap (λ (m : Mail). recorded_messages m.arrivals) f.mail ∙ ap (λ (m : Mail). recorded_messages m.arrivals) e.recorded in
     let P : List Message × List ℕ → Type 0 = λ x. LacksTaken x.1 c.remove_taken.new.index x.0 in
-    let gone = subst P (λ j. (letters j, taken j)) c.remove_taken.ensures.gone in
+    let gone = subst P (λ j. (messages j, taken j)) c.remove_taken.ensures.gone in
     fired_index (setting_in a) a.mail.mail a.firings.items a.ending a.trees.items i.rest a.index i.indexed c.args.source c.args.message c.args.stamp c.remove_taken.new.index c.empty_ended-in-Ok-fire.new.index _ c.in-Some.chosen.taken c.record.new.mail.mail c.fire.new.mail.mail c.fire.new.ending running c.remove_taken.ensures.fields others c.remove_taken.ensures.adds_none gone newest e.recorded f.mail f.ending none c.empty_ended-in-Ok-fire.ensures.fields c.empty_ended-in-Ok-fire.ensures.entries
 
 fired_inside : (g : _) (c : After-unwrap-in-Ok-fire g) → IsAtRest (setting_in c.self.inside) c.fire.new.mail.mail c.push-in-Ok-fire.new.self.items c.fire.new.ending (with_items (with_items c.self.inside.trees c.record.new.trees) c.fire.new.trees).items
@@ -437,7 +437,7 @@ invariant_of-self-in-Ok-fire g c =
     let long : length c.fire.new.outboxes ≡ a.outboxes.len = omega (arith, c.fire.auto.outboxes, c.deref_mut-3.ensures.len) in
     let boxes = take_at c.fire.new.outboxes (drop (length c.fire.new.outboxes) a.outboxes.items) a.outboxes.len long in
     let same_count : length a.outboxes.items ≡ length (with_items a.outboxes c.fire.new.outboxes).items = omega (arith, ap length boxes, a.outboxes.ok.0) in
-    let letters = ap length c.letters-arrivals.ensures.letters ∙ length-map a.mail.mail.arrivals (λ (r : Received). r.message) in
+    let messages = ap length c.messages-arrivals.ensures.messages ∙ length-map a.mail.mail.arrivals (λ (r : Received). r.message) in
     let place = c.in-Ok.ensures.room in
     let firings : c.push-in-Ok-fire.new.self.items ≡ a.firings.items ++ Some c.in-Ok-fire.firing.value ∷ [] = rw (c.push-in-Ok-fire.ensures.items, c.unwrap-in-Ok-fire.ensures, c.from_box.ensures.firing) (ap (λ (fs : List (Option Firing)). fs ++ Some c.in-Ok-fire.firing.value ∷ []) c.reserve_entry.ensures.firings) in
     let more = ap length firings ∙ length-append a.firings.items (Some c.in-Ok-fire.firing.value ∷ []) in
@@ -514,7 +514,7 @@ returns-in-Ok-fire-clause-outbox g c =
     let before : Mail = c.record.new.mail.mail in
     let outbox = (held_of a).outbox in
     let f = c.in-Ok-fire.ensures in
-    let effects : effects_of (letters_of before.arrivals) c.in-Some.chosen.taken (body_at a.rules c.in-Some.chosen.rule) ≡ c.in-Ok-fire.firing.value.effects = ap firing_effects (sym f.firing) in
+    let effects : effects_of (recorded_messages before.arrivals) c.in-Some.chosen.taken (body_at a.rules c.in-Some.chosen.rule) ≡ c.in-Ok-fire.firing.value.effects = ap firing_effects (sym f.firing) in
     let stamp = stamp_same (length a.outboxes.items) (setting_in a) a.mail.mail a.firings.items a.ending a.trees.items i.told i.rest c.args.source c.args.message c.args.stamp before c.in_ok-number.ensures.recorded in
     let after : List (List Stamped) = map (λ (o : Queue). o.posts) (with_items a.outboxes c.fire.new.outboxes).items in
     let posts : after ≡ delivered (sent_by (latest before.arrivals) c.in-Ok-fire.firing.value.effects) outbox = ap (λ (os : List Queue). map (λ (o : Queue). o.posts) os) boxes ∙ f.posts ∙ (λ j. delivered (sent_by (latest before.arrivals) (effects j)) (map (λ (o : Queue). o.posts) (c.deref_mut-3.ensures.value j))) in

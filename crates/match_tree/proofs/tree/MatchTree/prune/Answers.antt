@@ -17,7 +17,7 @@ use Rattle.match_tree.proofs.tree.MatchTree.prune.Goals.{After-oldest_seen}
 use Rattle.match_tree.proofs.tree.MatchTree.prune.Goals as goal
 
 abbrev offer_in : After-oldest_seen → Offered
-offer_in c = record { letters = c.args.letters.now; index = c.args.index.now; definition = c.self.inside.definition; rule = c.self.inside.rule; number = c.args.number; oldest = c.oldest_seen.result }
+offer_in c = record { messages = c.args.messages.now; index = c.args.index.now; definition = c.self.inside.definition; rule = c.self.inside.rule; number = c.args.number; oldest = c.oldest_seen.result }
 
 pub prune_values-gone-requires-clause-few : goal.prune_values-gone-requires-clause-few
 prune_values-gone-requires-clause-few c =
@@ -33,8 +33,8 @@ leading : (c : After-oldest_seen) → CanOffer (offer_in c) (empty_of c.self.ins
 leading c =
     let s = c.self.inside in
     let old : List Route = rows_routes 0 s.rows.items in
-    let same : bare (offer_in c) ≡ offer_to (tree_of s.definition s.rule None old) c.args.letters.now c.args.number = λ i. record { letters = c.args.letters.now; index = no_index; definition = s.definition; rule = s.rule; number = c.args.number; oldest = c.oldest_seen.ensures i } in
-    reserve_lead s.definition s.rule s.pending old c.args.self.now c.args.letters.now c.args.number (offer_in c) c.self.view_is c.requires.settled same c.self.invariant.free_left c.requires.can c.requires.indexed
+    let same : bare (offer_in c) ≡ offer_to (tree_of s.definition s.rule None old) c.args.messages.now c.args.number = λ i. record { messages = c.args.messages.now; index = no_index; definition = s.definition; rule = s.rule; number = c.args.number; oldest = c.oldest_seen.ensures i } in
+    reserve_lead s.definition s.rule s.pending old c.args.self.now c.args.messages.now c.args.number (offer_in c) c.self.view_is c.requires.settled same c.self.invariant.free_left c.requires.can c.requires.indexed
 
 pub prune_values-gone-requires-clause-can : goal.prune_values-gone-requires-clause-can
 prune_values-gone-requires-clause-can c = (leading (goal.at.prune_values-gone-requires-clause-can c).After-oldest_seen).0

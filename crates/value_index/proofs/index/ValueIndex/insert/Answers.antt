@@ -9,8 +9,8 @@ returns-clause-keeps c = subst (λ (x : Index). Keeps x.entries c.insert_at_all.
 
 pub returns-clause-has : goal.returns-clause-has
 returns-clause-has c =
-    let has = subst (λ (fields : List IndexedField). HasAt fields c.insert_at_all.new.entries.keys c.args.letters.now c.args.number (length fields)) c.deref.ensures.value c.in_ok-insert_at_all.ensures.has in
-    has_all c.self.inside.fields.items c.insert_at_all.new.entries.keys c.args.letters.now c.args.number has
+    let has = subst (λ (fields : List IndexedField). HasAt fields c.insert_at_all.new.entries.keys c.args.messages.now c.args.number (length fields)) c.deref.ensures.value c.in_ok-insert_at_all.ensures.has in
+    has_all c.self.inside.fields.items c.insert_at_all.new.entries.keys c.args.messages.now c.args.number has
 
 pub returns-in_err-insert_at_all-clause-keeps : goal.returns-in_err-insert_at_all-clause-keeps
 returns-in_err-insert_at_all-clause-keeps c = subst (λ (x : Index). Keeps x.entries c.insert_at_all.new.entries.keys) c.self.view_is c.insert_at_all.ensures.keeps

@@ -12,5 +12,5 @@ returns-clause-adds_none c = subst (λ (x : Index). AddsNone x.entries c.remove_
 
 pub returns-clause-lacks : goal.returns-clause-lacks
 returns-clause-lacks c =
-    let lacks = subst (λ (fields : List IndexedField). LacksAt fields c.remove_at_all.new.entries.keys c.args.letters.now c.args.number (length fields)) c.deref.ensures.value c.remove_at_all.ensures.lacks in
-    lacks_all c.self.inside.fields.items c.remove_at_all.new.entries.keys c.args.letters.now c.args.number lacks
+    let lacks = subst (λ (fields : List IndexedField). LacksAt fields c.remove_at_all.new.entries.keys c.args.messages.now c.args.number (length fields)) c.deref.ensures.value c.remove_at_all.ensures.lacks in
+    lacks_all c.self.inside.fields.items c.remove_at_all.new.entries.keys c.args.messages.now c.args.number lacks

@@ -1,8 +1,0 @@
-use Rattle.run_fits.proofs.LawLemmas.{fair_run_fits, fair_runs_fit}
-use Rattle.run_fits.proofs.law.fits_law.Goals as goal
-
-pub returns-clause-each : goal.returns-clause-each
-returns-clause-each c = fair_run_fits
-
-pub returns-clause-whole : goal.returns-clause-whole
-returns-clause-whole c = fair_runs_fit
