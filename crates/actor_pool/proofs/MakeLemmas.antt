@@ -34,7 +34,7 @@ opening-tag plan limits feeds ring index n c count opening = record {
   actor_count = ap (λ (h : Held). length h.state.late.actors) opening.actor ∙ length-replicate (length plan.actors) 0;
 }
 
-prepared-tags : (plan : Plan) (limits : Limits) (feeds ring n : ℕ) (cells : List Cell) (posters : List ends.Poster) → n ≡ length posters → ArePrepared plan limits feeds ring cells posters → AreTagsOf plan limits n (map cell_tag cells)
+prepared-tags : (plan : Plan) (limits : Limits) (feeds ring n : ℕ) (cells : List Cell) (posters : List ends.FeedLinks) → n ≡ length posters → ArePrepared plan limits feeds ring cells posters → AreTagsOf plan limits n (map cell_tag cells)
 prepared-tags plan limits feeds ring n cells posters count prepared = record {
   count = length-map cells cell_tag ∙ prepared.count;
   each = λ actor tag at.
@@ -46,7 +46,7 @@ tags-of : (posters : List Poster) → map poster_tag (map feed_ends posters) ≡
 tags-of [] = refl
 tags-of (p ∷ posters) = ap (λ (l : List PosterTag). feed_tag p ∷ l) (tags-of posters)
 
-pub made-whole : (plan : Plan) (limits : Limits) (feeds ring : ℕ) (cells : List Cell) (made : List ends.Poster) (p : Pool) (posters : List Poster) (h : Helper)
+pub made-whole : (plan : Plan) (limits : Limits) (feeds ring : ℕ) (cells : List Cell) (made : List ends.FeedLinks) (p : Pool) (posters : List Poster) (h : Helper)
     → ArePrepared plan limits feeds ring cells made → AreWired (map cell_tag cells) (map poster_tag made) → IsHelperOf p h → IsFirstHelper p 0 h → feed_count p ≡ length made → All (IsPosterOf p) posters
     → map feed_ends posters ≡ made → (seat_of h).tags ≡ map cell_tag cells → IsWhole plan limits p posters h
 made-whole plan limits feeds ring cells made p posters h prepared wired own first count own_posters same tags =
@@ -62,12 +62,12 @@ made-whole plan limits feeds ring cells made p posters h prepared wired own firs
     }
 
 -- what holds of all ends holds of those of the posters
-pub All-ends : (P : ends.Poster → Type 0) (posters : List Poster) (made : List ends.Poster) → map feed_ends posters ≡ made → All P made → All (λ (poster : Poster). P (feed_ends poster)) posters
+pub All-ends : (P : ends.FeedLinks → Type 0) (posters : List Poster) (made : List ends.FeedLinks) → map feed_ends posters ≡ made → All P made → All (λ (poster : Poster). P (feed_ends poster)) posters
 All-ends P posters made same all k d lt =
     let long = length-map posters feed_ends in
     let whole = ap length same in
-    let at = ap (λ (l : List ends.Poster). get_or l k (feed_ends d)) (sym same) ∙ get_or-map feed_ends posters k d (feed_ends d) lt in
+    let at = ap (λ (l : List ends.FeedLinks). get_or l k (feed_ends d)) (sym same) ∙ get_or-map feed_ends posters k d (feed_ends d) lt in
     subst P at (all k (feed_ends d) (omega (arith, long, whole, lt)))
 
-pub prepared-links : (plan : Plan) (limits : Limits) (feeds ring : ℕ) (cells : List Cell) (made : List ends.Poster) → ArePrepared plan limits feeds ring cells made → All (λ (e : ends.Poster). link_count e ≡ length cells) made
+pub prepared-links : (plan : Plan) (limits : Limits) (feeds ring : ℕ) (cells : List Cell) (made : List ends.FeedLinks) → ArePrepared plan limits feeds ring cells made → All (λ (e : ends.FeedLinks). link_count e ≡ length cells) made
 prepared-links plan limits feeds ring cells made prepared k d lt = (prepared.each k d lt).count ∙ sym prepared.count

@@ -49,19 +49,19 @@ pub more-done : {X : Type 0} (all l ys done : List X) (x : X) → all ≡ done +
 more-done all l ys done x is last =
     is ∙ ap (λ m. done ++ reverse m) last ∙ ap (λ m. done ++ m) (reverse-append ys (x ∷ [])) ∙ sym (append_assoc done (x ∷ []) (reverse ys))
 
-pub ends-more : (made now : List ends.Poster) (l ys : List Poster) (x : Poster) (all : List ends.Poster) → made ++ map feed_ends (reverse l) ≡ all → l ≡ ys ++ x ∷ [] → now ≡ made ++ feed_ends x ∷ []
+pub ends-more : (made now : List ends.FeedLinks) (l ys : List Poster) (x : Poster) (all : List ends.FeedLinks) → made ++ map feed_ends (reverse l) ≡ all → l ≡ ys ++ x ∷ [] → now ≡ made ++ feed_ends x ∷ []
     → now ++ map feed_ends (reverse ys) ≡ all
 ends-more made now l ys x all is last more =
-    ap (λ (m : List ends.Poster). m ++ map feed_ends (reverse ys)) more ∙ append_assoc made (feed_ends x ∷ []) (map feed_ends (reverse ys))
-    ∙ ap (λ (m : List ends.Poster). made ++ m) (sym (ap (λ (m : List Poster). map feed_ends (reverse m)) last ∙ ap (map feed_ends) (reverse-append ys (x ∷ [])))) ∙ is
+    ap (λ (m : List ends.FeedLinks). m ++ map feed_ends (reverse ys)) more ∙ append_assoc made (feed_ends x ∷ []) (map feed_ends (reverse ys))
+    ∙ ap (λ (m : List ends.FeedLinks). made ++ m) (sym (ap (λ (m : List Poster). map feed_ends (reverse m)) last ∙ ap (map feed_ends) (reverse-append ys (x ∷ [])))) ∙ is
 
 -- posters with seats, over links to each actor
-pub posters-own : (p : Pool) (posters : List Poster) (made : List ends.Poster) (n : ℕ) → All (IsSeated p.turns) posters → map feed_ends posters ≡ made → All (λ (e : ends.Poster). link_count e ≡ n) made → n ≡ actor_count p → All (IsPosterOf p) posters
+pub posters-own : (p : Pool) (posters : List Poster) (made : List ends.FeedLinks) (n : ℕ) → All (IsSeated p.turns) posters → map feed_ends posters ≡ made → All (λ (e : ends.FeedLinks). link_count e ≡ n) made → n ≡ actor_count p → All (IsPosterOf p) posters
 posters-own p posters made n seated same links count k d lt =
     let long = length-map posters feed_ends in
     let whole = ap length same in
-    let at = ap (λ (l : List ends.Poster). get_or l k (feed_ends d)) (sym same) ∙ get_or-map feed_ends posters k d (feed_ends d) lt in
+    let at = ap (λ (l : List ends.FeedLinks). get_or l k (feed_ends d)) (sym same) ∙ get_or-map feed_ends posters k d (feed_ends d) lt in
     record {
       seated = seated k d lt;
-      links = subst (λ (e : ends.Poster). link_count e ≡ n) at (links k (feed_ends d) (omega (arith, long, whole, lt))) ∙ count;
+      links = subst (λ (e : ends.FeedLinks). link_count e ≡ n) at (links k (feed_ends d) (omega (arith, long, whole, lt))) ∙ count;
     }

@@ -16,7 +16,7 @@ use Rattle.actor_pool.specs.declared.poster.Poster.{Poster}
 use Rattle.actor_pool.specs.Helpers.{SeatView, actor_count}
 
 -- the ends of the links of a poster, what it sent over them, and their tag
-abbrev pub feed_ends : Poster → ends.Poster
+abbrev pub feed_ends : Poster → ends.FeedLinks
 feed_ends p = p.ends
 
 abbrev pub feed_links : Poster → List Outward

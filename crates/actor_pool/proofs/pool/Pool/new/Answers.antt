@@ -35,7 +35,7 @@ behind_locks-requires-clause-lawful c = subst AreLawful (sym c.into_cells.ensure
 
 pub behind_locks-requires-clause-links : goal.behind_locks-requires-clause-links
 behind_locks-requires-clause-links c =
-    subst (λ (l : List Cell). All (λ (e : ends.Poster). link_count e ≡ length l) c.in_ok-cells.ends.items) (sym c.into_cells.ensures) (prepared-links _ _ _ _ _ _ c.in_ok-cells.ensures.prepared)
+    subst (λ (l : List Cell). All (λ (e : ends.FeedLinks). link_count e ≡ length l) c.in_ok-cells.ends.items) (sym c.into_cells.ensures) (prepared-links _ _ _ _ _ _ c.in_ok-cells.ensures.prepared)
 
 pub returns-clause-whole : goal.returns-clause-whole
 returns-clause-whole c =
