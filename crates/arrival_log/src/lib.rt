@@ -5,6 +5,7 @@
 //! - `write_head` and `write_actor` append its first line and the section of an actor, and `write_heading`,
 //!   `write_entry` and `write_last_lines` the parts of a section, for a caller that wants the text piece by piece.
 //!   Without memory what stood before stays, and some of a piece may stay appended.
+//! - `write_message` and `write_value` append a message and a value, for texts that show them as a log does.
 //! - `needs_no_escape` says whether a text is its own quoted form but for the quotes.
 //!
 //! A contract sees the text as a function of the plan and the run, `log_text` (specs/LogText), and its pieces as
@@ -20,5 +21,6 @@ mod room;
 mod whole;
 
 pub use lines::{write_actor, write_entry, write_head, write_heading, write_last_lines};
+pub use parts::{write_message, write_value};
 pub use print::print_log;
 pub use room::needs_no_escape;

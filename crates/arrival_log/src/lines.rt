@@ -5,7 +5,8 @@ ghost use Rattle.std.specs.List.{flat_map};
 ghost use Rattle.arrival_log.specs.LogText.{actor_lines, arrival_line, effect_line, end_line, entry_lines, fire_line, firing_lines, head_line, heading_line, last_lines, late_line, stamped};
 
 use crate::parts::{
-    write_count, write_ending, write_labelled, write_left, write_message, write_source, write_value,
+    write_count, write_ending, write_labelled, write_left, write_message_end, write_source,
+    write_value,
 };
 use crate::room::ROOM;
 use crate::whole::{put_arrival, put_effect, put_entry, put_fire, put_front};
@@ -58,7 +59,7 @@ fn write_effect(
             text.push_all(b"post ")?;
             write_actor_name(text, plan, *target)?;
             text.push_all(b" ")?;
-            write_message(text, plan, message)
+            write_message_end(text, plan, message)
         }
         Effect::Reply { number, value } => {
             write_labelled(text, b"reply ", u64::from(*number))?;
@@ -128,7 +129,7 @@ fn write_arrival(
     }
     let start = put_front(room, ROOM, plan, version, entry, stamp);
     push_line(text, room, start)?;
-    write_message(text, plan, &entry.message)
+    write_message_end(text, plan, &entry.message)
 }
 
 // The lines of an arrival with this stamp in place of its own, and of what it fired, in one piece where the room takes

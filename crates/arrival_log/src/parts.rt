@@ -58,7 +58,8 @@ fn write_comma(text: &mut Bytes, place: usize) -> Result<(), NoMemory>
     }
 }
 
-pub(crate) fn write_value(text: &mut Bytes, value: ValueRef<'_>) -> Result<(), NoMemory>
+/// Appends a value as a log has it: an integer in decimal, or a text in quotes. Without memory nothing is appended.
+pub fn write_value(text: &mut Bytes, value: ValueRef<'_>) -> Result<(), NoMemory>
     ensures ok { OnOk result (text.new ≡ text.old ++ value_text (value_seen value.entry)) }
     ensures err { OnErr result (text.new ≡ text.old) }
 {
@@ -82,8 +83,19 @@ fn write_values(text: &mut Bytes, values: &Fields) -> Result<(), NoMemory>
     Ok(())
 }
 
-// `KIND(VALUES)` and LF.
-pub(crate) fn write_message(
+/// Appends a message as a log has it: `KIND(VALUES)`. Without memory a part of it may be appended.
+pub fn write_message(text: &mut Bytes, plan: &Plan, message: &Message) -> Result<(), NoMemory>
+    ensures ok { OnOk result (text.new ≡ text.old ++ message_text plan.now message.now) }
+    ensures err { OnErr result (take (length text.old) text.new ≡ text.old) }
+{
+    write_kind_name(text, plan, message.kind)?;
+    text.push_all(b"(")?;
+    write_values(text, &message.fields)?;
+    text.push_all(b")")
+}
+
+// The same, and LF.
+pub(crate) fn write_message_end(
     text: &mut Bytes,
     plan: &Plan,
     message: &Message,
@@ -91,10 +103,8 @@ pub(crate) fn write_message(
     ensures ok { OnOk result (text.new ≡ text.old ++ (message_text plan.now message.now ++ 10 ∷ [])) }
     ensures err { OnErr result (take (length text.old) text.new ≡ text.old) }
 {
-    write_kind_name(text, plan, message.kind)?;
-    text.push_all(b"(")?;
-    write_values(text, &message.fields)?;
-    text.push_all(b")\n")
+    write_message(text, plan, message)?;
+    text.push_all(b"\n")
 }
 
 fn write_numbers(text: &mut Bytes, numbers: &[u32]) -> Result<(), NoMemory>

@@ -6,8 +6,6 @@
 //! where memory is ample.
 #![tactic(auto)]
 
-mod line;
-mod message;
 mod text;
 
 pub use text::print_difference;

@@ -5,10 +5,10 @@ ghost use Rattle.std.specs.Option.{option_map};
 ghost use Rattle.log_reader.specs.Places.{whole_lines};
 ghost use Rattle.difference_text.specs.Text.{difference_text, post_at, post_in, stands_text, wanted_text};
 
-use crate::line::line_at;
-use crate::message::write_message;
+use arrival_log::write_message;
 use join_base::{Bytes, FeedList, Message, NoMemory};
 use log_audit::Difference;
+use log_reader::line_at;
 use script_types::{Plan, write_actor_name};
 use std::alloc::Global;
 

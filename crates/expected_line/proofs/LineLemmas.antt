@@ -20,25 +20,6 @@ use Rattle.log_replay.proofs.LineLemmas.{lines_are_text}
 use Rattle.log_replay.proofs.TextLemmas.{are_lines}
 use Rattle.expected_line.specs.Line.{IsExpectedLine, IsLineThere, IsTextOf, ended}
 
--- ---- cuts
-
--- behind a cut the lines are those behind the first
-pub line_behind : (rest text more : List ℕ) (left : ℕ) (line : Option (List ℕ)) → cut 10 rest ≡ Some (text, more) → 0 < left → slice_get (whole_lines rest) left ≡ line
-    → slice_get (whole_lines more) (left - 1) ≡ line
-line_behind rest text more zero line is some at = absurd (omega (arith, some))
-line_behind rest text more (suc left) line is some at =
-    let one : suc left - 1 ≡ left = omega arith in
-    ap (slice_get (whole_lines more)) one ∙ sym (ap (λ (ls : List (List ℕ)). slice_get ls (suc left)) (lines_cut rest text more is)) ∙ at
-
--- where nothing is cut there is no line
-pub no_line : (rest : List ℕ) (left : ℕ) (line : Option (List ℕ)) → cut 10 rest ≡ None → slice_get (whole_lines rest) left ≡ line → line ≡ None
-no_line rest left line is at = sym at ∙ ap (λ (ls : List (List ℕ)). slice_get ls left) (lines_none rest is)
-
--- the line in front of a cut is the first
-pub line_here : (rest text more : List ℕ) (left : ℕ) (line : Option (List ℕ)) → cut 10 rest ≡ Some (text, more) → left ≤ 0 → slice_get (whole_lines rest) left ≡ line → line ≡ Some text
-line_here rest text more zero line is none at = sym at ∙ ap (λ (ls : List (List ℕ)). slice_get ls 0) (lines_cut rest text more is)
-line_here rest text more (suc left) line is none at = absurd (omega (arith, none))
-
 -- ---- the lines of a run
 
 lines_are : (texts : List (List ℕ)) → AllByRecursion IsLine texts → (place : ℕ) → option_map ended (slice_get (whole_lines (joined texts)) place) ≡ slice_get texts place

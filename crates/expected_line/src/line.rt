@@ -1,39 +1,17 @@
 //! A line of the log of an expected run.
-ghost use Rattle.std.specs.Prelude.{◌≡◌, ◌<◌, IfOk, slice_get};
+ghost use Rattle.std.specs.Prelude.{◌≡◌, ◌<◌, IfOk};
 ghost use Rattle.script_types.specs.Typed.{IsTyped};
 ghost use Rattle.log_lines.specs.Gives.{GivesRest};
-ghost use Rattle.log_reader.specs.Places.{whole_lines};
 ghost use Rattle.expected_line.specs.Line.{IsExpectedLine, IsExpectedText};
 
 use arrival_log::print_log;
 use join_base::{Bytes, NoMemory, Steps};
-use log_lines::cut_line;
-use log_reader::{LogFault, read_log};
+use log_reader::{LogFault, line_at, read_log};
 use log_replay::replay;
 use script_types::Plan;
 use std::alloc::Global;
 use std::marker::Brand;
 use std::sync::ledger::{Blank, Ledger};
-
-// The line at a place of a text, from 0 on, without the LF that ends it.
-#[tactic(auto, using(crate::proofs::LineLemmas::line_behind, crate::proofs::LineLemmas::no_line, crate::proofs::LineLemmas::line_here))]
-fn line_at(text: &[u8], place: u64) -> Option<&[u8]>
-    ensures { GivesRest result (slice_get (whole_lines text.now) place) }
-{
-    let mut rest = text;
-    let mut left = place;
-    'lines: while left > 0 {
-        let Some((_, more)) = cut_line(rest) else {
-            return None;
-        };
-        rest = more;
-        left -= 1;
-    }
-    match cut_line(rest) {
-        Some((line, _)) => Some(line),
-        None => None,
-    }
-}
 
 fn counted_text<L: Ledger>(
     alloc: Global,

@@ -11,29 +11,7 @@ use crate::rows::{Rows, SeenRow, number_of, row_count};
 use fair_semantics::{ActorRun, Entry, Run};
 use join_base::{Message, Posts, Source};
 use log_posts::same_message;
-
-// How many lines an entry takes.
-fn entry_size(entry: &Entry) -> u64
-    requires { entry_size entry.now < 2 ^ 64 }
-    ensures { result ≡ entry_size entry.now }
-{
-    match entry.firing.get() {
-        Some(firing) => 2 + firing.effects.len() as u64,
-        None => 1,
-    }
-}
-
-// How many lines a section takes.
-fn section_size(own: &ActorRun) -> u64
-    requires { section_size own.now < 2 ^ 64 }
-    ensures { result ≡ section_size own.now }
-{
-    let mut size: u64 = 2;
-    for entry in own.entries.as_slice() {
-        size += entry_size(entry);
-    }
-    size + own.late.len() as u64
-}
+use log_replay::{entry_size, section_size};
 
 // Whether the source is this feed.
 fn is_feed(source: Source, feed: u32) -> bool

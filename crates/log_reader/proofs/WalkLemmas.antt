@@ -1,5 +1,5 @@
 -- A log line by line: what is read so far, and what its end or a refusal says.
-use Rattle.std.proofs.Common.{◌≡◌, ◌∙◌, ℕ, ◌≤◌, ◌==◌, Bool, true, List, [], ◌∷◌, ◌++◌, length, map, None, Some, refl, sym, ap, subst, append_assoc, arith}
+use Rattle.std.proofs.Common.{◌≡◌, ◌∙◌, ℕ, zero, suc, ◌-◌, ◌<◌, ◌≤◌, ◌==◌, Bool, true, List, [], ◌∷◌, ◌++◌, length, map, Option, None, Some, slice_get, refl, sym, ap, subst, append_assoc, arith}
 use Rattle.std.specs.Prelude.{if◌then◌else◌}
 use Rattle.std.specs.List.{AllByRecursion, onto_first, slice_split}
 use Rattle.std.proofs.lemmas.Bool.{le-ltb}
@@ -147,3 +147,22 @@ log_walks plan bytes run typed log =
       tail = ap tail_of split ∙ tail_first (head_body head) (texts plan head lines) first_lacks_end ∙ tail_texts plan typed head fits lines fit;
       lead = subst (λ (t : List (List ℕ)). Lead plan start t finish) (sym all) whole;
     }
+
+-- ---- the line at a place
+
+-- behind a cut the lines are those behind the first
+pub line_behind : (rest text more : List ℕ) (left : ℕ) (line : Option (List ℕ)) → cut 10 rest ≡ Some (text, more) → 0 < left → slice_get (whole_lines rest) left ≡ line
+    → slice_get (whole_lines more) (left - 1) ≡ line
+line_behind rest text more zero line is some at = absurd (omega (arith, some))
+line_behind rest text more (suc left) line is some at =
+    let one : suc left - 1 ≡ left = omega arith in
+    ap (slice_get (whole_lines more)) one ∙ sym (ap (λ (ls : List (List ℕ)). slice_get ls (suc left)) (lines_cut rest text more is)) ∙ at
+
+-- where nothing is cut there is no line
+pub no_line : (rest : List ℕ) (left : ℕ) (line : Option (List ℕ)) → cut 10 rest ≡ None → slice_get (whole_lines rest) left ≡ line → line ≡ None
+no_line rest left line is at = sym at ∙ ap (λ (ls : List (List ℕ)). slice_get ls left) (lines_none rest is)
+
+-- the line in front of a cut is the first
+pub line_here : (rest text more : List ℕ) (left : ℕ) (line : Option (List ℕ)) → cut 10 rest ≡ Some (text, more) → left ≤ 0 → slice_get (whole_lines rest) left ≡ line → line ≡ Some text
+line_here rest text more zero line is none at = sym at ∙ ap (λ (ls : List (List ℕ)). slice_get ls 0) (lines_cut rest text more is)
+line_here rest text more (suc left) line is none at = absurd (omega (arith, none))

@@ -2,6 +2,7 @@
 //!
 //! - `read_log` gives the run whose log the bytes are, or the line at fault where they are the log of no run of the
 //!   plan.
+//! - `line_at` gives the line at a place of a text.
 //! - `one_run` says that two runs with one log are equal, and `one_fault` that bytes have one line at fault.
 //!
 //! A contract says by `Answers` (specs/Log) what an answer means: a run that fits the plan and has the bytes as its log
@@ -11,7 +12,9 @@
 
 mod draft;
 mod fault;
+mod line;
 mod read;
 
 pub use fault::LogFault;
+pub use line::line_at;
 pub use read::{one_fault, one_run, read_log};

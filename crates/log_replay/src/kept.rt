@@ -9,8 +9,8 @@ use crate::shared::{Shared, posts_shown};
 use fair_semantics::{ActorRun, Ending, Entry, Run};
 use log_posts::{Link, has_message, is_from};
 
-// How many lines an entry takes.
-fn entry_size(entry: &Entry) -> u64
+/// How many lines of a log an entry takes: one, and for a firing one more and one for each of its effects.
+pub fn entry_size(entry: &Entry) -> u64
     requires { entry_size entry.now < 2 ^ 64 }
     ensures { result ≡ entry_size entry.now }
 {
@@ -20,8 +20,8 @@ fn entry_size(entry: &Entry) -> u64
     }
 }
 
-// How many lines a section takes.
-fn section_size(own: &ActorRun) -> u64
+/// How many lines of a log the section of an actor takes: its heading, its entries, its late counts and its end.
+pub fn section_size(own: &ActorRun) -> u64
     requires { section_size own.now < 2 ^ 64 }
     ensures { result ≡ section_size own.now }
 {

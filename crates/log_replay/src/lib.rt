@@ -3,6 +3,7 @@
 //! - `check_log` checks bytes as the log of a run of the plan. It answers the number of arrivals, or that the bytes are
 //!   no log, with the line at fault, or the first line in fault of a log.
 //! - `replay` gives the expected run of a run that was read: what its log should have said.
+//! - `entry_size` and `section_size` are how many lines an entry and a section take.
 //! - `lines_law` and `text_law` are laws of lines and log text, `expected_law` and `accepted_law` of runs that are
 //!   linked, `linked_law` and `converse_law` of runs that are accepted, and `fits_law` says that an expected run fits
 //!   the plan.
@@ -31,6 +32,7 @@ mod shared;
 
 pub use check::check_log;
 pub use expected::replay;
+pub use kept::{entry_size, section_size};
 pub use law::{
     accepted_law, converse_law, expected_law, fits_law, lines_law, linked_law, text_law,
 };

@@ -1,64 +1,23 @@
 //! Values, messages, and conjuncts that are false. Without memory some of a text may stay appended, here and in the
 //! modules above.
-ghost use Rattle.std.specs.Prelude.{◌≡◌, ◌++◌, [], map, OnOk, if◌then◌else◌, length, option_map};
+ghost use Rattle.std.specs.Prelude.{◌≡◌, ◌++◌, [], OnOk, if◌then◌else◌, length, option_map};
 ghost use Rattle.join_base.specs.Fields.{value_seen};
 ghost use Rattle.guard_eval.specs.Meaning.{value_at};
 ghost use Rattle.guard_eval.specs.Shape.{conjunct_condition};
-ghost use Rattle.arrival_log.specs.Commas.{comma_before};
-ghost use Rattle.arrival_log.specs.LogText.{comma_joined, message_text, value_text};
 ghost use Rattle.waiting_reasons.specs.Guards.{has_place};
 ghost use Rattle.waiting_reasons.specs.Text.{false_text, numbered_text, value_note, value_notes};
 
 use crate::messages::find_message;
 use crate::places::{has_place, places_of};
 use crate::slots::number_at;
+use arrival_log::{write_message, write_value};
 use guard_eval::{Conjunct, Place};
-use join_base::{Bytes, Fields, Message, NoMemory, Slots, ValueRef, write_number, write_quoted};
+use join_base::{Bytes, Message, NoMemory, Slots, ValueRef, write_number};
 use plan_text::{Row, write_conjunct, write_variable};
-use script_types::{Plan, write_kind_name};
+use script_types::Plan;
 use std::alloc::Global;
 
 // ---- messages
-
-fn write_value(text: &mut Bytes, value: ValueRef<'_>) -> Result<(), NoMemory>
-    ensures { OnOk result (text.new ≡ text.old ++ value_text (value_seen value.entry)) }
-{
-    match value {
-        ValueRef::Int(number) => write_number(text, i128::from(number)),
-        ValueRef::Words(words) => write_quoted(text, words.bytes()),
-    }
-}
-
-// The comma before the item at a place, which the first lacks.
-fn write_comma(text: &mut Bytes, place: usize) -> Result<(), NoMemory>
-    ensures { OnOk result (text.new ≡ text.old ++ comma_before place) }
-{
-    if place > 0 {
-        text.push_all(b",")
-    } else {
-        Ok(())
-    }
-}
-
-fn write_values(text: &mut Bytes, values: &Fields) -> Result<(), NoMemory>
-    ensures { OnOk result (text.new ≡ text.old ++ comma_joined (map value_text values.now)) }
-{
-    for place in 0..values.len() {
-        write_comma(text, place)?;
-        write_value(text, values.at(place))?;
-    }
-    Ok(())
-}
-
-// `KIND(VALUES)`.
-fn write_message(text: &mut Bytes, plan: &Plan, message: &Message) -> Result<(), NoMemory>
-    ensures { OnOk result (text.new ≡ text.old ++ message_text plan.now message.now) }
-{
-    write_kind_name(text, plan, message.kind)?;
-    text.push_all(b"(")?;
-    write_values(text, &message.fields)?;
-    text.push_all(b")")
-}
 
 /// `N KIND(VALUES)`.
 pub fn write_numbered(

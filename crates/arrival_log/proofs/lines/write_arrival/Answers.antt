@@ -14,7 +14,7 @@ pub returns-clause-ok : goal.returns-clause-ok
 returns-clause-ok c =
     let room = c.put_arrival.new.room in
     let nothing : drop 512 room ≡ [] = drop_all 512 room (omega arith) in
-    on_ok_weaker c.write_message.result
-    (arrival_parts c.args.plan.now c.args.version (stamped c.args.entry.now c.args.stamp) c.args.text.now c.push_line-2.new.text c.write_message.new.text (drop 512 room) nothing
+    on_ok_weaker c.write_message_end.result
+    (arrival_parts c.args.plan.now c.args.version (stamped c.args.entry.now c.args.stamp) c.args.text.now c.push_line-2.new.text c.write_message_end.new.text (drop 512 room) nothing
     (c.in_ok-push_line.ensures.ok ∙ ap (λ (piece : List ℕ). c.args.text.now ++ piece) c.put_front-start.ensures.written))
-    c.write_message.ensures.ok
+    c.write_message_end.ensures.ok

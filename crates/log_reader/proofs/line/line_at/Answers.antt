@@ -1,7 +1,7 @@
 use Rattle.std.proofs.Common.{slice_get, arith}
 use Rattle.log_reader.specs.Places.{whole_lines}
-use Rattle.expected_line.proofs.LineLemmas.{line_behind, line_here}
-use Rattle.difference_text.proofs.line.line_at.Goals as goal
+use Rattle.log_reader.proofs.WalkLemmas.{line_behind, line_here}
+use Rattle.log_reader.proofs.line.line_at.Goals as goal
 
 pub lines-preserved : goal.lines-preserved
 lines-preserved c =

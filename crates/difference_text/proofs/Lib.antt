@@ -1,2 +1,0 @@
--- a line of a text, cut by cut
-pub mod LineLemmas
