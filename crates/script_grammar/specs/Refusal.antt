@@ -1,7 +1,7 @@
 -- Where a list of tokens is refused.
 use Rattle.std.specs.Prelude.{◌≡◌, [], ◌∷◌, ◌++◌, Result, Ok, Err}
 use Rattle.script_grammar.specs.declared.stop.Stop.{Stop}
-use Rattle.script_grammar.specs.declared.stop.Stop.TheVariants.{NoMemory, At}
+use Rattle.script_grammar.specs.declared.stop.Stop.TheVariants.{NoMemory, Refused}
 use Rattle.script_tokens.specs.declared.token.Token.{Token}
 use Rattle.script_grammar.specs.declared.tree.Tree.{Tree}
 use Rattle.script_grammar.specs.Phrases.{IsViable}
@@ -28,11 +28,11 @@ OneRefusal = (tokens rest other : Tokens) → Refuses tokens rest → Refuses to
 abbrev pub RefusalStays : Type 0
 RefusalStays = (tokens rest more : Tokens) (t : Token) → Refuses tokens (t ∷ rest) → Refuses (tokens ++ more) (t ∷ rest ++ more)
 
--- the tree of the tokens, or where they are refused, unless there was no memory
-abbrev pub IsStop : Tokens → Stop → Type 0
-IsStop tokens NoMemory = Unit {0}
-IsStop tokens (At rest) = Refuses tokens rest.now
+-- the tree of the tokens, or where they are refused: this rest is left then, unless there was no memory
+abbrev pub IsStop : Tokens → Tokens → Stop → Type 0
+IsStop tokens rest NoMemory = Unit {0}
+IsStop tokens rest Refused = Refuses tokens rest
 
-abbrev pub Answers : Tokens → Result Tree Stop → Type 0
-Answers tokens (Ok tree) = IsScript tree tokens
-Answers tokens (Err stop) = IsStop tokens stop
+abbrev pub Answers : Tokens → Tokens → Result Tree Stop → Type 0
+Answers tokens rest (Ok tree) = IsScript tree tokens
+Answers tokens rest (Err stop) = IsStop tokens rest stop

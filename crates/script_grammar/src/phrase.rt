@@ -1,5 +1,5 @@
 //! What is read from tokens, and lists of it.
-ghost use Rattle.std.specs.Prelude.{◌≡◌, ◌∷◌, [], Bool, IfOk};
+ghost use Rattle.std.specs.Prelude.{◌≡◌, ◌<◌, ◌≤◌, ◌∷◌, [], Bool, length, IfOk};
 ghost use Rattle.script_tokens.specs.declared.token.Kind.{Kind};
 ghost use Rattle.script_grammar.specs.Reading.{head, repeated};
 ghost use Rattle.script_grammar.specs.ScriptReading.{Reads, next_is, after_mark, further, separated_read, listed_read, with_front};
@@ -8,16 +8,18 @@ ghost use Rattle.script_grammar.specs.Gives.{Gives};
 use crate::part::{is_next, mark_at};
 use crate::stop::Stop;
 use join_base::{Items, NoMemory};
-use script_tokens::{Mark, Token};
+use script_tokens::{Mark, Tokens};
 use std::alloc::Global;
 
 /// What is read from tokens.
 pub trait Phrase: Drop {
     ghost reader: { Reads Self };
 
-    /// The phrase in front of the tokens, and those behind it.
-    fn read<'a>(alloc: Global, tokens: &'a [Token]) -> Result<(Self, &'a [Token]), Stop<'a>>
-        ensures { Gives (λ x. x) result (reader tokens.now) };
+    /// The phrase in front of the tokens, which go on behind it. `Refused` leaves the refused token in front. A phrase
+    /// takes a token at least.
+    fn read(alloc: Global, tokens: &mut Tokens<'_>) -> Result<Self, Stop>
+        ensures gives { Gives (λ x. x) result tokens.new (reader tokens.old) }
+        ensures shorter { IfOk result (λ _. length tokens.new < length tokens.old) };
 }
 
 /// A phrase of which there are as many as begin.
@@ -25,7 +27,7 @@ pub trait Repeated: Phrase {
     ghost begins: { Kind → Bool };
 
     /// Whether the next token begins one more.
-    fn is_next(tokens: &[Token]) -> bool
+    fn is_next(tokens: &Tokens<'_>) -> bool
         ensures { result ≡ next_is begins (head tokens.now) };
 }
 
@@ -49,129 +51,126 @@ fn fitted<X>(list: Items<X>) -> Items<X>
 
 /// As many phrases as there are.
 #[tactic(auto, using(crate::proofs::LoopLemmas::with_front_nil))]
-pub fn repeated_at<'a, X: Repeated>(
-    alloc: Global,
-    tokens: &'a [Token],
-) -> Result<(Items<X>, &'a [Token]), Stop<'a>>
-    ensures { Gives (λ x. x) result (repeated (next_is X.begins) X.reader tokens.now) }
+pub fn repeated_at<X: Repeated>(alloc: Global, tokens: &mut Tokens<'_>) -> Result<Items<X>, Stop>
+    ensures gives { Gives (λ x. x) result tokens.new (repeated (next_is X.begins) X.reader tokens.old) }
+    ensures no_longer { IfOk result (λ _. length tokens.new ≤ length tokens.old) }
 {
     behind_at(alloc, Items::new(alloc), tokens)
 }
 
 /// The same behind a first one.
-pub fn behind_first_at<'a, X: Repeated>(
+pub fn behind_first_at<X: Repeated>(
     alloc: Global,
     first: X,
-    tokens: &'a [Token],
-) -> Result<(Items<X>, &'a [Token]), Stop<'a>>
-    ensures { Gives (λ x. x) result (with_front (first ∷ []) (repeated (next_is X.begins) X.reader tokens.now)) }
+    tokens: &mut Tokens<'_>,
+) -> Result<Items<X>, Stop>
+    ensures gives { Gives (λ x. x) result tokens.new
+        (with_front (first ∷ []) (repeated (next_is X.begins) X.reader tokens.old)) }
+    ensures no_longer { IfOk result (λ _. length tokens.new ≤ length tokens.old) }
 {
     let front = only(alloc, first)?;
     behind_at(alloc, front, tokens)
 }
 
 // The same behind some.
-fn behind_at<'a, X: Repeated>(
+fn behind_at<X: Repeated>(
     alloc: Global,
     front: Items<X>,
-    tokens: &'a [Token],
-) -> Result<(Items<X>, &'a [Token]), Stop<'a>>
-    ensures { Gives (λ x. x) result (with_front front (repeated (next_is X.begins) X.reader tokens.now)) }
+    tokens: &mut Tokens<'_>,
+) -> Result<Items<X>, Stop>
+    ensures gives { Gives (λ x. x) result tokens.new
+        (with_front front (repeated (next_is X.begins) X.reader tokens.old)) }
+    ensures no_longer { IfOk result (λ _. length tokens.new ≤ length tokens.old) }
 {
-    let (list, rest) = more_at(alloc, front, tokens)?;
-    Ok((fitted(list), rest))
+    let list = more_at(alloc, front, tokens)?;
+    Ok(fitted(list))
 }
 
-// Each takes a token, so that there are no more of them than tokens.
-fn more_at<'a, X: Repeated>(
+fn more_at<X: Repeated>(
     alloc: Global,
     front: Items<X>,
-    tokens: &'a [Token],
-) -> Result<(Items<X>, &'a [Token]), Stop<'a>>
-    ensures { Gives (λ x. x) result (with_front front (repeated (next_is X.begins) X.reader tokens.now)) }
+    tokens: &mut Tokens<'_>,
+) -> Result<Items<X>, Stop>
+    ensures gives { Gives (λ x. x) result tokens.new
+        (with_front front (repeated (next_is X.begins) X.reader tokens.old)) }
+    ensures no_longer { IfOk result (λ _. length tokens.new ≤ length tokens.old) }
 {
     let mut list = front;
-    let mut rest = tokens;
-    'list: for _ in 0..tokens.len() {
-        if !X::is_next(rest) {
-            return Ok((list, rest));
-        }
-        let (item, after) = X::read(alloc, rest)?;
+    'list: while X::is_next(tokens) {
+        let item = X::read(alloc, tokens)?;
         list.push(item)?;
-        rest = after;
     }
-    Ok((list, rest))
+    Ok(list)
 }
 
 /// One phrase or more, with this mark between two of them.
 #[tactic(auto, using(crate::proofs::LoopLemmas::with_first_is))]
-pub fn separated_at<'a, X: Phrase>(
+pub fn separated_at<X: Phrase>(
     alloc: Global,
     mark: Mark,
-    tokens: &'a [Token],
-) -> Result<(Items<X>, &'a [Token]), Stop<'a>>
-    ensures { Gives (λ x. x) result (separated_read mark X.reader tokens.now) }
+    tokens: &mut Tokens<'_>,
+) -> Result<Items<X>, Stop>
+    ensures gives { Gives (λ x. x) result tokens.new (separated_read mark X.reader tokens.old) }
+    ensures shorter { IfOk result (λ _. length tokens.new < length tokens.old) }
 {
-    let (first, rest) = X::read(alloc, tokens)?;
-    further_at(alloc, mark, first, rest)
+    let first = X::read(alloc, tokens)?;
+    let list = further_at(alloc, mark, first, tokens)?;
+    Ok(list)
 }
 
 /// The same, or nothing in front of a closing parenthesis.
-pub fn listed_at<'a, X: Phrase>(
+pub fn listed_at<X: Phrase>(
     alloc: Global,
     mark: Mark,
-    tokens: &'a [Token],
-) -> Result<(Items<X>, &'a [Token]), Stop<'a>>
-    ensures { Gives (λ x. x) result (listed_read mark X.reader tokens.now) }
+    tokens: &mut Tokens<'_>,
+) -> Result<Items<X>, Stop>
+    ensures gives { Gives (λ x. x) result tokens.new (listed_read mark X.reader tokens.old) }
+    ensures no_longer { IfOk result (λ _. length tokens.new ≤ length tokens.old) }
 {
     if is_next(tokens, Mark::Close) {
-        return Ok((Items::new(alloc), tokens));
+        return Ok(Items::new(alloc));
     }
-    separated_at(alloc, mark, tokens)
+    let list = separated_at(alloc, mark, tokens)?;
+    Ok(list)
 }
 
 // As many as there are with this mark in front.
-fn further_at<'a, X: Phrase>(
+fn further_at<X: Phrase>(
     alloc: Global,
     mark: Mark,
     first: X,
-    tokens: &'a [Token],
-) -> Result<(Items<X>, &'a [Token]), Stop<'a>>
-    ensures { Gives (λ x. x) result (with_front (first ∷ []) (further mark X.reader tokens.now)) }
+    tokens: &mut Tokens<'_>,
+) -> Result<Items<X>, Stop>
+    ensures gives { Gives (λ x. x) result tokens.new (with_front (first ∷ []) (further mark X.reader tokens.old)) }
+    ensures no_longer { IfOk result (λ _. length tokens.new ≤ length tokens.old) }
 {
     let front = only(alloc, first)?;
-    let (list, rest) = more_behind_mark_at(alloc, mark, front, tokens)?;
-    Ok((fitted(list), rest))
+    let list = more_behind_mark_at(alloc, mark, front, tokens)?;
+    Ok(fitted(list))
 }
 
-fn more_behind_mark_at<'a, X: Phrase>(
+fn more_behind_mark_at<X: Phrase>(
     alloc: Global,
     mark: Mark,
     front: Items<X>,
-    tokens: &'a [Token],
-) -> Result<(Items<X>, &'a [Token]), Stop<'a>>
-    ensures { Gives (λ x. x) result (with_front front (further mark X.reader tokens.now)) }
+    tokens: &mut Tokens<'_>,
+) -> Result<Items<X>, Stop>
+    ensures gives { Gives (λ x. x) result tokens.new (with_front front (further mark X.reader tokens.old)) }
+    ensures no_longer { IfOk result (λ _. length tokens.new ≤ length tokens.old) }
 {
     let mut list = front;
-    let mut rest = tokens;
-    'list: for _ in 0..tokens.len() {
-        if !is_next(rest, mark) {
-            return Ok((list, rest));
-        }
-        let (item, after) = behind_mark_at(alloc, mark, rest)?;
+    'list: while is_next(tokens, mark) {
+        let item = behind_mark_at(alloc, mark, tokens)?;
         list.push(item)?;
-        rest = after;
     }
-    Ok((list, rest))
+    Ok(list)
 }
 
-fn behind_mark_at<'a, X: Phrase>(
-    alloc: Global,
-    mark: Mark,
-    tokens: &'a [Token],
-) -> Result<(X, &'a [Token]), Stop<'a>>
-    ensures { Gives (λ x. x) result (after_mark mark X.reader tokens.now) }
+fn behind_mark_at<X: Phrase>(alloc: Global, mark: Mark, tokens: &mut Tokens<'_>) -> Result<X, Stop>
+    ensures gives { Gives (λ x. x) result tokens.new (after_mark mark X.reader tokens.old) }
+    ensures shorter { IfOk result (λ _. length tokens.new < length tokens.old) }
 {
-    let (_, rest) = mark_at(tokens, mark)?;
-    X::read(alloc, rest)
+    mark_at(alloc, tokens, mark)?;
+    let item = X::read(alloc, tokens)?;
+    Ok(item)
 }

@@ -1,8 +1,7 @@
 //! A whole script.
-ghost use Rattle.std.specs.Prelude.{◌≤◌, [], length, drop, OnOk, IfErr};
 ghost use Rattle.script_grammar.specs.ScriptReading.{declaration_read};
 ghost use Rattle.script_grammar.specs.Refusal.{Answers, OneTree, OneRefusal, RefusalStays};
-ghost use Rattle.script_grammar.specs.Beginning.{Begins, IsBeginning, StopsEarly, Declares, ReadsOn};
+ghost use Rattle.script_grammar.specs.Beginning.{Declares};
 ghost use Rattle.script_grammar.specs.Filled.{ScriptsAreFilled};
 
 use crate::actor::actor_at;
@@ -11,103 +10,42 @@ use crate::part::{is_next, is_next_declaration};
 use crate::stop::Stop;
 use crate::tree::Tree;
 use join_base::Items;
-use script_tokens::{Mark, Token};
+use script_tokens::{Mark, Tokens};
 use std::alloc::Global;
 
 // Adds the declaration in front of the tokens to the tree.
-fn declaration_at<'a>(
-    alloc: Global,
-    tree: &mut Tree,
-    tokens: &'a [Token],
-) -> Result<&'a [Token], Stop<'a>>
-    ensures { Declares tree.old tree.new (declaration_read tokens.now) result }
+fn declaration_at(alloc: Global, tree: &mut Tree, tokens: &mut Tokens<'_>) -> Result<(), Stop>
+    ensures { Declares tree.old tree.new (declaration_read tokens.old) tokens.new result }
 {
     if is_next(tokens, Mark::Message) {
-        let (message, rest) = message_at(alloc, tokens)?;
+        let message = message_at(alloc, tokens)?;
         tree.messages.push(message)?;
-        return Ok(rest);
+        return Ok(());
     }
-    let (actor, rest) = actor_at(alloc, tokens)?;
+    let actor = actor_at(alloc, tokens)?;
     tree.actors.push(actor)?;
-    Ok(rest)
+    Ok(())
 }
 
-// Reads on behind the first tokens, up to the end or to a declaration that the end cuts short.
-fn declarations_at<'a>(
-    alloc: Global,
-    tree: &mut Tree,
-    tokens: &'a [Token],
-    count: usize,
-) -> Result<&'a [Token], Stop<'a>>
-    requires within { count ≤ length tokens.now }
-    requires begins { Begins tree.old tokens.now (drop count tokens.now) }
-    ensures { ReadsOn tokens.now tree.new result }
+/// The tree of all tokens. `Refused` where they are no script: in front of them is the first one then at which no
+/// continuation is a script, or none is left where they end too early.
+pub fn tree_at(alloc: Global, tokens: &mut Tokens<'_>) -> Result<Tree, Stop>
+    ensures { Answers tokens.old tokens.new result }
 {
-    let mut rest = tokens.split_at(count).1;
-    'list: while is_next_declaration(rest) {
-        match declaration_at(alloc, tree, rest) {
-            Ok(after) => rest = after,
-            Err(Stop::NoMemory) => return Err(Stop::NoMemory),
-            Err(Stop::At(refused)) => {
-                if refused.is_empty() {
-                    return Ok(rest);
-                }
-                return Err(Stop::At(refused));
-            }
-        }
+    let mut tree = Tree {
+        messages: Items::new(alloc),
+        actors: Items::new(alloc),
+    };
+    'list: while is_next_declaration(tokens) {
+        declaration_at(alloc, &mut tree, tokens)?;
     }
-    if rest.is_empty() {
-        Ok(rest)
-    } else {
-        Err(Stop::At(rest))
+    if !tokens.is_empty() {
+        return Err(Stop::Refused);
     }
-}
-
-/// The declarations at the beginning of a script, whose tokens may still come: `count` is how many of them were read.
-#[derive(Drop)]
-pub struct Beginning {
-    pub tree: Tree,
-    pub count: usize,
-}
-
-impl Beginning {
-    /// Nothing was read.
-    pub fn new(alloc: Global) -> Beginning
-        ensures none { IsBeginning result [] }
-    {
-        Beginning {
-            tree: Tree {
-                messages: Items::new(alloc),
-                actors: Items::new(alloc),
-            },
-            count: 0,
-        }
+    if tree.actors.len() == 0 {
+        return Err(Stop::Refused);
     }
-
-    /// Reads on in the tokens that are there, up to a declaration that their end cuts short. Otherwise the tokens from
-    /// the refused one on, which is there, or want of memory; then the beginning is of no more use.
-    pub fn read_on<'a>(&mut self, alloc: Global, tokens: &'a [Token]) -> Result<(), Stop<'a>>
-        requires begins { IsBeginning self.old tokens.now }
-        ensures begins { OnOk result (IsBeginning self.new tokens.now) }
-        ensures stops { IfErr result (StopsEarly tokens.now) }
-    {
-        let rest = declarations_at(alloc, &mut self.tree, tokens, self.count)?;
-        self.count = tokens.len() - rest.len();
-        Ok(())
-    }
-
-    /// The tree of all tokens of a script, or the tokens from the first one on at which no continuation is a script.
-    pub fn finish<'a>(self, alloc: Global, tokens: &'a [Token]) -> Result<Tree, Stop<'a>>
-        requires begins { IsBeginning self tokens.now }
-        ensures { Answers tokens.now result }
-    {
-        let Beginning { mut tree, count } = self;
-        let rest = declarations_at(alloc, &mut tree, tokens, count)?;
-        if !rest.is_empty() || tree.actors.len() == 0 {
-            return Err(Stop::At(tokens.split_at(tokens.len()).1));
-        }
-        Ok(tree)
-    }
+    Ok(tree)
 }
 
 /// Tokens are one script at the most, and are refused at one place at the most. What follows a refused token is of no

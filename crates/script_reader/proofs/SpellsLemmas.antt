@@ -1,18 +1,15 @@
 -- Bytes spell one tree or have one fault.
-use Rattle.std.proofs.Common.{Bool, true, false, ◌≡◌, ℕ, ◌<◌, ◌≤◌, ◌⊎◌, inl, inr, ⊎_elim, ◌++◌, List, [], ◌∷◌, length, take, drop, refl, sym, ap, subst, ◌∙◌, append_assoc, length-append, arith}
-use Rattle.std.proofs.lemmas.List.{take-append-drop, drop-append-le}
+use Rattle.std.proofs.Common.{Bool, true, false, ◌≡◌, ℕ, ◌<◌, ◌⊎◌, inl, inr, ⊎_elim, List, [], ◌∷◌, length, refl, sym, ap, subst, ◌∙◌, arith}
 use Rattle.std.specs.Prelude.{if◌then◌else◌, Result, Ok, Err, IfOk}
 use Rattle.std.specs.Str.{IsUtf8, IsValidUpTo}
 use Rattle.script_tokens.specs.declared.token.Token.{Token}
-use Rattle.script_tokens.specs.Tokens.{AreTokens, AreFront}
+use Rattle.script_tokens.specs.Tokens.{AreTokens}
 use Rattle.script_tokens.specs.Tokens as tokens_of
 use Rattle.script_grammar.specs.declared.tree.Tree.{Tree}
 use Rattle.script_grammar.specs.Grammar.{IsScript}
 use Rattle.script_grammar.specs.Filled.{IsFilled, ScriptsAreFilled}
 use Rattle.script_grammar.specs.Refusal.{Refuses}
 use Rattle.script_grammar.specs.Refusal as refusal
-use Rattle.script_grammar.specs.Beginning.{IsBeginning}
-use Rattle.script_grammar.specs.declared.script.Beginning.{Beginning}
 use Rattle.script_grammar.specs.declared.fault.ScriptCause.{ScriptCause}
 use Rattle.script_grammar.specs.declared.fault.ScriptCause.TheVariants.{NotText, BadToken, BadSyntax, TooMany, TwiceDeclared, UnknownMessage, UnknownActor, UnknownName, WrongCount, WrongType, StopNotLast, BadWindow, BadReply}
 use Rattle.script_grammar.specs.declared.fault.ScriptFault.{ScriptFault}
@@ -79,36 +76,8 @@ refused_is bytes tokens rest text cut refused =
     by_rest bytes (place_of (length bytes) rest) rest
     (record { text = text; tokens = tokens; rest = rest; cut = cut; refused = refused; place_is = refl; cause_is = refl })
 
--- what the front of the tokens refuses before its end is the fault of the whole text
-pub front_refused : tokens_of.SomeList → refusal.RefusalStays → (bytes left : List ℕ) (tokens rest : List Token) → IsUtf8 bytes → AreFront bytes tokens left
-    → length left ≤ length bytes → Refuses tokens rest → 0 < length rest → FaultIs bytes (Bad (place_of (length bytes) rest) (cause_of rest))
-front_refused some stays bytes left tokens [] text front within refused more = absurd (omega arith)
-front_refused some stays bytes left tokens (t ∷ ts) text front within refused more =
-    let others = some (length bytes) left within in
-    refused_is bytes (tokens ++ others.0) (t ∷ ts ++ others.0) text (front others.0 others.1) (stays tokens ts others.0 t refused)
-
 -- ---- a tree that was read has no gaps
 
 pub reads_filled : ScriptsAreFilled → (bytes : List ℕ) (result : Result Tree ScriptFault) → Reads bytes result → IfOk result IsFilled
 reads_filled filled bytes (Ok tree) h = filled tree h.tokens h.script
 reads_filled filled bytes (Err fault) h = tt
-
--- ---- a beginning of some tokens is one of them and more
-
-pub begins_longer : (beginning : Beginning) (tokens more : List Token) → take (length tokens) more ≡ tokens → IsBeginning beginning tokens → IsBeginning beginning more
-begins_longer beginning tokens more kept h =
-    let b = h.begins in
-    let added : List Token = drop (length tokens) more in
-    let whole : tokens ++ added ≡ more = ap (λ (l : List Token). l ++ added) (sym kept) ∙ take-append-drop (length tokens) more in
-    subst (λ (l : List Token). IsBeginning beginning l) whole
-    (record {
-      within = omega (arith, h.within, length-append tokens added);
-      begins = record {
-        declarations = b.declarations;
-        read = b.read;
-        parts = ap (λ (l : List Token). l ++ added) b.parts ∙ append_assoc b.read (drop beginning.count tokens) added
-            ∙ ap (λ (l : List Token). b.read ++ l) (sym (drop-append-le beginning.count tokens added h.within));
-        spelt = b.spelt;
-        tree_is = b.tree_is;
-      };
-    })

@@ -2,6 +2,8 @@
 -- - how long the token in front is: WordLemmas
 -- - that a name is a text: NameLemmas
 -- - that a text has one list of tokens: ListLemmas
+-- - that the list of a text's tokens is that one: CursorLemmas
+pub mod CursorLemmas
 pub mod ListLemmas
 pub mod NameLemmas
 pub mod TokenLemmas

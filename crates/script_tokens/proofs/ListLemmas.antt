@@ -10,7 +10,7 @@ use Rattle.script_tokens.specs.declared.token.Kind.TheVariants as kind
 use Rattle.script_tokens.specs.declared.token.Token.{Token}
 use Rattle.script_tokens.specs.Tokens.{skip, is_bad, is_quote, plain_at, IsToken, IsPlainToken, IsQuotedToken, AreTokens, OneList, SomeList}
 
-token_eq : (t u : Token) → t.place ≡ u.place → t.kind ≡ u.kind → t ≡ u
+pub token_eq : (t u : Token) → t.place ≡ u.place → t.kind ≡ u.kind → t ≡ u
 token_eq t u p k =
     let one : Path Token t (record { place = u.place; kind = t.kind }) = ap (λ (n : ℕ). record { place = n; kind = t.kind }) p in
     one ∙ ap (λ (n : Kind). record { place = u.place; kind = n }) k
@@ -73,7 +73,7 @@ IsSomeToken text k rest = IsToken text k rest × (is_bad k ≡ false → length 
 SomeToken : List ℕ → Type 0
 SomeToken text = (k : Kind) × ((rest : List ℕ) × IsSomeToken text k rest)
 
-quoted_shorter : (text words rest : List ℕ) → Unquotes 120 text words rest → length rest < length text
+pub quoted_shorter : (text words rest : List ℕ) → Unquotes 120 text words rest → length rest < length text
 quoted_shorter text words rest h = omega (arith, simp length-append at (ap length h.split))
 
 some_quoted : QuotedIsDecided → (text : List ℕ) → is_quote (get_or text 0 0) ≡ true → SomeToken text

@@ -42,7 +42,7 @@ fn cut_first(text: &[u8]) -> Option<(u8, &[u8])>
 
 // The text behind blanks and comments.
 #[tactic(auto, unfolding(crate::specs::Tokens::skip_from))]
-fn skip(text: &[u8]) -> &[u8]
+pub fn skip(text: &[u8]) -> &[u8]
     ensures rest { result.now ≡ skip text.now }
     ensures shorter { length result.now ≤ length text.now }
 {
@@ -209,7 +209,7 @@ fn quoted_at(alloc: Global, text: &[u8]) -> Result<(Kind, usize), NoMemory>
 }
 
 // The token at the front of a text, and its length.
-fn token_at(alloc: Global, text: &[u8]) -> Result<(Kind, usize), NoMemory>
+pub fn token_at(alloc: Global, text: &[u8]) -> Result<(Kind, usize), NoMemory>
     requires { 0 < length text.now }
     ensures token { IfOk result (λ p. IsToken text.now p.0 (drop p.1 text.now)) }
     ensures fits { IfOk result (λ p. (0 < p.1) × (p.1 ≤ length text.now)) }

@@ -64,7 +64,7 @@ fn posts_of_records(alloc: Global, names: &Names<'_>, bytes: &[u8]) -> Result<Po
     requires typed { IsTyped names.now.plan.now }
     ensures { GivesPosts result (feed_of names.now.plan.now bytes.now) }
 {
-    let mut reader = reader_of(alloc, bytes);
+    let mut reader = reader_of(alloc, bytes)?;
     let mut record = ByteRecord::new(alloc);
     let mut posts = posts_with_room(alloc, bytes.len())?;
     for row in 1..u64::MAX {

@@ -1,8 +1,14 @@
+use Rattle.std.proofs.Common.{◌≤◌, length}
 use Rattle.script_grammar.specs.Reading.{repeated}
 use Rattle.script_grammar.specs.ScriptReading.{next_is, with_front}
 use Rattle.script_grammar.proofs.LoopLemmas.{IsLeft}
 use Rattle.script_grammar.proofs.phrase.more_at.Given as goal
 
 abbrev pub invariant-list : goal.invariant-list
-invariant-list g l =
-    IsLeft (next_is g.X.Repeated.begins) g.X.Phrase.reader l.fn.tokens l.counter l.list l.rest (with_front l.fn.front (repeated (next_is g.X.Repeated.begins) g.X.Phrase.reader l.fn.tokens))
+invariant-list g l = record {
+  left : IsLeft g.X.Repeated.begins g.X.Phrase.reader l.list l.tokens (with_front l.fn.front (repeated (next_is g.X.Repeated.begins) g.X.Phrase.reader l.initial.tokens));
+  no_longer : length l.tokens ≤ length l.initial.tokens;
+}
+
+abbrev pub decreases-list : goal.decreases-list
+decreases-list g l = length l.tokens
