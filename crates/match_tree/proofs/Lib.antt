@@ -18,11 +18,13 @@
 -- - the number behind may be offered to the paths that an arrival leaves: NextLemmas
 -- - a node that fails its row's screen has no takers behind it (`lacks_key`, `fails_one`, `is_another`, `disagrees`),
 --   and is passed as it is (`passed_quiet`), many in one step too (`walk_to`): ScreenLemmas, VisitLemmas, SkipLemmas
+-- - a conjunct without a field of a pattern stands beside a number there as without (`stands_beside`): TieLemmas
 -- - which conjuncts are decided is the same for all numbers of a row (`tests_alike`): ScreenLemmas
 -- - a number that an index has not under a look-up's value is not worth a visit (`key_looks`, `text_looks`), and those that
 --   are left of the index have all that are (`left_before`, `left_behind`): LookLemmas
 -- - nodes of which some are without the routes that take a number (`both_thinned`, `thinned_each`), and why the others have
 --   none (`pruned_quiet`, `pruned_barred`): ThinLemmas
+-- - a visit adds routes only where some pattern may take the number (`earned_node`, `visited_routes`): EarnLemmas
 -- - a fact of each item of a list, by membership (`all_in`, `all_members`): FirstLemmas
 pub mod Examples
 pub mod SlotsLemmas
@@ -36,7 +38,9 @@ pub mod TriesLemmas
 pub mod FirstLemmas
 pub mod OrderLemmas
 pub mod VisitLemmas
+pub mod EarnLemmas
 pub mod ScreenLemmas
+pub mod TieLemmas
 pub mod WalkLemmas
 pub mod RowsLemmas
 pub mod PruneLemmas

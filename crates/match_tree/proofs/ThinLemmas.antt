@@ -19,16 +19,16 @@ use Rattle.value_index.specs.SameValue.{Ascend}
 use Rattle.match_tree.specs.Routes.{Route, Step, Branch, step, filled, with_number, node_routes, row_routes, lacks}
 use Rattle.match_tree.specs.Rows.{leaf, node_at}
 use Rattle.match_tree.specs.Below.{AreBelow, Climbs}
-use Rattle.match_tree.specs.Offers.{Offered, is_free, may_take}
+use Rattle.match_tree.specs.Offers.{Offered, is_free, may_take, places}
 use Rattle.match_tree.specs.Offering.{CanOffer, LeadOn, LeadsOn}
 use Rattle.match_tree.specs.Order.{Earlier, Rise, IsOrderedNode, IsSoundRow}
 use Rattle.match_tree.specs.Pruned.{AreShort, NodesRise, RiseFrom, pruned}
 use Rattle.match_tree.specs.Screen.{IsOffered}
 use Rattle.match_tree.specs.Look.{IsAbsent, LooksUpAt}
 use Rattle.match_tree.specs.declared.look.Look.{Look}
-use Rattle.match_tree.specs.Thinned.{ContinuesPath, ContinuePath, IsBarred, IsQuiet, IsThinned, NodesContinuePath}
+use Rattle.match_tree.specs.Thinned.{AreVisited, ContinuesPath, ContinuePath, IsBarred, IsGuarded, IsQuiet, IsThinned, IsVisited, NodesContinuePath}
 use Rattle.match_tree.proofs.FirstLemmas.{all_in}
-use Rattle.match_tree.proofs.LeadLemmas.{below_start, below_unset}
+use Rattle.match_tree.proofs.LeadLemmas.{below_start, below_unset, not_it}
 use Rattle.match_tree.proofs.LookLemmas.{node_less}
 use Rattle.match_tree.proofs.OrderLemmas.{ordered_filter}
 use Rattle.match_tree.proofs.PruneLemmas.{all_filtered, climbs_rise, one_of_more}
@@ -352,27 +352,82 @@ module _ (o : Offered) (slots : Assignment) (q : ℕ) (node : Branch) (go_on : C
     free = go_on.0.climbs.0;
   }
 
-  -- where each pattern is barred there, it has nothing to lose
-  pub pruned_barred : length slots ≡ length o.definition.patterns → ((p : ℕ) → p < length o.definition.patterns → IsBarred o slots q p node.number) → pruned (o.number ∷ []) node ≡ node
-  pruned_barred long barred = elim (cases_lt node.number o.number) [
-    | inl less ↦ pruned_quiet (λ p. quiet p less)
-    | inr most ↦ pruned_above most
-  ]
-    where
-      free_within : (xs : Assignment) (p : ℕ) → is_free xs p ≡ true → p < length xs
-      free_within [] p free = absurd cc
-      free_within (x ∷ xs) zero free = omega arith
-      free_within (x ∷ xs) (suc p) free = let l = free_within xs p free in omega arith
+-- the number may be offered behind a node from which the routes go on, and is taken there only where some pattern may take it
+pub guarded : (o : Offered) (slots : Assignment) (q : ℕ) (node : Branch) → CanOffer o slots → ContinuePath o slots (node_routes q node) → IsGuarded o slots q node
+guarded o slots q node can go_on = record { there = offered_there o slots q node go_on can; quiet = pruned_quiet o slots q node go_on; above = pruned_above o slots q node go_on }
 
-      quiet : (p : ℕ) → node.number < o.number → may_take o (with_number slots q node.number) p ≡ false
-      quiet p less = by (may_take o (with_number slots q node.number) p) refl
-        where
-          by : (b : Bool) → may_take o (with_number slots q node.number) p ≡ b → may_take o (with_number slots q node.number) p ≡ false
-          by true e =
-              let free = free_within (with_number slots q node.number) p (both_true (is_free (with_number slots q node.number) p) _ e).0 in
-              let count = length-set slots q (Some node.number) in
-              barred p (omega (arith, free, count, long)) less
-          by false e = e
+pub all_guarded : (o : Offered) (slots : Assignment) (q : ℕ) (row : List Branch) → CanOffer o slots → NodesContinuePath o slots q row → AllByRecursion (IsGuarded o slots q) row
+all_guarded o slots q [] can h = tt
+all_guarded o slots q (node ∷ row) can h = (guarded o slots q node can h.0, all_guarded o slots q row can h.1)
+
+pub guarded_pruned : (o : Offered) (slots : Assignment) (q : ℕ) (node : Branch) → IsGuarded o slots q node → IsGuarded o slots q (pruned (o.number ∷ []) node)
+guarded_pruned o slots q node h = record { there = h.there; quiet = λ _. pruned_twice (o.number ∷ []) node; above = λ _. pruned_twice (o.number ∷ []) node }
+
+-- where each pattern is barred there, a node has nothing to lose
+pruned_barred : (o : Offered) (slots : Assignment) (q : ℕ) (node : Branch) → IsGuarded o slots q node → length slots ≡ length o.definition.patterns → ((p : ℕ) → p < length o.definition.patterns → IsBarred o slots q p node.number) → pruned (o.number ∷ []) node ≡ node
+pruned_barred o slots q node guard long barred = elim (cases_lt node.number o.number) [
+  | inl less ↦ guard.quiet (λ p. quiet p less)
+  | inr most ↦ guard.above most
+]
+  where
+    free_within : (xs : Assignment) (p : ℕ) → is_free xs p ≡ true → p < length xs
+    free_within [] p free = absurd cc
+    free_within (x ∷ xs) zero free = omega arith
+    free_within (x ∷ xs) (suc p) free = let l = free_within xs p free in omega arith
+
+    quiet : (p : ℕ) → node.number < o.number → may_take o (with_number slots q node.number) p ≡ false
+    quiet p less = by (may_take o (with_number slots q node.number) p) refl
+      where
+        by : (b : Bool) → may_take o (with_number slots q node.number) p ≡ b → may_take o (with_number slots q node.number) p ≡ false
+        by true e =
+            let free = free_within (with_number slots q node.number) p (both_true (is_free (with_number slots q node.number) p) _ e).0 in
+            let count = length-set slots q (Some node.number) in
+            barred p (omega (arith, free, count, long)) less
+        by false e = e
+
+-- the routes by a node that a visit has left
+module _ (o : Offered) (slots : Assignment) (q : ℕ) (node : Branch) (visited : AreVisited o slots (node_routes q node)) where
+  none_take : IsQuiet o (with_number slots q node.number) → (ps : List ℕ) → filter (may_take o (with_number slots q node.number)) ps ≡ []
+  none_take quiet [] = refl
+  none_take quiet (p ∷ ps) = λ i. cond (quiet p i) (p ∷ none_take quiet ps i) (none_take quiet ps i)
+
+  visited_quiet : IsQuiet o (with_number slots q node.number) → pruned (o.number ∷ []) node ≡ node
+  visited_quiet quiet =
+      let none = λ (r : Route) (h : IsVisited o slots (step q node.number ∷ r)). h.earned (none_take quiet (places 0 o.definition.patterns)) in
+      ap (λ (rs : List Route). record { number = node.number; routes = rs }) (kept_where o.number (step q node.number) (IsVisited o slots) none node.routes visited.1)
+
+  visited_above : o.number ≤ node.number → pruned (o.number ∷ []) node ≡ node
+  visited_above most =
+      let above = λ (m : ℕ) (b : AreBelow m (with_number slots q node.number)). (let less = (below_unset slots q node.number m visited.0.climbs.0 b).1 in let more : o.number < m = omega (arith, less, most) in more) in
+      let none = λ (r : Route) (h : IsVisited o slots (step q node.number ∷ r)). lacks_above (with_number slots q node.number) o.number r above h.climbs.2 in
+      ap (λ (rs : List Route). record { number = node.number; routes = rs }) (kept_where o.number (step q node.number) (IsVisited o slots) none node.routes visited.1)
+
+  visited_there : node.number < o.number → IsOffered o slots q node.number
+  visited_there less =
+      let leads = visited.0.lead (λ i. not_it node.number o.number less i && lacks (o.number ∷ []) []) in
+      record { can = leads.can; free = leads.climbs.0 }
+
+  pub visited_guarded : IsGuarded o slots q node
+  visited_guarded = record { there = visited_there; quiet = visited_quiet; above = visited_above }
+
+  pub visited_rise : RiseFrom node.number node.routes
+  visited_rise = each node.routes visited.1
+    where
+      each : (routes : List Route) → AreVisited o slots (map (λ r. step q node.number ∷ r) routes) → RiseFrom node.number routes
+      each [] g = tt
+      each (r ∷ routes) g = (climbs_rise slots (step q node.number ∷ r) g.0.climbs, each routes g.1)
+
+pub all_visited_guarded : (o : Offered) (slots : Assignment) (q : ℕ) (row : List Branch) → AllByRecursion (λ node. AreVisited o slots (node_routes q node)) row → AllByRecursion (IsGuarded o slots q) row
+all_visited_guarded o slots q [] h = tt
+all_visited_guarded o slots q (node ∷ row) h = (visited_guarded o slots q node h.0, all_visited_guarded o slots q row h.1)
+
+pub all_visited_rise : (o : Offered) (slots : Assignment) (q : ℕ) (row : List Branch) → AllByRecursion (λ node. AreVisited o slots (node_routes q node)) row → NodesRise row
+all_visited_rise o slots q [] h = tt
+all_visited_rise o slots q (node ∷ row) h = (visited_rise o slots q node h.0, all_visited_rise o slots q row h.1)
+
+pub visited_nodes : (o : Offered) (slots : Assignment) (q : ℕ) (row : List Branch) → AreVisited o slots (row_routes q row) → AllByRecursion (λ node. AreVisited o slots (node_routes q node)) row
+visited_nodes o slots q [] h = tt
+visited_nodes o slots q (node ∷ row) h = (all_left (IsVisited o slots) (node_routes q node) (row_routes q row) h, visited_nodes o slots q row (all_right (IsVisited o slots) (node_routes q node) (row_routes q row) h))
 
 -- where the index has no entry, the pattern is barred
 pub absent_barred : (o : Offered) (slots : Assignment) (q p n : ℕ) (look : Look) → LooksUpAt o slots q p look → IsOffered o slots q n → IsAbsent o.index look n → may_take o (with_number slots q n) p ≡ false
@@ -420,15 +475,15 @@ module _ (ks : List ℕ) (limit : ℕ) (all left : List ℕ) where
 
 -- ---- pattern by pattern
 
-pub pair_thinned : (o : Offered) (slots : Assignment) (q p : ℕ) (look : Look) (ks left : List ℕ) (before now : List Branch) → ks ≡ o.number ∷ [] → CanOffer o slots → NodesContinuePath o slots q before → LooksUpAt o slots q p look
+pub pair_thinned : (o : Offered) (slots : Assignment) (q p : ℕ) (look : Look) (ks left : List ℕ) (before now : List Branch) → ks ≡ o.number ∷ [] → AllByRecursion (IsGuarded o slots q) before → LooksUpAt o slots q p look
     → ((n : ℕ) → 0 ≤ n → IsIn (entry look.place look.value n) o.index.entries → IsIn n left) → IsThinned ks (λ n. n < o.number → ¬ IsIn n left) before now → IsThinned (o.number ∷ []) (IsBarred o slots q p) before now
-pair_thinned o slots q p look ks left before now is can go_on looks has h =
+pair_thinned o slots q p look ks left before now is guards looks has h =
     weaker (o.number ∷ []) (λ n. n < o.number → ¬ IsIn n left) (IsBarred o slots q p) before now barred (subst (λ (ns : List ℕ). IsThinned ns (λ n. n < o.number → ¬ IsIn n left) before now) is h)
   where
     barred : (i : ℕ) → i < length before → ((node_at before i).number < o.number → ¬ IsIn (node_at before i).number left) → IsBarred o slots q p (node_at before i).number
     barred i l none less =
         let node : Branch = node_at before i in
-        let there = offered_there o slots q node (all_at (λ (x : Branch). ContinuePath o slots (node_routes q x)) before i (leaf 0) l go_on) can less in
+        let there = (all_at (IsGuarded o slots q) before i (leaf 0) l guards).there less in
         absent_barred o slots q p node.number look looks there (λ m. none less (has node.number (omega arith) m))
 
 and_never : (a b : Bool) → (a && (false && b)) ≡ false
@@ -472,13 +527,13 @@ module _ (o : Offered) (slots : Assignment) (q : ℕ) where
       ]
 
   -- all patterns
-  pub barred_all : (Rest : ℕ → Type 0) (count : ℕ) (before now : List Branch) → count ≡ length o.definition.patterns → CanOffer o slots → NodesContinuePath o slots q before → IsThinned (o.number ∷ []) (AreBarred count) before now → IsThinned (o.number ∷ []) Rest before now
-  barred_all Rest count before now is can go_on h = thinned_close (o.number ∷ []) (AreBarred count) Rest before now same h
+  pub barred_all : (Rest : ℕ → Type 0) (count : ℕ) (before now : List Branch) → count ≡ length o.definition.patterns → CanOffer o slots → AllByRecursion (IsGuarded o slots q) before → IsThinned (o.number ∷ []) (AreBarred count) before now → IsThinned (o.number ∷ []) Rest before now
+  barred_all Rest count before now is can guards h = thinned_close (o.number ∷ []) (AreBarred count) Rest before now same h
     where
       same : (i : ℕ) → i < length before → AreBarred count (node_at before i).number → pruned (o.number ∷ []) (node_at before i) ≡ node_at before i
       same i l barred =
           let node : Branch = node_at before i in
-          let here = all_at (λ (x : Branch). ContinuePath o slots (node_routes q x)) before i (leaf 0) l go_on in
+          let here = all_at (IsGuarded o slots q) before i (leaf 0) l guards in
           pruned_barred o slots q node here (length-SlotsSuit o.messages o.definition.patterns slots can.suits) (λ p m. barred p (omega (arith, m, is)))
 
 -- another number may be offered to the empty path

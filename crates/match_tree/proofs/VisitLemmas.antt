@@ -163,6 +163,9 @@ module _ (o : Offered) (slots : Assignment) where
   pub quiet_least : (routes : List Route) → AllByRecursion Quiet routes → least (new_matches o slots (seen o routes)) ≡ None
   quiet_least routes h = ap least (quiet_matches (seen o routes) (all_filter Quiet (is_seen o.oldest) routes h))
 
+  pub nothing_new : (routes : List Route) → takers o slots ≡ [] → LeadOn o slots routes → new_routes o slots (seen o routes) ≡ []
+  nothing_new routes none lead = quiet_routes (seen o routes) (all_filter Quiet (is_seen o.oldest) routes (quiet_below routes none lead))
+
   -- where no pattern may take the number here, none may anywhere behind
   pub nothing_here : (routes : List Route) → takers o slots ≡ [] → LeadOn o slots routes → least (new_matches o slots ([] ∷ seen o routes)) ≡ None
   nothing_here routes none lead =

@@ -1,10 +1,10 @@
 -- What a visit of a number leaves of the routes below a path.
-use Rattle.std.specs.Prelude.{◌≡◌, ◌⊎◌, List, [], ◌∷◌, map, ℕ}
-use Rattle.std.specs.List.{filter}
+use Rattle.std.specs.Prelude.{◌≡◌, ◌⊎◌, List, [], ◌∷◌, map, true, ℕ}
+use Rattle.std.specs.List.{filter, AllByRecursion}
 use Rattle.guard_eval.specs.Meaning.{Assignment}
 use Rattle.pattern_core.specs.Members.{IsIn}
-use Rattle.match_tree.specs.Routes.{Route, step, lacks}
-use Rattle.match_tree.specs.Offers.{Offered, seen, new_routes}
+use Rattle.match_tree.specs.Routes.{Route, step, with_number, lacks}
+use Rattle.match_tree.specs.Offers.{Offered, seen, new_routes, takers}
 
 -- without the new number the routes are as before
 abbrev pub Lasts : ℕ → List Route → List Route → Type 0
@@ -20,3 +20,11 @@ pub record Grows (o : Offered) (slots : Assignment) (here : List ℕ) (before no
   pub keeps : (r : Route) → IsIn r before → IsIn r now
   pub adds : (r : Route) → IsIn r (new_routes o slots (seen o before)) → IsIn r now
   pub begins : (r : Route) → IsIn r (steps_to o.number here) → IsIn r now
+
+-- where no pattern may take the number behind its first step, the route does not take it there
+abbrev pub IsEarned : Offered → Assignment → Route → Type 0
+IsEarned o slots [] = Unit {0}
+IsEarned o slots (s ∷ route) = takers o (with_number slots s.pattern s.number) ≡ [] → lacks (o.number ∷ []) route ≡ true
+
+abbrev pub AreEarned : Offered → Assignment → List Route → Type 0
+AreEarned o slots routes = AllByRecursion (IsEarned o slots) routes

@@ -17,5 +17,6 @@ pub mod Behind
 pub mod Pruned
 pub mod Kept
 pub mod Screen
+pub mod Ties
 pub mod Look
 pub mod Thinned

@@ -1,5 +1,5 @@
 -- Nodes of a row of which some are without the routes that take a number.
-use Rattle.std.specs.Prelude.{◌≡◌, ◌⊎◌, ℕ, ◌<◌, List, length, true, false}
+use Rattle.std.specs.Prelude.{◌≡◌, ◌⊎◌, ℕ, ◌<◌, ◌≤◌, List, [], ◌∷◌, length, true, false}
 use Rattle.std.specs.List.{AllByRecursion}
 use Rattle.join_base.specs.declared.message.Message.{Message}
 use Rattle.guard_eval.specs.Meaning.{Assignment}
@@ -7,11 +7,13 @@ use Rattle.pattern_core.specs.declared.definition.Definition.{Definition}
 use Rattle.pattern_core.specs.Matches.{is_agreeable}
 use Rattle.pattern_core.specs.Suits.{SlotsSuit}
 use Rattle.value_index.specs.Index.{Index}
-use Rattle.match_tree.specs.Routes.{Route, Branch, filled, node_routes, with_number}
+use Rattle.match_tree.specs.Routes.{Route, Branch, filled, lacks, node_routes, with_number}
 use Rattle.match_tree.specs.Rows.{node_at}
 use Rattle.match_tree.specs.Below.{Climbs}
 use Rattle.match_tree.specs.Offers.{Offered, may_take}
-use Rattle.match_tree.specs.Offering.{AreIndexed}
+use Rattle.match_tree.specs.Offering.{AreIndexed, LeadsOn}
+use Rattle.match_tree.specs.Growth.{IsEarned}
+use Rattle.match_tree.specs.Screen.{IsOffered}
 use Rattle.match_tree.specs.Pruned.{pruned}
 
 -- the route climbs from the path, suits the messages, is agreeable, and the index has its numbers
@@ -40,3 +42,18 @@ IsBarred o slots pattern other number = number < o.number → may_take o (with_n
 -- no pattern may take the offered number beside the others
 abbrev pub IsQuiet : Offered → Assignment → Type 0
 IsQuiet o slots = (pattern : ℕ) → may_take o slots pattern ≡ false
+
+-- the number may be offered behind a lesser one, and it is taken there only where a pattern may take it
+pub record IsGuarded (o : Offered) (slots : Assignment) (pattern : ℕ) (node : Branch) : Type 0 where
+  pub there : node.number < o.number → IsOffered o slots pattern node.number
+  pub quiet : IsQuiet o (with_number slots pattern node.number) → pruned (o.number ∷ []) node ≡ node
+  pub above : o.number ≤ node.number → pruned (o.number ∷ []) node ≡ node
+
+-- a visit with the number has left the route
+pub record IsVisited (o : Offered) (slots : Assignment) (route : Route) : Type 0 where
+  pub climbs : Climbs slots route
+  pub earned : IsEarned o slots route
+  pub lead : lacks (o.number ∷ []) route ≡ true → LeadsOn o slots route
+
+abbrev pub AreVisited : Offered → Assignment → List Route → Type 0
+AreVisited o slots routes = AllByRecursion (IsVisited o slots) routes

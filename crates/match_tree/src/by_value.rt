@@ -6,12 +6,12 @@ ghost use Rattle.guard_eval.specs.Meaning.{Assignment};
 ghost use Rattle.pattern_core.specs.Members.{IsIn};
 ghost use Rattle.pattern_core.specs.Suits.{IsRecorded};
 ghost use Rattle.value_index.specs.SameValue.{Ascend};
-ghost use Rattle.match_tree.specs.Routes.{rows_routes, row_routes, lacks, with_number};
+ghost use Rattle.match_tree.specs.Routes.{node_routes, rows_routes, row_routes, lacks, with_number};
 ghost use Rattle.match_tree.specs.Offers.{may_take};
 ghost use Rattle.match_tree.specs.Offering.{offered, CanOffer, LeadOn};
 ghost use Rattle.match_tree.specs.Order.{IsSoundRow, AreSound};
 ghost use Rattle.match_tree.specs.Pruned.{AreShort, NodesRise, pruned};
-ghost use Rattle.match_tree.specs.Thinned.{IsBarred, IsThinned, NodesContinuePath};
+ghost use Rattle.match_tree.specs.Thinned.{AreVisited, IsBarred, IsGuarded, IsThinned, NodesContinuePath};
 
 use crate::look::{FEWEST, look_at, numbers_at};
 use crate::node::Node;
@@ -82,7 +82,8 @@ fn prune_pair(
     levels: usize,
 ) -> Option<u64>
     requires can { CanOffer (offered offer.now) slots.now }
-    requires go_on { NodesContinuePath (offered offer.now) slots.now pattern nodes.old.items }
+    requires guarded { AllByRecursion (IsGuarded (offered offer.now) slots.now pattern) nodes.old.items }
+    requires rising { NodesRise nodes.old.items }
     requires few { length (row_routes 0 nodes.old.items) < 2 ^ 64 }
     requires sound { IsSoundRow nodes.old.items }
     requires short { AllByRecursion (λ node. AreShort levels node.routes) nodes.old.items }
@@ -124,7 +125,8 @@ fn prune_other(
 ) -> Option<u64>
     requires within { other < length offer.now.definition.now.patterns }
     requires can { CanOffer (offered offer.now) slots.now }
-    requires go_on { NodesContinuePath (offered offer.now) slots.now pattern nodes.old.items }
+    requires guarded { AllByRecursion (IsGuarded (offered offer.now) slots.now pattern) nodes.old.items }
+    requires rising { NodesRise nodes.old.items }
     requires few { length (row_routes 0 nodes.old.items) < 2 ^ 64 }
     requires sound { IsSoundRow nodes.old.items }
     requires short { AllByRecursion (λ node. AreShort levels node.routes) nodes.old.items }
@@ -150,7 +152,8 @@ fn prune_offered(
     levels: usize,
 ) -> Thinned
     requires can { CanOffer (offered offer.now) slots.now }
-    requires go_on { NodesContinuePath (offered offer.now) slots.now pattern nodes.old.items }
+    requires guarded { AllByRecursion (IsGuarded (offered offer.now) slots.now pattern) nodes.old.items }
+    requires rising { NodesRise nodes.old.items }
     requires few { length (row_routes 0 nodes.old.items) < 2 ^ 64 }
     requires sound { IsSoundRow nodes.old.items }
     requires short { AllByRecursion (λ node. AreShort levels node.routes) nodes.old.items }
@@ -362,4 +365,117 @@ pub fn prune_values(offer: &Offer<'_>, rows: &mut [Row], numbers: &Numbers, leve
     let slots = Slots::new(offer.definition.patterns.len() as u32);
     let those = standing(numbers, offer.number);
     prune_each(offer, &slots, rows, &those, levels)
+}
+
+// Leaves out the routes that take one number behind nodes, by a walk.
+fn walk_back(nodes: &mut VecDeque<Node>, number: u32, levels: usize) -> u64
+    requires few { length (row_routes 0 nodes.old.items) < 2 ^ 64 }
+    requires sound { IsSoundRow nodes.old.items }
+    requires short { AllByRecursion (λ node. AreShort levels node.routes) nodes.old.items }
+    requires rising { NodesRise nodes.old.items }
+    ensures left { nodes.new.items ≡ map (pruned (number ∷ [])) nodes.old.items }
+    ensures gone { result + length (row_routes 0 nodes.new.items) ≡ length (row_routes 0 nodes.old.items) }
+{
+    let mut one = Numbers::new();
+    one.push(number);
+    prune_nodes(nodes, &one, levels)
+}
+
+// Takes the offered number back behind the nodes of a pattern: by look-ups, and else by a walk.
+fn take_back_nodes(
+    offer: &Offer<'_>,
+    slots: &Slots,
+    pattern: u32,
+    nodes: &mut VecDeque<Node>,
+    levels: usize,
+) -> u64
+    requires can { CanOffer (offered offer.now) slots.now }
+    requires visited { AllByRecursion (λ node. AreVisited (offered offer.now) slots.now (node_routes pattern node))
+        nodes.old.items }
+    requires few { length (row_routes 0 nodes.old.items) < 2 ^ 64 }
+    requires sound { IsSoundRow nodes.old.items }
+    requires short { AllByRecursion (λ node. AreShort levels node.routes) nodes.old.items }
+    ensures left { nodes.new.items ≡ map (pruned (offer.now.number ∷ [])) nodes.old.items }
+    ensures gone { result + length (row_routes 0 nodes.new.items) ≡ length (row_routes 0 nodes.old.items) }
+{
+    if nodes.len() < FEWEST {
+        return walk_back(nodes, offer.number, levels);
+    }
+    let thinned = prune_offered(offer, slots, pattern, nodes, levels);
+    if thinned.all {
+        return thinned.gone;
+    }
+    thinned.gone + walk_back(nodes, offer.number, levels)
+}
+
+// Takes the offered number back behind the nodes of a pattern's row.
+fn take_back_behind(
+    offer: &Offer<'_>,
+    slots: &Slots,
+    pattern: u32,
+    row: &mut Row,
+    levels: usize,
+) -> u64
+    requires can { CanOffer (offered offer.now) slots.now }
+    requires visited { AllByRecursion (λ node. AreVisited (offered offer.now) slots.now (node_routes pattern
+        node)) row.old }
+    requires few { length (row_routes 0 row.old) < 2 ^ 64 }
+    requires sound { IsSoundRow row.old }
+    requires short { AllByRecursion (λ node. AreShort levels node.routes) row.old }
+    ensures left { row.new ≡ map (pruned (offer.now.number ∷ [])) row.old }
+    ensures gone { result + length (row_routes 0 row.new) ≡ length (row_routes 0 row.old) }
+{
+    match &mut row.nodes {
+        Nodes::Empty => 0,
+        Nodes::One(_) => 0,
+        Nodes::Leaves(_) => 0,
+        Nodes::Mixed(nodes) => take_back_nodes(offer, slots, pattern, nodes, levels),
+    }
+}
+
+// Takes the offered number back from the routes that begin at a pattern.
+fn take_back_row(
+    offer: &Offer<'_>,
+    slots: &Slots,
+    pattern: u32,
+    row: &mut Row,
+    levels: usize,
+) -> u64
+    requires can { CanOffer (offered offer.now) slots.now }
+    requires visited { AreVisited (offered offer.now) slots.now (row_routes pattern row.old) }
+    requires few { length (row_routes 0 row.old) < 2 ^ 64 }
+    requires sound { IsSoundRow row.old }
+    requires short { AreShort levels (row_routes 0 row.old) }
+    ensures left { (p : ℕ) → row_routes p row.new ≡ filter (lacks (offer.now.number ∷ [])) (row_routes p row.old) }
+    ensures gone { result + length (row_routes 0 row.new) ≡ length (row_routes 0 row.old) }
+{
+    if row.len() == 0 {
+        return 0;
+    }
+    let mut one = Numbers::new();
+    one.push(offer.number);
+    let gone = remove_numbers(row, &one, levels);
+    if levels <= 1 {
+        return gone;
+    }
+    gone + take_back_behind(offer, slots, pattern, row, levels - 1)
+}
+
+/// Leaves out the routes that take the offered number, of those that a visit with it has left where it found a match.
+/// The answer is how many they were. No route has more steps than there are levels.
+pub fn take_back(offer: &Offer<'_>, slots: &Slots, rows: &mut [Row], levels: usize) -> u64
+    requires can { CanOffer (offered offer.now) slots.now }
+    requires visited { AreVisited (offered offer.now) slots.now (rows_routes 0 rows.old) }
+    requires patterns { length rows.old ≤ 8 }
+    requires few { length (rows_routes 0 rows.old) < 2 ^ 64 }
+    requires sound { AreSound rows.old }
+    requires short { AreShort levels (rows_routes 0 rows.old) }
+    ensures left { rows_routes 0 rows.new ≡ filter (lacks (offer.now.number ∷ [])) (rows_routes 0 rows.old) }
+    ensures gone { result + length (rows_routes 0 rows.new) ≡ length (rows_routes 0 rows.old) }
+{
+    let mut gone = 0;
+    for (place, row) in rows.iter_mut().enumerate() {
+        gone += take_back_row(offer, slots, place as u32, row, levels);
+    }
+    gone
 }

@@ -13,12 +13,15 @@
 //! Before a node is tried, a screen of its row looks at the conjuncts that tie the row's pattern to the wanted one
 //! (`ties`), and first at one that says what an integer field of the row is equal to. It leaves out nodes behind which
 //! no try can succeed, so that the tries are fewer and what is found and added is the same.
+//! Most rows behind a node have no node or one, and these need no screen.
+//! A try evaluates the conjuncts that have a field of its pattern alone (`ties`): the others are true as before it.
 //!
 //! `reserve_for` gets an index of the messages' values, which has the numbers of the paths. Where it knows the field of
 //! an equality, a row of at least 8 numbers is looked up there (`look`): the numbers of the value, each then found in
 //! the row. Each of them that is gone through counts, unless it ends the search, and there are never more than places
 //! passed. `prune` looks a number up in the same way (`by_value`): it stands behind a node of a first row only where it
 //! could be taken there, so that other nodes need no walk.
+//! `reserve_for` takes back in this way too what it had added before it found a match.
 //!
 //! Tests show the calls of one arrival one behind the other: rows, and small scripts against a plain listing.
 #![tactic(auto)]

@@ -1,15 +1,20 @@
 //! A new number that is offered to the paths of a definition.
-ghost use Rattle.std.specs.Prelude.{◌≡◌, ◌+◌, ◌<◌, ◌≤◌, ◌∷◌, [], length, map, true, not, ◌==◌, Some, None, slice_get};
+ghost use Rattle.std.specs.Prelude.{◌≡◌, ◌+◌, ◌<◌, ◌≤◌, ◌∷◌, [], ◌&&◌, ◌||◌, length, map, true, not, ◌==◌, Some, None, slice_get, slice_index, slice_set};
+ghost use Rattle.guard_eval.specs.Meaning.{is_decided, is_true, needs_of, recorded_message};
+ghost use Rattle.guard_eval.specs.Shape.{conjunct_condition};
 ghost use Rattle.std.specs.List.{filter, AllByRecursion};
-ghost use Rattle.pattern_core.specs.Matches.{is_agreeable, holds_number, is_full};
-ghost use Rattle.pattern_core.specs.Suits.{DefinitionSuits, IsRecorded, SlotsSuit};
+ghost use Rattle.pattern_core.specs.Matches.{is_agreeable, is_of_kind, holds_number, is_full};
+ghost use Rattle.pattern_core.specs.Suits.{DefinitionSuits, IsRecorded, NeedSuits, SlotsSuit};
 ghost use Rattle.pattern_core.specs.Choice.{least, taken_of, candidate_of};
 ghost use Rattle.join_base.specs.Taken.{contains_number};
+ghost use Rattle.match_tree.specs.Routes.{with_number};
 ghost use Rattle.match_tree.specs.Offers.{may_take, matches_of, leaves_one_free};
 ghost use Rattle.match_tree.specs.Offering.{offered, CanOffer, MayTry, MayTake};
 
+use crate::ties::may_name;
+use guard_eval::{Conjunct, decided, holds};
 use join_base::{Message, NoMemory, Numbers, Slots, Steps};
-use pattern_core::{Candidate, Definition, better, complete, is_full, try_extend};
+use pattern_core::{Candidate, Definition, better, complete, has_kind, is_full};
 use std::sync::ledger::Ledger;
 use value_index::ValueIndex;
 
@@ -23,6 +28,77 @@ pub struct Offer<'a> {
     pub rule: u32,
     pub number: u32,
     pub oldest: u32,
+}
+
+// Whether the conjunct is true, if it is decided once the pattern has the number. One without a field of the pattern is
+// as it was without the number.
+fn stands(
+    offer: &Offer<'_>,
+    slots: &Slots,
+    longer: &Slots,
+    pattern: u32,
+    conjunct: &Conjunct,
+) -> bool
+    requires free { slice_get slots.now pattern ≡ Some None }
+    requires longer { longer.now ≡ with_number slots.now pattern offer.now.number }
+    requires suits { SlotsSuit offer.now.messages.now offer.now.definition.now.patterns longer.now }
+    requires needs { AllByRecursion (NeedSuits offer.now.messages.now offer.now.definition.now.patterns)
+        (needs_of (conjunct_condition conjunct.now)) }
+    requires before { (not (is_decided slots.now (conjunct_condition conjunct.now))
+        || is_true offer.now.messages.now slots.now (conjunct_condition conjunct.now)) ≡ true }
+    ensures { result ≡ (not (is_decided longer.now (conjunct_condition conjunct.now))
+        || is_true offer.now.messages.now longer.now (conjunct_condition conjunct.now)) }
+{
+    if !may_name(conjunct, pattern) {
+        return true;
+    }
+    if !decided(conjunct, longer) {
+        return true;
+    }
+    holds(conjunct, longer, offer.messages)
+}
+
+// Whether every conjunct that is decided once the pattern has the number is true, where all that were decided before are.
+fn all_stand(offer: &Offer<'_>, slots: &Slots, longer: &Slots, pattern: u32) -> bool
+    requires definition { DefinitionSuits offer.now.messages.now offer.now.definition.now }
+    requires free { slice_get slots.now pattern ≡ Some None }
+    requires longer { longer.now ≡ with_number slots.now pattern offer.now.number }
+    requires suits { SlotsSuit offer.now.messages.now offer.now.definition.now.patterns longer.now }
+    requires before { is_agreeable offer.now.messages.now offer.now.definition.now.conjuncts slots.now ≡ true }
+    ensures { result ≡ is_agreeable offer.now.messages.now offer.now.definition.now.conjuncts longer.now }
+{
+    for conjunct in offer.definition.conjuncts.as_slice() {
+        if !stands(offer, slots, longer, pattern, conjunct) {
+            return false;
+        }
+    }
+    true
+}
+
+// Whether the pattern may take the number beside the others: it has the kind, and every conjunct that is then decided
+// is true. It counts a step.
+fn try_at<L: Ledger>(
+    offer: &Offer<'_>,
+    slots: &Slots,
+    pattern: u32,
+    steps: &mut Steps<L>,
+) -> bool
+    requires can { CanOffer (offered offer.now) slots.now }
+    requires free { slice_get slots.now pattern ≡ Some None }
+    ensures answer { result
+        ≡ (is_of_kind (recorded_message offer.now.messages.now offer.now.number)
+        (slice_index offer.now.definition.now.patterns pattern)
+        && is_agreeable offer.now.messages.now offer.now.definition.now.conjuncts
+        (slice_set slots.now pattern (Some offer.now.number))) }
+    ensures counted { steps.new ≡ steps.old + 1 }
+{
+    steps.tick();
+    let kind = *offer.definition.patterns.at(pattern as usize);
+    if !has_kind(offer.messages, offer.number, kind) {
+        return false;
+    }
+    let longer = slots.with(pattern, offer.number);
+    all_stand(offer, slots, &longer, pattern)
 }
 
 /// Which of the patterns may take the number beside the others. Each counts a step.
@@ -39,14 +115,7 @@ pub fn takers<L: Ledger>(
 {
     let mut found = Numbers::new();
     for pattern in wanted.as_slice() {
-        if try_extend(
-            offer.definition,
-            slots,
-            *pattern,
-            offer.number,
-            offer.messages,
-            steps,
-        ) {
+        if try_at(offer, slots, *pattern, steps) {
             found.push(*pattern);
         }
     }

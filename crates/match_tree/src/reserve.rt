@@ -12,8 +12,10 @@ ghost use Rattle.match_tree.specs.Offering.{offered, CanOffer, MayTry, LeadOn};
 ghost use Rattle.match_tree.specs.Order.{AreSound};
 ghost use Rattle.match_tree.specs.Growth.{Lasts, Grows};
 ghost use Rattle.match_tree.specs.Pruned.{AreRising, AreShort};
+ghost use Rattle.match_tree.specs.Thinned.{AreVisited};
 ghost use Rattle.match_tree.specs.Tries.{tried, tries_behind};
 
+use crate::by_value::take_back;
 use crate::offer::{Offer, best_match, takers};
 use crate::prune::prune_rows;
 use crate::row::Row;
@@ -67,6 +69,27 @@ fn remove_new(rows: &mut Vec<Row>, number: u32, levels: usize, added: u64)
     let mut numbers = Numbers::new();
     numbers.push(number);
     let _ = prune_rows(rows, &numbers, levels);
+}
+
+// The same after a visit that has found a match: the nodes are looked up.
+fn remove_found(offer: &Offer<'_>, slots: &Slots, rows: &mut Vec<Row>, levels: usize, added: u64)
+    requires can { CanOffer (offered offer.now) slots.now }
+    requires few { length rows.old.items ≤ 8 }
+    requires sound { AreSound rows.old.items }
+    requires counted { length (rows_routes 0 rows.old.items) < 2 ^ 64 }
+    requires added { added ≡ length (filter (λ route. not (lacks (offer.now.number ∷ []) route))
+        (rows_routes 0 rows.old.items)) }
+    requires short { AreShort levels (rows_routes 0 rows.old.items) }
+    requires visited { AreVisited (offered offer.now) slots.now (rows_routes 0 rows.old.items) }
+    ensures few { length rows.new.items ≤ 8 }
+    ensures sound { AreSound rows.new.items }
+    ensures left { rows_routes 0 rows.new.items ≡ filter (lacks (offer.now.number ∷ []))
+        (rows_routes 0 rows.old.items) }
+{
+    if added == 0 {
+        return;
+    }
+    let _ = take_back(offer, slots, rows, levels);
 }
 
 // Offers the number to one path. The answer is the least match that it completes there.
@@ -135,11 +158,17 @@ pub fn visit_all<L: Ledger>(
     let before = *count;
     match visit_rows(alloc, offer, &slots, &wanted, rows, count, steps) {
         Ok(None) => Ok(None),
-        found => {
+        Ok(Some(best)) => {
+            let added = more_than(count, before);
+            remove_found(offer, &slots, rows, patterns - 1, added);
+            *count = before;
+            Ok(Some(best))
+        }
+        Err(refused) => {
             let added = more_than(count, before);
             remove_new(rows, offer.number, patterns - 1, added);
             *count = before;
-            found
+            Err(refused)
         }
     }
 }

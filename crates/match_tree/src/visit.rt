@@ -1,7 +1,7 @@
 //! The visit of a new number: it is tried behind each path that may take it, and new nodes are added where it goes on.
-ghost use Rattle.std.specs.Prelude.{◌≡◌, ◌+◌, ◌<◌, ◌≤◌, ◌++◌, [], ◌∷◌, ℕ, length, map, replicate, true, not, ◌==◌, None, OnOk, IfOk, OnErr, slice_set};
+ghost use Rattle.std.specs.Prelude.{◌≡◌, ◌≢◌, ◌+◌, ◌<◌, ◌≤◌, ◌++◌, [], ◌∷◌, ℕ, length, map, replicate, true, not, nat_le, ◌==◌, None, OnOk, IfOk, OnErr, slice_set};
 ghost use Rattle.std.specs.List.{filter, AllByRecursion};
-ghost use Rattle.pattern_core.specs.Choice.{least};
+ghost use Rattle.pattern_core.specs.Choice.{least, lesser_of};
 ghost use Rattle.match_tree.specs.Routes.{rows_routes, row_routes, lacks};
 ghost use Rattle.match_tree.specs.Rows.{leaf, node_at};
 ghost use Rattle.match_tree.specs.Behind.{AreFewBehind, IsBehind, routes_behind};
@@ -10,7 +10,7 @@ ghost use Rattle.match_tree.specs.Offers.{takers, may_take, growing, places, see
 ghost use Rattle.match_tree.specs.Below.{AreOpen};
 ghost use Rattle.match_tree.specs.Offering.{offered, CanOffer, MayTry, LeadOn};
 ghost use Rattle.match_tree.specs.Order.{IsOrderedNode, IsSoundRow, AreSound};
-ghost use Rattle.match_tree.specs.Growth.{Lasts, Grows};
+ghost use Rattle.match_tree.specs.Growth.{AreEarned, Lasts, Grows};
 ghost use Rattle.match_tree.specs.Begins.{AreLess, Begins, IsLess};
 ghost use Rattle.match_tree.specs.Tries.{tries_behind};
 
@@ -302,6 +302,8 @@ pub fn visit_rows<L: Ledger>(
         (rows_routes 0 rows.old.items)))) }
     ensures grows { IfOk result (λ b. b ≡ None → Grows (offered offer.now) slots.now (growing (offered offer.now)
         slots.now) (rows_routes 0 rows.old.items) (rows_routes 0 rows.new.items)) }
+    ensures earned { IfOk result (λ b. b ≢ None → AreEarned (offered offer.now) slots.now
+        (rows_routes 0 rows.new.items)) }
     ensures counted { count.new + length (rows_routes 0 rows.old.items)
         ≡ count.old + length (rows_routes 0 rows.new.items) }
     ensures stepped { steps.new ≤ steps.old + (length wanted.now + tries_behind (offered offer.now) slots.now
@@ -348,34 +350,51 @@ fn visit_each<L: Ledger>(
         (rows_routes 0 rows.old)))) }
     ensures grows { IfOk result (λ b. b ≡ None → Grows (offered offer.now) slots.now [] (rows_routes 0 rows.old)
         (rows_routes 0 rows.new)) }
+    ensures earned { IfOk result (λ b. AreEarned (offered offer.now) slots.now (rows_routes 0 rows.new)) }
     ensures counted { count.new + length (rows_routes 0 rows.old) ≡ count.old + length (rows_routes 0 rows.new) }
     ensures stepped { steps.new ≤ steps.old + tries_behind (offered offer.now) slots.now (rows_routes 0 rows.old) }
 {
     let mut best = best_match(offer, slots, able);
     for (place, row) in rows.iter_mut().enumerate() {
-        let pattern = place as u32;
-        let others = without(able, pattern);
-        let found = visit_row(alloc, offer, slots, pattern, &others, row, count, steps)?;
-        best = better(best, found);
+        let found = visit_row(alloc, offer, slots, place as u32, able, row, count, steps)?;
+        best = better_found(best, found);
     }
     Ok(best)
 }
 
-// Offers the number to the paths of a row's nodes, in the order of their numbers, until a match is found. Those that
-// aren't worth a visit are left out. One that was looked at for that counts a step, as the tries at it would.
+// The better of two, where mostly there is no second one.
+#[inline]
+fn better_found(best: Option<Candidate>, found: Option<Candidate>) -> Option<Candidate>
+    ensures { result ≡ lesser_of best found }
+{
+    if found.is_some() {
+        return better(best, found);
+    }
+    best
+}
+
+// Whether the definition still sees a number.
+fn sees(offer: &Offer<'_>, number: u32) -> bool
+    ensures { result ≡ nat_le offer.now.oldest number }
+{
+    offer.oldest <= number
+}
+
+// Offers the number to the paths of a row's nodes. Most rows have none or one: these need no screen, which takes its
+// time to make.
 #[cycle(visit)]
 fn visit_row<L: Ledger>(
     alloc: Global,
     offer: &Offer<'_>,
     slots: &Slots,
     pattern: u32,
-    wanted: &Numbers,
+    able: &Numbers,
     row: &mut Row,
     count: &mut u64,
     steps: &mut Steps<L>,
 ) -> Result<Option<Candidate>, NoMemory>
     requires can { CanOffer (offered offer.now) slots.now }
-    requires wanted { wanted.now ≡ filter (λ p. not (p == pattern)) (takers (offered offer.now) slots.now) }
+    requires able { able.now ≡ takers (offered offer.now) slots.now }
     requires sound { IsSoundRow row.old }
     requires lead { LeadOn (offered offer.now) slots.now (row_routes pattern row.old) }
     requires free_left { AreOpen slots.now (row_routes pattern row.old) }
@@ -388,13 +407,101 @@ fn visit_row<L: Ledger>(
         (row_routes pattern row.old)))) }
     ensures grows { IfOk result (λ b. b ≡ None → Grows (offered offer.now) slots.now [] (row_routes pattern row.old)
         (row_routes pattern row.new)) }
+    ensures earned { IfOk result (λ b. AreEarned (offered offer.now) slots.now (row_routes pattern row.new)) }
     ensures counted { count.new + length (row_routes pattern row.old)
         ≡ count.old + length (row_routes pattern row.new) }
     ensures stepped { steps.new ≤ steps.old + tries_behind (offered offer.now) slots.now (row_routes pattern row.old) }
 {
+    let end = row.len();
+    if end == 0 {
+        return Ok(None);
+    }
+    let wanted = without(able, pattern);
     if wanted.len() == 0 {
         return Ok(None);
     }
+    if end == 1 {
+        return visit_only(alloc, offer, slots, pattern, &wanted, row, count, steps);
+    }
+    visit_nodes(alloc, offer, slots, pattern, &wanted, row, count, steps)
+}
+
+// Offers the number to the path of the first node of a row, which has no other.
+#[cycle(visit)]
+fn visit_only<L: Ledger>(
+    alloc: Global,
+    offer: &Offer<'_>,
+    slots: &Slots,
+    pattern: u32,
+    wanted: &Numbers,
+    row: &mut Row,
+    count: &mut u64,
+    steps: &mut Steps<L>,
+) -> Result<Option<Candidate>, NoMemory>
+    requires can { CanOffer (offered offer.now) slots.now }
+    requires wanted { wanted.now ≡ filter (λ p. not (p == pattern)) (takers (offered offer.now) slots.now) }
+    requires some { 1 ≤ length wanted.now }
+    requires one { length row.old ≡ 1 }
+    requires sound { IsSoundRow row.old }
+    requires lead { LeadOn (offered offer.now) slots.now (row_routes pattern row.old) }
+    requires free_left { AreOpen slots.now (row_routes pattern row.old) }
+
+    ensures sound { IsSoundRow row.new }
+    ensures free_left { AreOpen slots.now (row_routes pattern row.new) }
+    ensures numbers { map (λ node. node.number) row.new ≡ map (λ node. node.number) row.old }
+    ensures lasting { Lasts offer.now.number (row_routes pattern row.old) (row_routes pattern row.new) }
+    ensures best { IfOk result (λ b. b ≡ least (new_matches (offered offer.now) slots.now (seen (offered offer.now)
+        (row_routes pattern row.old)))) }
+    ensures grows { IfOk result (λ b. b ≡ None → Grows (offered offer.now) slots.now [] (row_routes pattern row.old)
+        (row_routes pattern row.new)) }
+    ensures earned { IfOk result (λ b. AreEarned (offered offer.now) slots.now (row_routes pattern row.new)) }
+    ensures counted { count.new + length (row_routes pattern row.old)
+        ≡ count.old + length (row_routes pattern row.new) }
+    ensures stepped { steps.new ≤ steps.old + tries_behind (offered offer.now) slots.now (row_routes pattern row.old) }
+{
+    let number = row.number_at(0);
+    if !sees(offer, number) {
+        steps.tick();
+        return Ok(None);
+    }
+    let longer = slots.with(pattern, number);
+    let found = visit_at(alloc, offer, &longer, wanted, row, 0, count, steps)?;
+    Ok(found)
+}
+
+// Offers the number to the paths of a row's nodes, in the order of their numbers, until a match is found. Those that
+// aren't worth a visit are left out. One that was looked at for that counts a step, as the tries at it would.
+#[cycle(visit)]
+fn visit_nodes<L: Ledger>(
+    alloc: Global,
+    offer: &Offer<'_>,
+    slots: &Slots,
+    pattern: u32,
+    wanted: &Numbers,
+    row: &mut Row,
+    count: &mut u64,
+    steps: &mut Steps<L>,
+) -> Result<Option<Candidate>, NoMemory>
+    requires can { CanOffer (offered offer.now) slots.now }
+    requires wanted { wanted.now ≡ filter (λ p. not (p == pattern)) (takers (offered offer.now) slots.now) }
+    requires some { 1 ≤ length wanted.now }
+    requires sound { IsSoundRow row.old }
+    requires lead { LeadOn (offered offer.now) slots.now (row_routes pattern row.old) }
+    requires free_left { AreOpen slots.now (row_routes pattern row.old) }
+
+    ensures sound { IsSoundRow row.new }
+    ensures free_left { AreOpen slots.now (row_routes pattern row.new) }
+    ensures numbers { map (λ node. node.number) row.new ≡ map (λ node. node.number) row.old }
+    ensures lasting { Lasts offer.now.number (row_routes pattern row.old) (row_routes pattern row.new) }
+    ensures best { IfOk result (λ b. b ≡ least (new_matches (offered offer.now) slots.now (seen (offered offer.now)
+        (row_routes pattern row.old)))) }
+    ensures grows { IfOk result (λ b. b ≡ None → Grows (offered offer.now) slots.now [] (row_routes pattern row.old)
+        (row_routes pattern row.new)) }
+    ensures earned { IfOk result (λ b. AreEarned (offered offer.now) slots.now (row_routes pattern row.new)) }
+    ensures counted { count.new + length (row_routes pattern row.old)
+        ≡ count.old + length (row_routes pattern row.new) }
+    ensures stepped { steps.new ≤ steps.old + tries_behind (offered offer.now) slots.now (row_routes pattern row.old) }
+{
     let end = row.len();
     let screen = screen_of(offer, slots, pattern, wanted, end);
     let mut left = looked_up(offer, slots, pattern, wanted, &screen, row);

@@ -26,7 +26,7 @@ fn ends_row(byte: u8) -> bool
 const MANY: usize = 1000;
 
 // Whether a line has more than so many commas.
-fn has_long_line(bytes: &[u8]) -> bool {
+fn counts_many(bytes: &[u8]) -> bool {
     let mut commas = 0usize;
     for byte in bytes {
         if *byte == b',' {
@@ -36,6 +36,27 @@ fn has_long_line(bytes: &[u8]) -> bool {
             }
         } else if ends_row(*byte) {
             commas = 0;
+        }
+    }
+    false
+}
+
+// Whether there is a line end among these bytes.
+fn has_end(bytes: &[u8]) -> bool {
+    for byte in bytes {
+        if ends_row(*byte) {
+            return true;
+        }
+    }
+    false
+}
+
+// Whether a line has very many commas. Such a line has a whole block of half as many bytes, so that of most feeds only
+// the first line end of each block is looked for.
+fn has_long_line(bytes: &[u8]) -> bool {
+    for block in bytes.chunks_exact(MANY / 2) {
+        if !has_end(block) {
+            return counts_many(bytes);
         }
     }
     false

@@ -1,8 +1,8 @@
 use Rattle.std.proofs.Common.{◌≡◌, ◌∷◌, [], ℕ, List, false, length, ap, sym, subst, refl, arith}
 use Rattle.match_tree.specs.Routes.{Branch, row_routes}
 use Rattle.match_tree.specs.Offering.{offered}
-use Rattle.match_tree.specs.Thinned.{IsThinned}
-use Rattle.match_tree.proofs.ThinLemmas.{AreBarred, barred_all, barred_more, same_thinned, thinned_go_on, thinned_short, thinned_sound, weaker}
+use Rattle.match_tree.specs.Thinned.{IsGuarded, IsThinned}
+use Rattle.match_tree.proofs.ThinLemmas.{AreBarred, barred_all, barred_more, guarded_pruned, same_thinned, thinned_each, thinned_rise, thinned_short, thinned_sound, weaker}
 use Rattle.match_tree.proofs.by_value.prune_offered.Goals as goal
 
 pub loop-other-init : goal.loop-other-init
@@ -22,7 +22,8 @@ prune_other-requires c =
     record {
       within = omega (arith, c.loop-other-test.true, c.len-other-end.ensures);
       can = c.requires.can;
-      go_on = thinned_go_on (o.number ∷ []) Barred o a.slots.now a.pattern first items inv.thinned c.requires.go_on;
+      guarded = thinned_each (o.number ∷ []) Barred (IsGuarded o a.slots.now a.pattern) first items (guarded_pruned o a.slots.now a.pattern) inv.thinned c.requires.guarded;
+      rising = thinned_rise (o.number ∷ []) Barred first items inv.thinned c.requires.rising;
       few = omega (arith, c.requires.few, inv.counted);
       sound = thinned_sound (o.number ∷ []) Barred first items inv.thinned c.requires.sound;
       short = thinned_short (o.number ∷ []) Barred a.levels first items inv.thinned c.requires.short;
@@ -56,4 +57,4 @@ returns-in-None-clause-gone c =
 pub returns-clause-left : goal.returns-clause-left
 returns-clause-left c =
     let a = c.args in
-    barred_all (offered a.offer.now) a.slots.now a.pattern _ c.loop-other.other a.nodes.now.items c.loop-other.nodes.items (omega (arith, c.loop-other-test.false, c.len-other-end.ensures)) c.requires.can c.requires.go_on c.loop-other.invariant.thinned
+    barred_all (offered a.offer.now) a.slots.now a.pattern _ c.loop-other.other a.nodes.now.items c.loop-other.nodes.items (omega (arith, c.loop-other-test.false, c.len-other-end.ensures)) c.requires.can c.requires.guarded c.loop-other.invariant.thinned

@@ -1,13 +1,10 @@
 use Rattle.std.proofs.Common.{◌≡◌, ◌∙◌, ◌++◌, ◌∷◌, [], ℕ, List, ap}
 use Rattle.match_tree.specs.Offering.{offered}
-use Rattle.match_tree.proofs.ThinLemmas.{nodes_rise, pair_thinned}
+use Rattle.match_tree.proofs.ThinLemmas.{pair_thinned}
 use Rattle.match_tree.proofs.by_value.prune_pair.Goals as goal
 
 pub returns-clause-left : goal.returns-clause-left
 returns-clause-left c =
     let a = c.args in
     let one : c.push.new.self ≡ a.offer.now.number ∷ [] = c.push.ensures.appended ∙ ap (λ (ns : List ℕ). ns ++ a.offer.now.number ∷ []) c.new-one.ensures.empty in
-    pair_thinned (offered a.offer.now) a.slots.now a.pattern a.other c.in_ok-look.look c.push.new.self c.numbers_at-left.result a.nodes.now.items c.prune_found.new.nodes.items one c.requires.can c.requires.go_on c.in_ok-look.ensures c.numbers_at-left.ensures.has c.prune_found.ensures.left
-
-pub prune_found-requires-clause-rising : goal.prune_found-requires-clause-rising
-prune_found-requires-clause-rising c = nodes_rise (offered c.args.offer.now) c.args.slots.now c.args.pattern c.args.nodes.now.items c.requires.go_on
+    pair_thinned (offered a.offer.now) a.slots.now a.pattern a.other c.in_ok-look.look c.push.new.self c.numbers_at-left.result a.nodes.now.items c.prune_found.new.nodes.items one c.requires.guarded c.in_ok-look.ensures c.numbers_at-left.ensures.has c.prune_found.ensures.left

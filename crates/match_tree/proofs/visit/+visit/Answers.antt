@@ -1,11 +1,12 @@
 use Rattle.std.specs.declared.collections.VecDeque.{VecDeque}
-use Rattle.std.proofs.Common.{Vec, length-append, ◌≡◌, ◌∙◌, ◌<◌, ◌≤◌, ◌+◌, ap, sym, subst, arith, ℕ, List, None, refl, zero-add, take, drop, get_or, set, length, map}
-use Rattle.std.specs.Prelude.{IfOk, IfSome, ◌==◌, not, [], ◌∷◌, ◌++◌}
+use Rattle.std.proofs.Common.{Vec, inl, true, false, length-append, ◌≡◌, ◌≢◌, ◌∙◌, ◌<◌, ◌≤◌, ◌+◌, ap, sym, subst, arith, ℕ, List, None, refl, zero-add, take, drop, get_or, set, length, map}
+use Rattle.std.specs.Prelude.{IfOk, IfSome, nat_le, ◌==◌, not, [], ◌∷◌, ◌++◌}
 use Rattle.std.specs.List.{filter, AllByRecursion}
 use Rattle.std.specs.declared.alloc.Global.{Global}
 use Rattle.guard_eval.specs.Meaning.{Assignment}
 use Rattle.match_tree.specs.Offers.{Offered, places, may_take, takers, growing, matches_of, matches_at, seen, new_matches}
-use Rattle.match_tree.specs.Growth.{Grows, Lasts}
+use Rattle.match_tree.specs.Growth.{AreEarned, Grows, IsEarned, Lasts}
+use Rattle.match_tree.proofs.EarnLemmas.{all_set, earned_lead, earned_node}
 use Rattle.match_tree.specs.Begins.{AreLess}
 use Rattle.match_tree.specs.Tries.{tries_behind}
 use Rattle.pattern_core.specs.Choice.{least}
@@ -14,23 +15,23 @@ use Rattle.std.proofs.lemmas.List.{nil_from_length, take_all, take_at, append-ni
 use Rattle.match_tree.proofs.GrowLemmas.{grows_none}
 use Rattle.match_tree.proofs.BeginLemmas.{grows_begun, no_value, no_ok}
 use Rattle.match_tree.proofs.RowsLemmas.{before_all, now_routes, now_all, numbers_below, sound_on, less_on, sound_all, lasts_on, lasts_all, lesser_none, best_on, grows_on, counts_rows_on, tries_rows_on, tries_rows_most}
-use Rattle.match_tree.specs.Routes.{Route, Branch, row_routes, rows_routes, with_number}
+use Rattle.match_tree.specs.Routes.{Route, Branch, node_routes, row_routes, rows_routes, with_number}
 use Rattle.match_tree.specs.Below.{IsOpen, AreOpen}
 use Rattle.match_tree.proofs.LeadLemmas.{all_both}
 use Rattle.match_tree.proofs.PruneLemmas.{all_rows, all_rows_drop}
 use Rattle.match_tree.proofs.OpenLemmas.{open_below, open_now}
 use Rattle.match_tree.specs.Offering.{offered, CanOffer, MayTry, MayTake, LeadOn}
 use Rattle.match_tree.proofs.LeadLemmas.{lead_lasts, lead_row}
-use Rattle.match_tree.proofs.VisitLemmas.{passed_seen, stays_node, matches_node, quiet_row, quiet_least, quiet_grows, tries_further, all_take, nothing_here, nothing_grows}
+use Rattle.match_tree.proofs.VisitLemmas.{passed_seen, passed_unseen, stays_node, matches_node, quiet_row, quiet_least, quiet_grows, tries_further, all_take, nothing_here, nothing_grows}
 use Rattle.match_tree.proofs.WalkLemmas.{some_of, none_of, steps_behind, all_at, left_item, left_more, found_first}
-use Rattle.match_tree.specs.Screen.{Screens}
+use Rattle.match_tree.specs.Screen.{AreWorthless, IsWorthless, Screens}
 use Rattle.match_tree.proofs.LookLemmas.{left_alike, numbers_set}
-use Rattle.match_tree.proofs.SkipLemmas.{Stopped, Walked, go_on, reach, stop_at, walk_first, walk_to, walked_offers}
+use Rattle.match_tree.proofs.SkipLemmas.{Reached, Stopped, Walked, go_on, reach, stop_at, walk_first, walk_to, walked_offers}
 use Rattle.match_tree.proofs.OrderLemmas.{rows_ordered_behind, rows_sound}
 use Rattle.match_tree.proofs.SlotsLemmas.{free_is_none}
 use Rattle.match_tree.proofs.TakeLemmas.{takers_further}
 use Rattle.match_tree.proofs.visit.+visit.Goals as goal
-use Rattle.match_tree.proofs.visit.+visit.Goals.{visit_row-After-visit_at, visit_at-After-visit_leaf_at-in-Leaves, visit_rows-After-visit_each, visit_rows-In_ok-best}
+use Rattle.match_tree.proofs.visit.+visit.Goals.{visit_nodes-After-visit_at, visit_nodes-In_ok-found, visit_only-After-visit_at, visit_at-After-visit_leaf_at-in-Leaves, visit_rows-After-visit_each, visit_rows-In_ok-best}
 use denote.Param.Weighed.{at_most}
 use Rattle.match_tree.specs.declared.node.Shape.{Shape}
 use Rattle.match_tree.specs.Shapes.{rows_behind, branches}
@@ -41,6 +42,29 @@ use Rattle.match_tree.specs.Rows.{leaf, node_at}
 use Rattle.match_tree.proofs.LeafLemmas.{leaf_routes}
 use Rattle.match_tree.proofs.FallLemmas.{node_weighs, nodes_fall, rows_fall}
 
+-- the patterns that are wanted behind a row
+wanted_are : (o : Offered) (slots : Assignment) (q : ℕ) (able wanted : List ℕ) → able ≡ takers o slots → wanted ≡ filter (λ p. not (p == q)) able → wanted ≡ filter (λ p. not (p == q)) (takers o slots)
+wanted_are o slots q able wanted able_is is = is ∙ ap (filter (λ p. not (p == q))) able_is
+
+pub visit_row-returns-then-end-eq0-clause-lasting : goal.visit_row-returns-then-end-eq0-clause-lasting
+visit_row-returns-then-end-eq0-clause-lasting g t c = lead_lasts (offered c.args.offer.now) c.args.slots.now (row_routes c.args.pattern c.args.row.now) c.requires.lead
+
+pub visit_row-returns-then-end-eq0-clause-best : goal.visit_row-returns-then-end-eq0-clause-best
+visit_row-returns-then-end-eq0-clause-best g t c =
+    let a = c.args in
+    let none = nil_from_length a.row.now (sym c.len-end.ensures ∙ c.if-end-eq0.true) in
+    ap (λ (row : List Branch). least (new_matches (offered a.offer.now) a.slots.now (seen (offered a.offer.now) (row_routes a.pattern row)))) (sym none)
+
+pub visit_row-returns-then-end-eq0-clause-grows : goal.visit_row-returns-then-end-eq0-clause-grows
+visit_row-returns-then-end-eq0-clause-grows g t c =
+    let a = c.args in
+    let o = offered a.offer.now in
+    let none = nil_from_length a.row.now (sym c.len-end.ensures ∙ c.if-end-eq0.true) in
+    λ e. subst (λ (row : List Branch). Grows o a.slots.now [] (row_routes a.pattern row) (row_routes a.pattern row)) (sym none) (grows_none o a.slots.now)
+
+pub visit_row-returns-then-end-eq0-clause-earned : goal.visit_row-returns-then-end-eq0-clause-earned
+visit_row-returns-then-end-eq0-clause-earned g t c = earned_lead (offered c.args.offer.now) c.args.slots.now (row_routes c.args.pattern c.args.row.now) c.requires.lead
+
 pub visit_row-returns-then-len-eq0-clause-lasting : goal.visit_row-returns-then-len-eq0-clause-lasting
 visit_row-returns-then-len-eq0-clause-lasting g t c = lead_lasts (offered c.args.offer.now) c.args.slots.now (row_routes c.args.pattern c.args.row.now) c.requires.lead
 
@@ -48,33 +72,205 @@ pub visit_row-returns-then-len-eq0-clause-best : goal.visit_row-returns-then-len
 visit_row-returns-then-len-eq0-clause-best g t c =
     let a = c.args in
     let o = offered a.offer.now in
-    let none = nil_from_length a.wanted.now (sym c.len.ensures.count ∙ c.if-len-eq0.true) in
-    sym (quiet_least o a.slots.now (row_routes a.pattern a.row.now) (quiet_row o a.slots.now a.pattern a.row.now (sym c.requires.wanted ∙ none) c.requires.lead))
+    let none = nil_from_length c.without-wanted.result (sym c.len.ensures.count ∙ c.if-len-eq0.true) in
+    sym (quiet_least o a.slots.now (row_routes a.pattern a.row.now) (quiet_row o a.slots.now a.pattern a.row.now (sym (wanted_are o a.slots.now a.pattern a.able.now c.without-wanted.result c.requires.able c.without-wanted.ensures) ∙ none) c.requires.lead))
 
 pub visit_row-returns-then-len-eq0-clause-grows : goal.visit_row-returns-then-len-eq0-clause-grows
 visit_row-returns-then-len-eq0-clause-grows g t c =
     let a = c.args in
     let o = offered a.offer.now in
-    let none = nil_from_length a.wanted.now (sym c.len.ensures.count ∙ c.if-len-eq0.true) in
-    λ e. quiet_grows o a.slots.now (row_routes a.pattern a.row.now) (quiet_row o a.slots.now a.pattern a.row.now (sym c.requires.wanted ∙ none) c.requires.lead)
+    let none = nil_from_length c.without-wanted.result (sym c.len.ensures.count ∙ c.if-len-eq0.true) in
+    λ e. quiet_grows o a.slots.now (row_routes a.pattern a.row.now) (quiet_row o a.slots.now a.pattern a.row.now (sym (wanted_are o a.slots.now a.pattern a.able.now c.without-wanted.result c.requires.able c.without-wanted.ensures) ∙ none) c.requires.lead)
 
-pub visit_row-next_place-place-requires-clause-rise : goal.visit_row-next_place-place-requires-clause-rise
-visit_row-next_place-place-requires-clause-rise g t c = c.requires.sound.rise
+pub visit_row-returns-then-len-eq0-clause-earned : goal.visit_row-returns-then-len-eq0-clause-earned
+visit_row-returns-then-len-eq0-clause-earned g t c = earned_lead (offered c.args.offer.now) c.args.slots.now (row_routes c.args.pattern c.args.row.now) c.requires.lead
 
-pub visit_row-next_place-place-requires-clause-offered : goal.visit_row-next_place-place-requires-clause-offered
-visit_row-next_place-place-requires-clause-offered g t c = walked_offers c.args.row.now c.args.row.now 0 c.requires.lead refl refl
+pub visit_row-visit_only-requires : goal.visit_row-visit_only-requires
+visit_row-visit_only-requires g t c =
+    let a = c.args in
+    let o = offered a.offer.now in
+    let wanted = wanted_are o a.slots.now a.pattern a.able.now c.without-wanted.result c.requires.able c.without-wanted.ensures in
+    λ κs h. (
+      omega (arith, c.decreases),
+      (h, (c.requires.can, (wanted, (omega (arith, c.len.ensures.count, c.if-len-eq0.false), (sym c.len-end.ensures ∙ c.if-end-eq1.true, (c.requires.sound, (c.requires.lead, c.requires.free_left))))))),
+    )
 
-pub visit_row-next_place-place-requires-clause-left : goal.visit_row-next_place-place-requires-clause-left
-visit_row-next_place-place-requires-clause-left g t c = c.looked_up-left.ensures
+pub visit_row-visit_nodes-requires : goal.visit_row-visit_nodes-requires
+visit_row-visit_nodes-requires g t c =
+    let a = c.args in
+    let o = offered a.offer.now in
+    let wanted = wanted_are o a.slots.now a.pattern a.able.now c.without-wanted.result c.requires.able c.without-wanted.ensures in
+    λ κs h. (
+      omega (arith, c.decreases),
+      (h, (c.requires.can, (wanted, (omega (arith, c.len.ensures.count, c.if-len-eq0.false), (c.requires.sound, (c.requires.lead, c.requires.free_left)))))),
+    )
 
-pub visit_row-next_place-place-requires-clause-screen : goal.visit_row-next_place-place-requires-clause-screen
-visit_row-next_place-place-requires-clause-screen g t c =
+-- the one node of a row
+only_node : (row : List Branch) → length row ≡ 1 → row ≡ node_at row 0 ∷ []
+only_node [] h = absurd (omega (arith, h))
+only_node (x ∷ []) h = refl
+only_node (x ∷ y ∷ row) h = absurd (omega (arith, h))
+
+-- what is known of it
+only_reached : (o : Offered) (slots : Assignment) (q : ℕ) (row : List Branch) (count steps : ℕ) → length row ≡ 1 → IsSoundRow row → LeadOn o slots (row_routes q row) → AreOpen slots (row_routes q row) → Reached o slots q row row 0 (node_at row 0)
+only_reached o slots q row count steps one sound lead opened =
+    let within : 0 < length row = omega (arith, one) in
+    reach sound lead opened (walk_first o slots q row count steps) within (get_or_default row 0 (leaf 0) (node_at row 0) within)
+
+pub visit_only-returns-then-not-sees : goal.visit_only-returns-then-not-sees
+visit_only-returns-then-not-sees g t c =
+    let a = c.args in
+    let o = offered a.offer.now in
+    let row : List Branch = a.row.now in
+    let unseen : nat_le o.oldest (node_at row 0).number ≡ false = ap (nat_le o.oldest) (sym c.number_at-number.ensures) ∙ sym c.sees.ensures ∙ c.if-not-sees.true in
+    let is = only_node row c.requires.one in
+    let at = only_reached o a.slots.now a.pattern a.row.now a.count.now a.steps.now c.requires.one c.requires.sound c.requires.lead c.requires.free_left in
+    let passed = passed_unseen o a.slots.now a.pattern (node_at row 0) unseen at.ordered at.lead in
+    let wanted = subst (λ (ps : List ℕ). 1 ≤ length ps) c.requires.wanted c.requires.some in
+    let none : AreWorthless o a.slots.now a.pattern row 0 1 = λ i from to. (let zero_is : 0 ≡ i = omega (arith, from, to) in subst (λ (k : ℕ). IsWorthless o a.slots.now a.pattern (node_at row k).number) zero_is (inl unseen)) in
+    let walked = walk_to o a.slots.now a.pattern row row a.count.now a.count.now a.steps.now c.requires.sound c.requires.lead c.requires.free_left wanted a.steps.now (a.steps.now + 1) 0 1 (omega arith) (omega (arith, c.requires.one)) (omega arith) none (walk_first o a.slots.now a.pattern row a.count.now a.steps.now) in
+    let all : take 1 row ≡ row = take_all 1 row (omega (arith, c.requires.one)) in
+    record {
+      sound = c.requires.sound;
+      free_left = c.requires.free_left;
+      numbers = refl;
+      lasting = lead_lasts o a.slots.now (row_routes a.pattern row) c.requires.lead;
+      best = sym (subst (λ (xs : List Branch). least (new_matches o a.slots.now (seen o (row_routes a.pattern xs))) ≡ None) (sym is) passed.none);
+      grows = λ e. subst (λ (xs : List Branch). Grows o a.slots.now [] (row_routes a.pattern xs) (row_routes a.pattern xs)) (sym is) passed.grows;
+      earned = earned_lead o a.slots.now (row_routes a.pattern row) c.requires.lead;
+      counted = refl;
+      stepped = (
+        let few = subst (λ (xs : List Branch). a.steps.now + 1 ≤ a.steps.now + tries_behind o a.slots.now (row_routes a.pattern xs)) all walked.stepped in
+        omega (arith, few, c.tick.ensures)
+      );
+    }
+
+pub visit_only-with-longer-requires : goal.visit_only-with-longer-requires
+visit_only-with-longer-requires g t c =
+    let a = c.args in
+    let o = offered a.offer.now in
+    let at = only_reached o a.slots.now a.pattern a.row.now a.count.now a.steps.now c.requires.one c.requires.sound c.requires.lead c.requires.free_left in
+    free_is_none c.args.slots.now c.args.pattern at.leads.free
+
+pub visit_only-visit_at-requires : goal.visit_only-visit_at-requires
+visit_only-visit_at-requires g t c =
+    let a = c.args in
+    let o = offered a.offer.now in
+    let node : Branch = node_at a.row.now 0 in
+    let at = only_reached o a.slots.now a.pattern a.row.now a.count.now a.steps.now c.requires.one c.requires.sound c.requires.lead c.requires.free_left in
+    let longer : with_number a.slots.now a.pattern node.number ≡ c.with-longer.result = ap (with_number a.slots.now a.pattern) (sym c.number_at-number.ensures) ∙ sym c.with-longer.ensures in
+    let takers_are = takers_further o a.slots.now a.pattern node.number at.leads.free in
+    let Can : Assignment → Type 0 = λ s. CanOffer o s in
+    let Free : Assignment → Type 0 = λ s. AllByRecursion (MayTry s) a.wanted.now in
+    let Wanted : Assignment → Type 0 = λ s. filter (may_take o s) a.wanted.now ≡ takers o s in
+    let Lead : Assignment → Type 0 = λ s. LeadOn o s node.routes in
+    let free : Free (with_number a.slots.now a.pattern node.number) =
+    subst (λ (ps : List ℕ). AllByRecursion (MayTry (with_number a.slots.now a.pattern node.number)) ps) (sym c.requires.wanted)
+    (tries_further o a.slots.now a.pattern node.number (takers o a.slots.now) (all_take o a.slots.now (places 0 o.definition.patterns)))
+    in
+    λ κs h. (
+      omega (arith, c.decreases, nodes_fall a.row.now, at_most size-Node a.row.now 0 node at.before, ap size-Node at.is),
+      (
+        h,
+        (
+          subst Can longer at.leads.can,
+          (
+            subst Free longer free,
+            (
+              subst Wanted longer (ap (filter (may_take o (with_number a.slots.now a.pattern node.number))) c.requires.wanted ∙ takers_are),
+              (at.now, (at.ordered, (subst Lead longer at.leads.lead, subst (λ (s : Assignment). AreOpen s node.routes) longer (open_below a.slots.now a.pattern node at.opened)))),
+            ),
+          ),
+        ),
+      ),
+    )
+
+-- what the visit of the one node leaves of its row
+only_left : (g : _) (t : _) (c : visit_only-After-visit_at g t) → Stopped (offered c.args.offer.now) c.args.slots.now c.args.pattern c.args.row.now c.visit_at.new.row c.args.count.now c.visit_at.new.count c.args.steps.now c.visit_at.new.steps
+only_left g t c =
+    let a = c.args in
+    let o = offered a.offer.now in
+    let row : List Branch = a.row.now in
+    let node : Branch = node_at row 0 in
+    let now : Branch = node_at c.visit_at.new.row 0 in
+    let at = only_reached o a.slots.now a.pattern a.row.now a.count.now a.steps.now c.requires.one c.requires.sound c.requires.lead c.requires.free_left in
+    let e = c.visit_at.ensures in
+    let longer : with_number a.slots.now a.pattern node.number ≡ c.with-longer.result = ap (with_number a.slots.now a.pattern) (sym c.number_at-number.ensures) ∙ sym c.with-longer.ensures in
+    let opens = open_now a.slots.now a.pattern node now e.number at.opened (subst (λ (s : Assignment). AreOpen s now.routes) (sym longer) e.free_left) in
+    let stepped = steps_behind o a.slots.now c.with-longer.result a.pattern node a.wanted.now a.steps.now c.visit_at.new.steps at.leads.free at.leads.below c.requires.wanted longer e.stepped in
+    let walked = walk_first o a.slots.now a.pattern row a.count.now a.steps.now in
+    let left = stop_at now c.visit_at.new.count c.visit_at.new.steps c.requires.sound c.requires.lead c.requires.free_left walked at (stays_node o.number a.pattern node now at.leads.less e.number e.ordered e.lasting) opens e.counted stepped in
+    subst (λ (xs : List Branch). Stopped o a.slots.now a.pattern row xs a.count.now c.visit_at.new.count a.steps.now c.visit_at.new.steps) (sym e.placed) left
+
+pub visit_only-returns-in_err-found : goal.visit_only-returns-in_err-found
+visit_only-returns-in_err-found g t c =
+    let a = c.args in
+    let o = offered a.offer.now in
+    let left = only_left g t (goal.at.visit_only-returns-in_err-found g t c).After-visit_at in
+    record {
+      sound = left.sound;
+      free_left = left.free_left;
+      numbers = left.numbers;
+      lasting = left.lasting;
+      best = no_value (λ b. b ≡ least (new_matches o a.slots.now (seen o (row_routes a.pattern a.row.now)))) _ c.from_residual.result c.from_residual.ensures.1;
+      grows = no_value (λ b. b ≡ None → Grows o a.slots.now [] (row_routes a.pattern a.row.now) (row_routes a.pattern c.visit_at.new.row)) _ c.from_residual.result c.from_residual.ensures.1;
+      earned = no_value (λ b. AreEarned o a.slots.now (row_routes a.pattern c.visit_at.new.row)) _ c.from_residual.result c.from_residual.ensures.1;
+      counted = left.counted;
+      stepped = left.stepped;
+    }
+
+pub visit_only-returns : goal.visit_only-returns
+visit_only-returns g t c =
+    let a = c.args in
+    let o = offered a.offer.now in
+    let row : List Branch = a.row.now in
+    let node : Branch = node_at row 0 in
+    let now : Branch = node_at c.visit_at.new.row 0 in
+    let at = only_reached o a.slots.now a.pattern a.row.now a.count.now a.steps.now c.requires.one c.requires.sound c.requires.lead c.requires.free_left in
+    let e = c.visit_at.ensures in
+    let f = c.in_ok-found.ensures in
+    let longer : with_number a.slots.now a.pattern node.number ≡ c.with-longer.result = ap (with_number a.slots.now a.pattern) (sym c.number_at-number.ensures) ∙ sym c.with-longer.ensures in
+    let seen_too : nat_le o.oldest node.number ≡ true = ap (nat_le o.oldest) (sym c.number_at-number.ensures) ∙ sym c.sees.ensures ∙ c.if-not-sees.false in
+    let is : row ≡ node ∷ [] = only_node row c.requires.one in
+    let set_is : set row 0 now ≡ now ∷ [] = ap (λ (xs : List Branch). set xs 0 now) is in
+    let now_is : c.visit_at.new.row ≡ now ∷ [] = e.placed ∙ set_is in
+    let matches = ap (λ (s : Assignment). least (new_matches o s ([] ∷ seen o node.routes))) (sym longer) ∙ ap least (sym (matches_node o a.slots.now a.pattern node seen_too)) in
+    let routes_are : row_routes a.pattern row ≡ node_routes a.pattern node = ap (row_routes a.pattern) is ∙ append-nil (node_routes a.pattern node) in
+    let left = only_left g t (goal.at.visit_only-returns g t c).After-visit_at in
+    let here = earned_node o a.slots.now c.with-longer.result a.pattern node now c.in_ok-found.found e.number longer at.leads.lead f.best f.grows in
+    record {
+      sound = left.sound;
+      free_left = left.free_left;
+      numbers = left.numbers;
+      lasting = left.lasting;
+      best = f.best ∙ matches ∙ ap (λ (rs : List Route). least (new_matches o a.slots.now (seen o rs))) (sym routes_are);
+      grows = λ none.
+          let grown = subst (λ (s : Assignment). Grows o s (growing o s) node.routes now.routes) (sym longer) (f.grows none) in
+          let no_match = ap (λ (s : Assignment). least (new_matches o s ([] ∷ seen o node.routes))) longer ∙ sym f.best ∙ none in
+          let passed = passed_seen o a.slots.now a.pattern node now seen_too at.leads.less e.number e.ordered e.lasting grown no_match in
+          subst (λ (xs : List Branch). Grows o a.slots.now [] (row_routes a.pattern row) (row_routes a.pattern xs)) (sym now_is) (subst (λ (xs : List Branch). Grows o a.slots.now [] (row_routes a.pattern xs) (row_routes a.pattern (now ∷ []))) (sym is) passed.grows);
+      earned = subst (λ (xs : List Branch). AreEarned o a.slots.now (row_routes a.pattern xs)) (sym now_is) (all_both (IsEarned o a.slots.now) (node_routes a.pattern now) [] here tt);
+      counted = left.counted;
+      stepped = left.stepped;
+    }
+
+pub visit_nodes-next_place-place-requires-clause-rise : goal.visit_nodes-next_place-place-requires-clause-rise
+visit_nodes-next_place-place-requires-clause-rise g t c = c.requires.sound.rise
+
+pub visit_nodes-next_place-place-requires-clause-offered : goal.visit_nodes-next_place-place-requires-clause-offered
+visit_nodes-next_place-place-requires-clause-offered g t c = walked_offers c.args.row.now c.args.row.now 0 c.requires.lead refl refl
+
+pub visit_nodes-next_place-place-requires-clause-left : goal.visit_nodes-next_place-place-requires-clause-left
+visit_nodes-next_place-place-requires-clause-left g t c = c.looked_up-left.ensures
+
+pub visit_nodes-next_place-place-requires-clause-screen : goal.visit_nodes-next_place-place-requires-clause-screen
+visit_nodes-next_place-place-requires-clause-screen g t c =
     let a = c.args in
     let Is : List ℕ → Type 0 = λ ps. IfSome c.screen_of-screen.result (Screens (offered a.offer.now) a.slots.now a.pattern ps) in
     subst Is c.requires.wanted c.screen_of-screen.ensures
 
-pub visit_row-looked_up-left-requires : goal.visit_row-looked_up-left-requires
-visit_row-looked_up-left-requires g t c =
+pub visit_nodes-looked_up-left-requires : goal.visit_nodes-looked_up-left-requires
+visit_nodes-looked_up-left-requires g t c =
     let a = c.args in
     let Is : List ℕ → Type 0 = λ ps. IfSome c.screen_of-screen.result (Screens (offered a.offer.now) a.slots.now a.pattern ps) in
     record {
@@ -85,30 +281,31 @@ visit_row-looked_up-left-requires g t c =
       offered = walked_offers a.row.now a.row.now 0 c.requires.lead refl refl;
     }
 
-pub visit_row-loop-place-init : goal.visit_row-loop-place-init
-visit_row-loop-place-init g t c =
+pub visit_nodes-loop-place-init : goal.visit_nodes-loop-place-init
+visit_nodes-loop-place-init g t c =
     let a = c.args in
     let o = offered a.offer.now in
     let row : List Branch = a.row.now in
     let e = c.next_place-place.ensures in
     let steps : ℕ = c.next_place-place.new.steps in
-    let wanted = subst (λ (ps : List ℕ). 1 ≤ length ps) c.requires.wanted (omega (arith, c.len.ensures.count, c.if-len-eq0.false)) in
+    let wanted = subst (λ (ps : List ℕ). 1 ≤ length ps) c.requires.wanted c.requires.some in
     record {
       walked = walk_to o a.slots.now a.pattern row row a.count.now a.count.now a.steps.now c.requires.sound c.requires.lead c.requires.free_left wanted a.steps.now steps 0 c.next_place-place.result e.from e.within e.counted e.skipped (walk_first o a.slots.now a.pattern row a.count.now a.steps.now);
       seen = e.seen;
       numbers = refl;
       left = e.left;
+      earned = earned_lead o a.slots.now (row_routes a.pattern row) c.requires.lead;
     }
 
-pub visit_row-with-longer-requires : goal.visit_row-with-longer-requires
-visit_row-with-longer-requires g t c =
+pub visit_nodes-with-longer-requires : goal.visit_nodes-with-longer-requires
+visit_nodes-with-longer-requires g t c =
     let a = c.args in
     let within : c.loop-place.place < length c.loop-place.row = omega (arith, c.loop-place-test.true, c.len-end.ensures, c.loop-place.invariant.walked.long) in
     let at = reach c.requires.sound c.requires.lead c.requires.free_left c.loop-place.invariant.walked within (get_or_default c.loop-place.row c.loop-place.place (leaf 0) (node_at c.loop-place.row c.loop-place.place) within) in
     free_is_none a.slots.now a.pattern at.leads.free
 
-pub visit_row-visit_at-requires : goal.visit_row-visit_at-requires
-visit_row-visit_at-requires g t c =
+pub visit_nodes-visit_at-requires : goal.visit_nodes-visit_at-requires
+visit_nodes-visit_at-requires g t c =
     let a = c.args in
     let o = offered a.offer.now in
     let node : Branch = node_at c.loop-place.row c.loop-place.place in
@@ -240,8 +437,8 @@ visit_node-visit_rows-requires g t c =
 pub visit_node-returns-in-Inner-clause-ordered : goal.visit_node-returns-in-Inner-clause-ordered
 visit_node-returns-in-Inner-clause-ordered g t c = rows_ordered_behind 0 c.visit_rows.new.rows.items c.visit_rows.ensures.sound
 
-pub visit_row-returns-in_err-found : goal.visit_row-returns-in_err-found
-visit_row-returns-in_err-found g t c =
+pub visit_nodes-returns-in_err-found : goal.visit_nodes-returns-in_err-found
+visit_nodes-returns-in_err-found g t c =
     let a = c.args in
     let o = offered a.offer.now in
     let node : Branch = node_at c.loop-place.row c.loop-place.place in
@@ -261,12 +458,28 @@ visit_row-returns-in_err-found g t c =
       lasting = left_row.lasting;
       best = no_value (λ b. b ≡ least (new_matches o a.slots.now (seen o (row_routes a.pattern a.row.now)))) _ c.from_residual.result c.from_residual.ensures.1;
       grows = no_value (λ b. b ≡ None → Grows o a.slots.now [] (row_routes a.pattern a.row.now) (row_routes a.pattern c.visit_at.new.row)) _ c.from_residual.result c.from_residual.ensures.1;
+      earned = no_value (λ b. AreEarned o a.slots.now (row_routes a.pattern c.visit_at.new.row)) _ c.from_residual.result c.from_residual.ensures.1;
       counted = left_row.counted;
       stepped = left_row.stepped;
     }
 
-pub visit_row-returns-then-is_some : goal.visit_row-returns-then-is_some
-visit_row-returns-then-is_some g t c =
+-- the number was added to routes of the row only where some pattern may take it
+earned_now : (g : _) (t : _) (c : visit_nodes-In_ok-found g t) → AreEarned (offered c.args.offer.now) c.args.slots.now (row_routes c.args.pattern c.visit_at.new.row)
+earned_now g t c =
+    let a = c.args in
+    let o = offered a.offer.now in
+    let i : ℕ = c.loop-place.place in
+    let node : Branch = node_at c.loop-place.row i in
+    let now : Branch = node_at c.visit_at.new.row i in
+    let within : i < length c.loop-place.row = omega (arith, c.loop-place-test.true, c.len-end.ensures, c.loop-place.invariant.walked.long) in
+    let at = reach c.requires.sound c.requires.lead c.requires.free_left c.loop-place.invariant.walked within (get_or_default c.loop-place.row i (leaf 0) node within) in
+    let e = c.visit_at.ensures in
+    let longer : with_number a.slots.now a.pattern node.number ≡ c.with-longer.result = ap (with_number a.slots.now a.pattern) (sym c.number_at.ensures) ∙ sym c.with-longer.ensures in
+    let here = earned_node o a.slots.now c.with-longer.result a.pattern node now c.in_ok-found.found e.number longer at.leads.lead c.in_ok-found.ensures.best c.in_ok-found.ensures.grows in
+    subst (λ (xs : List Branch). AreEarned o a.slots.now (row_routes a.pattern xs)) (sym e.placed) (all_set (IsEarned o a.slots.now) a.pattern c.loop-place.row i now within c.loop-place.invariant.earned here)
+
+pub visit_nodes-returns-then-is_some : goal.visit_nodes-returns-then-is_some
+visit_nodes-returns-then-is_some g t c =
     let a = c.args in
     let o = offered a.offer.now in
     let node : Branch = node_at c.loop-place.row c.loop-place.place in
@@ -289,12 +502,13 @@ visit_row-returns-then-is_some g t c =
       lasting = left_row.lasting;
       best = found_first o a.slots.now a.pattern a.row.now c.loop-place.row c.loop-place.place node node c.in_ok-found.found some.0 at.before at.is c.requires.sound c.requires.lead c.loop-place.invariant.walked.passed some.1 best;
       grows = λ none. absurd (let e = sym some.1 ∙ none in cc);
+      earned = earned_now g t (goal.at.visit_nodes-returns-then-is_some g t c).In_ok-found;
       counted = left_row.counted;
       stepped = left_row.stepped;
     }
 
-pub visit_row-next_place-place-requires-in-loop-place-clause-offered : goal.visit_row-next_place-place-requires-in-loop-place-clause-offered
-visit_row-next_place-place-requires-in-loop-place-clause-offered g t c =
+pub visit_nodes-next_place-place-requires-in-loop-place-clause-offered : goal.visit_nodes-next_place-place-requires-in-loop-place-clause-offered
+visit_nodes-next_place-place-requires-in-loop-place-clause-offered g t c =
     let a = c.args in
     let i : ℕ = c.loop-place.place in
     let before = c.loop-place.row in
@@ -306,19 +520,19 @@ visit_row-next_place-place-requires-in-loop-place-clause-offered g t c =
     walked_offers a.row.now now (i + 1) c.requires.lead long left
 
 -- the numbers of the row are as they were
-numbers_now : (g : _) (t : _) (c : visit_row-After-visit_at g t) → map (λ node. node.number) c.visit_at.new.row ≡ map (λ node. node.number) c.args.row.now
+numbers_now : (g : _) (t : _) (c : visit_nodes-After-visit_at g t) → map (λ node. node.number) c.visit_at.new.row ≡ map (λ node. node.number) c.args.row.now
 numbers_now g t c =
     let i : ℕ = c.loop-place.place in
     let e = c.visit_at.ensures in
     ap (λ (xs : List Branch). map (λ (node : Branch). node.number) xs) e.placed ∙ numbers_set c.loop-place.row i (node_at c.visit_at.new.row i) e.number ∙ c.loop-place.invariant.numbers
 
-pub visit_row-next_place-place-requires-in-loop-place-clause-rise : goal.visit_row-next_place-place-requires-in-loop-place-clause-rise
-visit_row-next_place-place-requires-in-loop-place-clause-rise g t c =
-    let at = (goal.at.visit_row-next_place-place-requires-in-loop-place-clause-rise g t c).After-visit_at in
+pub visit_nodes-next_place-place-requires-in-loop-place-clause-rise : goal.visit_nodes-next_place-place-requires-in-loop-place-clause-rise
+visit_nodes-next_place-place-requires-in-loop-place-clause-rise g t c =
+    let at = (goal.at.visit_nodes-next_place-place-requires-in-loop-place-clause-rise g t c).After-visit_at in
     subst Rise (sym (numbers_now g t at)) c.requires.sound.rise
 
-pub visit_row-next_place-place-requires-in-loop-place-clause-left : goal.visit_row-next_place-place-requires-in-loop-place-clause-left
-visit_row-next_place-place-requires-in-loop-place-clause-left g t c =
+pub visit_nodes-next_place-place-requires-in-loop-place-clause-left : goal.visit_nodes-next_place-place-requires-in-loop-place-clause-left
+visit_nodes-next_place-place-requires-in-loop-place-clause-left g t c =
     let a = c.args in
     let i : ℕ = c.loop-place.place in
     let before = c.loop-place.invariant in
@@ -327,8 +541,8 @@ visit_row-next_place-place-requires-in-loop-place-clause-left g t c =
     let same = ap (λ (xs : List Branch). map (λ (node : Branch). node.number) xs) e.placed ∙ numbers_set c.loop-place.row i (node_at c.visit_at.new.row i) e.number in
     left_alike (offered a.offer.now) a.slots.now a.pattern c.loop-place.row c.visit_at.new.row (i + 1) same c.loop-place.left (before.left within)
 
-pub visit_row-loop-place-preserved : goal.visit_row-loop-place-preserved
-visit_row-loop-place-preserved g t c =
+pub visit_nodes-loop-place-preserved : goal.visit_nodes-loop-place-preserved
+visit_nodes-loop-place-preserved g t c =
     let a = c.args in
     let o = offered a.offer.now in
     let i : ℕ = c.loop-place.place in
@@ -350,12 +564,13 @@ visit_row-loop-place-preserved g t c =
     let on = subst Walks (sym e.placed) (go_on now c.visit_at.new.count c.visit_at.new.steps walked at here opens e.counted stepped) in
     let p = c.next_place-place-in-loop-place.ensures in
     let steps : ℕ = c.next_place-place-in-loop-place.new.steps in
-    let wanted = subst (λ (ps : List ℕ). 1 ≤ length ps) c.requires.wanted (omega (arith, c.len.ensures.count, c.if-len-eq0.false)) in
+    let wanted = subst (λ (ps : List ℕ). 1 ≤ length ps) c.requires.wanted c.requires.some in
     record {
       walked = walk_to o a.slots.now a.pattern a.row.now c.visit_at.new.row a.count.now c.visit_at.new.count a.steps.now c.requires.sound c.requires.lead c.requires.free_left wanted c.visit_at.new.steps steps (i + 1) c.next_place-place-in-loop-place.result p.from (omega (arith, p.within, on.long)) p.counted p.skipped on;
       seen = p.seen;
-      numbers = numbers_now g t (goal.at.visit_row-loop-place-preserved g t c).After-visit_at;
+      numbers = numbers_now g t (goal.at.visit_nodes-loop-place-preserved g t c).After-visit_at;
       left = p.left;
+      earned = earned_now g t (goal.at.visit_nodes-loop-place-preserved g t c).In_ok-found;
     }
 
 pub visit_each-best_match-best-requires-clause-may : goal.visit_each-best_match-best-requires-clause-may
@@ -388,7 +603,7 @@ visit_each-visit_row-requires g t c =
         (
           c.requires.can,
           (
-            c.without-others.ensures ∙ ap (filter (λ p. not (p == i))) c.requires.able,
+            c.requires.able,
             (
               subst (λ (xs : List Branch). IsSoundRow xs) (sym is) (all_at IsSoundRow first i d in_rows c.requires.sound),
               (subst (λ (xs : List Branch). LeadOn o a.slots.now (row_routes i xs)) (sym is) (subst Lead (zero-add i) lead), subst (λ (xs : List Branch). AreOpen a.slots.now (row_routes i xs)) (sym is) (subst Open (zero-add i) opens)),
@@ -410,6 +625,7 @@ visit_each-loop-place-init g t c =
       left = refl;
       best = c.best_match-best.ensures ∙ ap (λ (ps : List ℕ). least (matches_of o a.slots.now ps)) c.requires.able ∙ ap least (sym (append-nil (matches_at o a.slots.now)));
       grows = λ none. grows_none o a.slots.now;
+      earned = tt;
       counted = refl;
       stepped = omega arith;
     }
@@ -439,10 +655,11 @@ visit_each-loop-place-preserved g t c =
       lasts = (lasts_on first items i row now d in_rows in_items is o.number c.loop-place.invariant.lasts e.lasting);
       opens = (subst (AreOpen a.slots.now) (sym (now_routes first items i row now d in_rows in_items is)) (all_both (IsOpen a.slots.now) (rows_routes 0 (take i items)) (row_routes i now) c.loop-place.invariant.opens e.free_left));
       left = drop-set-lt (i + 1) items i now (omega arith) ∙ left_more items first i c.loop-place.invariant.left;
-      best = c.better-best.ensures ∙ best_on first items i row now d in_rows in_items is o a.slots.now c.loop-place.best c.in_ok-found.found c.loop-place.invariant.best e.best;
+      best = c.better_found-best.ensures ∙ best_on first items i row now d in_rows in_items is o a.slots.now c.loop-place.best c.in_ok-found.found c.loop-place.invariant.best e.best;
       grows = λ none.
-          let both = lesser_none c.loop-place.best c.in_ok-found.found (sym c.better-best.ensures ∙ none) in
+          let both = lesser_none c.loop-place.best c.in_ok-found.found (sym c.better_found-best.ensures ∙ none) in
           (grows_on first items i row now d in_rows in_items is o a.slots.now (c.loop-place.invariant.grows both.0) (e.grows both.1));
+      earned = subst (AreEarned o a.slots.now) (sym (now_routes first items i row now d in_rows in_items is)) (all_both (IsEarned o a.slots.now) (rows_routes 0 (take i items)) (row_routes i now) c.loop-place.invariant.earned e.earned);
       counted = omega (arith, c.loop-place.invariant.counted, e.counted, counts.0, counts.1);
       stepped = omega (arith, c.loop-place.invariant.stepped, e.stepped, tried_on);
     }
@@ -467,6 +684,7 @@ visit_each-returns g t c =
       lasting = subst (λ (rs : List Route). Lasts o.number rs (rows_routes 0 R)) old_routes (subst (λ (rs : List Route). Lasts o.number (rows_routes 0 (take i B)) rs) now_routes' inv.lasts);
       best = inv.best ∙ ap (λ (rs : List Route). least (new_matches o a.slots.now ([] ∷ seen o rs))) old_routes;
       grows = λ none. subst (λ (rs : List Route). Grows o a.slots.now [] rs (rows_routes 0 R)) old_routes (subst (λ (rs : List Route). Grows o a.slots.now [] (rows_routes 0 (take i B)) rs) now_routes' (inv.grows none));
+      earned = subst (AreEarned o a.slots.now) now_routes' inv.earned;
       counted = omega (arith, inv.counted, ap (λ (rs : List Route). length rs) old_routes, ap (λ (rs : List Route). length rs) now_routes');
       stepped = omega (arith, inv.stepped, ap (tries_behind o a.slots.now) old_routes);
     }
@@ -498,6 +716,7 @@ visit_each-returns-in_err-found g t c =
       lasting = lasts_all first items i row now d in_rows in_items is o a.slots.now left c.requires.lead c.loop-place.invariant.lasts c.visit_row.ensures.lasting;
       best = no_value (λ b. b ≡ least (new_matches o a.slots.now ([] ∷ seen o (rows_routes 0 first)))) _ c.from_residual.result c.from_residual.ensures.1;
       grows = no_value (λ b. b ≡ None → Grows o a.slots.now [] (rows_routes 0 first) (rows_routes 0 (set items i now))) _ c.from_residual.result c.from_residual.ensures.1;
+      earned = no_value (λ b. AreEarned o a.slots.now (rows_routes 0 (set items i now))) _ c.from_residual.result c.from_residual.ensures.1;
       counted = omega (arith, c.loop-place.invariant.counted, c.visit_row.ensures.counted);
       stepped = omega (arith, c.loop-place.invariant.stepped, c.visit_row.ensures.stepped, tries_rows_most first items i row now d in_rows in_items is o a.slots.now);
     }
@@ -515,6 +734,9 @@ visit_rows-returns-then-len-eq0-clause-grows g t c =
     let o = offered a.offer.now in
     let none = sym (c.takers-able.ensures.answer ∙ c.requires.wanted) ∙ nil_from_length c.takers-able.result (sym c.len.ensures.count ∙ c.if-len-eq0.true) in
     λ e. nothing_grows o a.slots.now (rows_routes 0 a.rows.now.items) none c.requires.lead
+
+pub visit_rows-returns-then-len-eq0-clause-earned : goal.visit_rows-returns-then-len-eq0-clause-earned
+visit_rows-returns-then-len-eq0-clause-earned g t c = λ some. absurd (some refl)
 
 pub visit_rows-returns-then-len-eq0-clause-lasting : goal.visit_rows-returns-then-len-eq0-clause-lasting
 visit_rows-returns-then-len-eq0-clause-lasting g t c = lead_lasts (offered c.args.offer.now) c.args.slots.now (rows_routes 0 c.args.rows.now.items) c.requires.lead
@@ -598,6 +820,7 @@ visit_rows-returns-in_err-best g t c =
       lasting = v.lasting;
       best = no_value (λ b. b ≡ least (new_matches o a.slots.now ([] ∷ seen o (routes a.rows.now.items)))) _ c.from_residual.result c.from_residual.ensures.1;
       grows = no_value (λ b. b ≡ None → Grows o a.slots.now (growing o a.slots.now) (routes a.rows.now.items) (routes (take a.rows.now.len (after ++ drop (length after) a.rows.now.items)))) _ c.from_residual.result c.from_residual.ensures.1;
+      earned = no_value (λ b. b ≢ None → AreEarned o a.slots.now (routes (take a.rows.now.len (after ++ drop (length after) a.rows.now.items)))) _ c.from_residual.result c.from_residual.ensures.1;
       counted = v.counted;
       stepped = v.stepped;
     }
@@ -613,6 +836,7 @@ visit_rows-returns-then-is_some g t c =
       lasting = v.lasting;
       best = visited_best g t (goal.at.visit_rows-returns-then-is_some g t c).In_ok-best;
       grows = λ none. absurd (let k = sym some.1 ∙ none in cc);
+      earned = λ _. subst (λ (xs : List (List Branch)). AreEarned (offered c.args.offer.now) c.args.slots.now (rows_routes 0 xs)) (sym v.is) c.in_ok-best.ensures.earned;
       counted = v.counted;
       stepped = v.stepped;
     }
@@ -640,6 +864,7 @@ visit_rows-returns-then-not-begin g t c =
       lasting = b.lasting ∙ v.lasting;
       best = tt;
       grows = tt;
+      earned = tt;
       counted = omega (arith, v.counted, b.counted);
       stepped = v.stepped;
     }
@@ -662,6 +887,7 @@ visit_rows-returns g t c =
       lasting = b.lasting ∙ v.lasting;
       best = sym none ∙ visited_best g t (goal.at.visit_rows-returns g t c).In_ok-best;
       grows = λ _. grows_begun o a.slots.now (growing o a.slots.now) (routes a.rows.now.items) (routes (take a.rows.now.len (after ++ drop (length after) a.rows.now.items))) (routes c.begin.new.rows.items) grown (b.begins c.if-not-begin.false);
+      earned = λ some. absurd (some refl);
       counted = omega (arith, v.counted, b.counted);
       stepped = v.stepped;
     }

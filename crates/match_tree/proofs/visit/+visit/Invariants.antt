@@ -1,7 +1,7 @@
 use Rattle.std.proofs.Common.{◌≡◌, ◌<◌, true, nat_le, ◌+◌, ◌-◌, ◌*◌, ◌≤◌, [], ◌∷◌, length, take, drop, map, None}
 use Rattle.pattern_core.specs.Choice.{least}
 use Rattle.match_tree.specs.declared.node.Node.TheDeep.{size-Node}
-use Rattle.match_tree.specs.Routes.{rows_routes}
+use Rattle.match_tree.specs.Routes.{row_routes, rows_routes}
 use Rattle.match_tree.specs.Rows.{node_at}
 use Rattle.match_tree.specs.Offers.{seen, new_matches}
 use Rattle.match_tree.specs.Below.{AreOpen}
@@ -9,7 +9,7 @@ use Rattle.std.specs.Prelude.{IfSome}
 use Rattle.match_tree.specs.Look.{HasLeft}
 use Rattle.match_tree.specs.Offering.{offered}
 use Rattle.match_tree.specs.Order.{AreSound}
-use Rattle.match_tree.specs.Growth.{Lasts, Grows}
+use Rattle.match_tree.specs.Growth.{AreEarned, Lasts, Grows}
 use Rattle.match_tree.specs.Begins.{AreLess}
 use Rattle.match_tree.specs.Tries.{tries_behind}
 use Rattle.match_tree.proofs.SkipLemmas.{Walked}
@@ -25,6 +25,12 @@ decreases-visit_each g l = 4 * goal.size-visit_each g l + 2
 abbrev pub decreases-visit_row : goal.decreases-visit_row
 decreases-visit_row g l = 4 * goal.size-visit_row g l + 1
 
+abbrev pub decreases-visit_only : goal.decreases-visit_only
+decreases-visit_only g l = 4 * goal.size-visit_only g l
+
+abbrev pub decreases-visit_nodes : goal.decreases-visit_nodes
+decreases-visit_nodes g l = 4 * goal.size-visit_nodes g l
+
 -- a row may have grown before the place, so the node there counts alone
 abbrev pub decreases-visit_at : goal.decreases-visit_at
 decreases-visit_at g l = 4 * size-Node (node_at l.row.now l.place) + 1
@@ -34,12 +40,13 @@ decreases-visit_node g l = 4 * goal.size-visit_node g l
 
 -- the nodes so far were passed without a match, the others are as they were, and the definition sees the next; what is left of a
 -- look-up has the numbers behind that
-abbrev pub invariant-visit_row-loop-place : goal.invariant-visit_row-loop-place
-invariant-visit_row-loop-place g l = record {
+abbrev pub invariant-visit_nodes-loop-place : goal.invariant-visit_nodes-loop-place
+invariant-visit_nodes-loop-place g l = record {
   walked : Walked (offered l.offer) l.slots l.pattern l.initial.row l.row l.initial.count l.count l.fn.steps l.steps l.place;
   seen : l.place < length l.row → nat_le l.offer.oldest (node_at l.row l.place).number ≡ true;
   numbers : map (λ node. node.number) l.row ≡ map (λ node. node.number) l.initial.row;
   left : l.place < length l.row → IfSome l.left (HasLeft (offered l.offer) l.slots l.pattern l.row (l.place + 1));
+  earned : AreEarned (offered l.offer) l.slots (row_routes l.pattern l.row);
 }
 
 -- the rows so far were visited, and the others are as they were
@@ -52,9 +59,10 @@ invariant-visit_each-loop-place g l = record {
   left : drop l.place l.rows ≡ drop l.place l.initial.rows;
   best : l.best ≡ least (new_matches (offered l.offer) l.slots ([] ∷ seen (offered l.offer) (rows_routes 0 (take l.place l.initial.rows))));
   grows : l.best ≡ None → Grows (offered l.offer) l.slots [] (rows_routes 0 (take l.place l.initial.rows)) (rows_routes 0 (take l.place l.rows));
+  earned : AreEarned (offered l.offer) l.slots (rows_routes 0 (take l.place l.rows));
   counted : l.count + length (rows_routes 0 (take l.place l.initial.rows)) ≡ l.initial.count + length (rows_routes 0 (take l.place l.rows));
   stepped : l.steps ≤ l.initial.steps + tries_behind (offered l.offer) l.slots (rows_routes 0 (take l.place l.initial.rows));
 }
 
-abbrev pub decreases-visit_row-loop-place : goal.decreases-visit_row-loop-place
-decreases-visit_row-loop-place g l = l.end - l.place
+abbrev pub decreases-visit_nodes-loop-place : goal.decreases-visit_nodes-loop-place
+decreases-visit_nodes-loop-place g l = l.end - l.place

@@ -1,0 +1,43 @@
+use Rattle.std.proofs.Common.{◌≡◌, ◌∙◌, ◌<◌, ◌^◌, ◌∷◌, [], ℕ, List, length, map, ap, sym, subst}
+use Rattle.std.specs.declared.collections.VecDeque.{VecDeque}
+use Rattle.std.specs.declared.alloc.Global.{Global}
+use Rattle.std.specs.List.{AllByRecursion}
+use Rattle.match_tree.specs.declared.node.Node.{Node}
+use Rattle.match_tree.specs.declared.row.Row.TheInside.{Inside}
+use Rattle.match_tree.specs.Shapes.{branches}
+use Rattle.match_tree.specs.Routes.{Branch, node_routes, row_routes}
+use Rattle.match_tree.specs.Offering.{offered}
+use Rattle.match_tree.specs.Order.{IsSoundRow}
+use Rattle.match_tree.specs.Pruned.{AreShort, pruned}
+use Rattle.match_tree.specs.Thinned.{AreVisited}
+use Rattle.match_tree.proofs.LeafLemmas.{leaves_kept}
+use Rattle.match_tree.proofs.by_value.take_back_behind.Goals as goal
+use Rattle.match_tree.proofs.by_value.take_back_behind.Goals.{in-Empty, in-One, in-Leaves, in-Mixed}
+
+pub take_back_nodes-requires : goal.take_back_nodes-requires
+take_back_nodes-requires c =
+    let a = c.args in
+    let is : c.in-Mixed.nodes.value.items ≡ a.row.now = sym (ap branches c.in-Mixed.is) ∙ c.row.view_is in
+    let same : a.row.now ≡ c.deref_mut.result.now.items = sym (ap (λ (v : VecDeque Node Global). v.items) c.deref_mut.ensures.value ∙ is) in
+    let at : (P : List Branch → Type 0) → P a.row.now → P c.deref_mut.result.now.items = λ P p. subst P same p in
+    record {
+      can = c.requires.can;
+      visited = at (λ xs. AllByRecursion (λ node. AreVisited (offered a.offer.now) a.slots.now (node_routes a.pattern node)) xs) c.requires.visited;
+      few = at (λ xs. length (row_routes 0 xs) < 2 ^ 64) c.requires.few;
+      sound = at (λ xs. IsSoundRow xs) c.requires.sound;
+      short = at (λ xs. AllByRecursion (λ node. AreShort a.levels node.routes) xs) c.requires.short;
+    }
+
+pub returns-clause-left : goal.returns-clause-left
+returns-clause-left c =
+    let row = c.args.row.now in
+    let numbers : List ℕ = c.args.offer.now.number ∷ [] in
+    let seen : Inside → List Branch = λ x. branches x.nodes in
+    elim c.match-row.branch [
+      | in-Empty w ↦ ap seen w.row-inside-is ∙ c.row.view_is ∙ leaves_kept numbers [] row (sym c.row.view_is ∙ ap branches w.in-Empty.is)
+      | in-One w ↦ ap seen w.row-inside-is ∙ c.row.view_is ∙ leaves_kept numbers (w.in-One.field-0 ∷ []) row (sym c.row.view_is ∙ ap branches w.in-One.is)
+      | in-Leaves w ↦ ap seen w.row-inside-is ∙ c.row.view_is ∙ leaves_kept numbers w.in-Leaves.field-0.value.items row (sym c.row.view_is ∙ ap branches w.in-Leaves.is)
+      | in-Mixed w ↦
+          let is : w.deref_mut.result.now.items ≡ row = ap (λ (v : VecDeque Node Global). v.items) w.deref_mut.ensures.value ∙ sym (ap branches w.in-Mixed.is) ∙ c.row.view_is in
+          ap seen w.row-inside-is ∙ w.take_back_nodes.ensures.left ∙ ap (map (pruned numbers)) is
+    ]
