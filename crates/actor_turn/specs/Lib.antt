@@ -1,7 +1,9 @@
 -- what the claims are made of
+pub mod Counts
 pub mod Held
 pub mod Rest
 -- what private functions compute
+pub mod Firings
 pub mod Indexed
 pub mod Inside
 pub mod Outbox

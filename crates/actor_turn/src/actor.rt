@@ -9,9 +9,11 @@ ghost use Rattle.script_types.specs.Typed.{IsTyped};
 ghost use Rattle.fair_semantics.specs.Step.{fair_step, is_running};
 ghost use Rattle.fair_semantics.specs.Fair.{partials_of, run_of, setting_of};
 ghost use Rattle.fair_semantics.specs.Fits.{RuleFits};
+ghost use Rattle.actor_turn.specs.Counts.{fired_among, posts_among};
 ghost use Rattle.actor_turn.specs.Rest.{HoldsPartialMatches, NoMatchWaits};
 ghost use Rattle.actor_turn.specs.Held.{AreLimits, IsArrival, entry_effects, entry_source, first_of, history_with, is_taken, new_actor, new_entries, posts_behind, posts_for, tries_for, with_first, without_first};
 
+use crate::firings::Firings;
 use crate::fit::fits;
 use crate::indexed::{empty_ended, index_of, remove_taken};
 use crate::opening::{copy_rules, kind_sorts, outboxes_of, trees_of};
@@ -42,8 +44,7 @@ pub struct Actor {
     trees: Vec<MatchTree>,
     // The unconsumed numbers by the values of their messages.
     index: ValueIndex,
-    // What each arrival fired, if it did.
-    firings: Vec<Fired>,
+    firings: Firings,
     ending: Ending,
     // The posts that wait for each actor of the plan.
     outboxes: Vec<Outbox>,
@@ -111,7 +112,7 @@ impl Actor {
             mail,
             trees,
             index,
-            firings: Vec::new(alloc),
+            firings: Firings::new(alloc),
             ending: Ending::Running,
             outboxes,
             entries: Vec::new(alloc),
@@ -274,7 +275,7 @@ impl Actor {
             let Ok(()) = self.index.insert(self.mail.messages(), number) else {
                 return Err(give_up(&mut self.mail, &mut self.trees));
             };
-            self.firings.push(Fired::none()).unwrap();
+            self.firings.push(Fired::none());
             let most = self.limits.partials;
             let outcome = keep(
                 &mut self.mail,
@@ -301,7 +302,7 @@ impl Actor {
                 let taken = firing.taken.as_slice();
                 remove_taken(&mut self.index, self.mail.messages(), taken);
                 empty_ended(&mut self.index, self.ending);
-                self.firings.push(Fired::from_box(firing)).unwrap();
+                self.firings.push(Fired::from_box(firing));
                 Ok(Outcome::Fired)
             }
             Err(NoMemory) => Err(give_up(&mut self.mail, &mut self.trees)),
@@ -345,6 +346,20 @@ impl Actor {
         ensures fired { result.now ≡ map (λ entry. entry.firing) self.now.state.entries }
     {
         self.firings.as_slice()
+    }
+
+    /// How many of the recorded arrivals fired. It is kept as they come.
+    pub fn fired_count(&self) -> u32
+        ensures count { result ≡ fired_among (map (λ entry. entry.firing) self.now.state.entries) }
+    {
+        self.firings.fired_count()
+    }
+
+    /// How many posts the bodies made, or the last number of 64 bits. It is kept as they come.
+    pub fn post_count(&self) -> u64
+        ensures count { result ≡ posts_among (map (λ entry. entry.firing) self.now.state.entries) }
+    {
+        self.firings.post_count()
     }
 
     /// The source of an arrival.
@@ -411,7 +426,7 @@ impl Actor {
         drop(outboxes);
         let parts = mail.into_parts();
         ActorRun {
-            entries: into_entries(parts.messages, parts.marks, firings, entries),
+            entries: into_entries(parts.messages, parts.marks, firings.into_vec(), entries),
             late: parts.late,
             ending,
             left: parts.left,

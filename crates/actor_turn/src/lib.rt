@@ -12,6 +12,7 @@
 
 mod actor;
 mod body;
+mod firings;
 mod fit;
 mod indexed;
 mod opening;
@@ -24,5 +25,6 @@ mod step;
 mod texts;
 
 pub use actor::Actor;
+pub use firings::count_posts;
 pub use refused::Refused;
 pub use room::give_room_back;

@@ -1,8 +1,9 @@
 //! The entries of a run.
-ghost use Rattle.std.specs.Prelude.{◌≡◌, ◌+◌, ◌≤◌, [], OnOk, length, vec_capacity, vec_len};
+ghost use Rattle.std.specs.Prelude.{◌≡◌, ◌+◌, ◌≤◌, [], OnOk, length, vec_capacity};
 ghost use Rattle.mailbox_core.specs.Mail.{received_of};
 ghost use Rattle.actor_turn.specs.Parts.{entries_of};
 
+use crate::firings::Firings;
 use crate::room::give_room_back;
 use fair_semantics::{Entry, Fired};
 use join_base::{Items, Message, NoMemory};
@@ -18,7 +19,7 @@ const GROWN: usize = 1024;
 /// memory.
 pub fn reserve_entry(
     alloc: Global,
-    firings: &mut Vec<Fired>,
+    firings: &mut Firings,
     entries: &mut Vec<Entry>,
     arrivals: usize,
 ) -> Result<(), NoMemory>
@@ -26,12 +27,12 @@ pub fn reserve_entry(
     requires empty { entries.old.items ≡ [] }
 
     ensures firings { firings.new.items ≡ firings.old.items }
-    ensures one { OnOk result (vec_len firings.new + 1 ≤ vec_capacity firings.new) }
+    ensures one { OnOk result (length firings.new.items + 1 ≤ firings.new.room) }
     ensures entries { entries.new.items ≡ [] }
     ensures room { OnOk result (arrivals + 1 ≤ vec_capacity entries.new) }
     ensures kept { vec_capacity entries.old ≤ vec_capacity entries.new }
 {
-    firings.reserve(1)?;
+    firings.reserve_one()?;
     if entries.capacity() > arrivals {
         return Ok(());
     }

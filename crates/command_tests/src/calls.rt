@@ -1,6 +1,6 @@
 //! Calls of the top call over files and a sink in memory.
 use join_base::{Bytes, MemoryInputs, MemorySink, NoMemory, Word, WordList};
-use join_command::{Counted, FreeGate, Gate, Status, join_main};
+use join_command::{Counted, FreeGate, Gate, NoView, Status, join_main};
 use std::alloc::Global;
 use std::sync::Wait;
 use std::thread::Threads;
@@ -38,7 +38,7 @@ fn carry_out<R: Threads + Wait + Sync, G: Gate>(
 ) -> Result<(Status, MemorySink), NoMemory> {
     let words = words_of(alloc, texts)?;
     let mut out = Counted::new(sink);
-    let status = join_main(rt, alloc, &words, inputs, &mut out, gate);
+    let status = join_main(rt, alloc, &words, inputs, &mut out, gate, &mut NoView);
     Ok((status, out.into_sink()))
 }
 

@@ -1,7 +1,7 @@
 //! One example.
 
 use join_base::{Bytes, FetchFault, Inputs, MemorySink, NoMemory, Word, WordList};
-use join_command::{Counted, FreeGate, Status, join_main};
+use join_command::{Counted, FreeGate, NoView, Status, join_main};
 use std::alloc::Global;
 use std::rt::Files;
 use std::sync::Wait;
@@ -50,7 +50,15 @@ pub fn answer_to<R: Files + Threads + Wait + Sync>(
     let words = words_of(alloc, texts)?;
     let mut out = Counted::new(MemorySink::new(alloc, ROOM, ROOM)?);
     let mut inputs = FileInputs::new(rt);
-    let status = join_main(rt, alloc, &words, &mut inputs, &mut out, &FreeGate);
+    let status = join_main(
+        rt,
+        alloc,
+        &words,
+        &mut inputs,
+        &mut out,
+        &FreeGate,
+        &mut NoView,
+    );
     Ok((status, out.into_sink()))
 }
 

@@ -43,3 +43,4 @@ pub use replay::MAX_LOG;
 pub use status::Status;
 pub use stop::{LogCause, Refusal, Stop};
 pub use top::{Unanswered, join_main};
+pub use watch_run::{NoView, View};

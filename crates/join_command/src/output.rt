@@ -36,6 +36,7 @@ use std::alloc::Global;
 use std::mem;
 use std::sync::Wait;
 use std::thread::Threads;
+use watch_run::View;
 
 // These bytes.
 fn text_of(alloc: Global, text: &[u8]) -> Result<Bytes, NoMemory>
@@ -303,12 +304,14 @@ fn text_of_findings(alloc: Global, plan: &Plan) -> Result<Bytes, NoMemory>
     Ok(bytes)
 }
 
-/// The status of a reply, and what is written for it. It may wait where the reply is a run.
-pub fn output_of<R: Threads + Wait + Sync, G: Gate>(
+/// The status of a reply, and what is written for it. It may wait where the reply is a run. The view is shown the totals
+/// of a run that is watched.
+pub fn output_of<R: Threads + Wait + Sync, G: Gate, V: View<R> + Sync>(
     rt: &R,
     alloc: Global,
     reply: Reply,
     gate: &G,
+    view: &mut V,
 ) -> Result<(Status, Bytes), NoMemory>
     requires runnable { IsRunnable reply }
     ensures output { IfOk result (λ p. IsOutput (verdict_of reply) p.0 p.1) }
@@ -332,7 +335,7 @@ pub fn output_of<R: Threads + Wait + Sync, G: Gate>(
             options,
             feeds,
             monitors,
-        } => watch_output(rt, alloc, &plan, options, feeds, gate, monitors),
+        } => watch_output(rt, alloc, &plan, options, feeds, gate, monitors, view),
         Reply::Load { rows } => load_output(rt, alloc, rows, gate),
         Reply::Accepted(arrivals) => Ok((Status::Done, accepted_line(alloc, arrivals)?)),
     }

@@ -21,6 +21,7 @@ use join_base::{Bytes, Inputs, NoMemory, WordList};
 use std::alloc::Global;
 use std::sync::Wait;
 use std::thread::Threads;
+use watch_run::View;
 
 /// Why nothing is to be written.
 #[derive(Clone, Copy, PartialEq, Eq, Debug)]
@@ -42,12 +43,13 @@ impl From<NoMemory> for Unanswered {
 }
 
 // What is to be written for a command and its files.
-fn prepare_command<R: Threads + Wait + Sync, I: Inputs, G: Gate>(
+fn prepare_command<R: Threads + Wait + Sync, I: Inputs, G: Gate, V: View<R> + Sync>(
     rt: &R,
     alloc: Global,
     command: &Request<'_>,
     inputs: &mut I,
     gate: &G,
+    view: &mut V,
 ) -> Result<(Status, Bytes), Unanswered>
     requires in_range { IsInRange (command_in command.now) }
     ensures told { Tells (I.tells inputs.old) (I.tells inputs.new) (λ before now. PreparesCommand
@@ -56,7 +58,7 @@ fn prepare_command<R: Threads + Wait + Sync, I: Inputs, G: Gate>(
     ensures settled { IfOk result (λ p. IsSettled p.0) }
 {
     match reply_of(alloc, command, inputs) {
-        Ok(reply) => match output_of(rt, alloc, reply, gate) {
+        Ok(reply) => match output_of(rt, alloc, reply, gate, view) {
             Ok(output) => Ok(output),
             Err(_) => Err(Unanswered::NoMemory),
         },
@@ -70,12 +72,13 @@ fn prepare_command<R: Threads + Wait + Sync, I: Inputs, G: Gate>(
 }
 
 // What is to be written for the words and the files.
-fn prepare<R: Threads + Wait + Sync, I: Inputs, G: Gate>(
+fn prepare<R: Threads + Wait + Sync, I: Inputs, G: Gate, V: View<R> + Sync>(
     rt: &R,
     alloc: Global,
     words: &WordList,
     inputs: &mut I,
     gate: &G,
+    view: &mut V,
 ) -> Result<(Status, Bytes), Unanswered>
     ensures told { Tells (I.tells inputs.old) (I.tells inputs.new) (λ before now. Prepares words.now
         before now result) }
@@ -85,7 +88,7 @@ fn prepare<R: Threads + Wait + Sync, I: Inputs, G: Gate>(
     ensures read { command_of words.now ≡ None → result ≢ Err Unanswered.ReadFault }
 {
     match command_of(alloc, words) {
-        Ok(Some(command)) => prepare_command(rt, alloc, &command, inputs, gate),
+        Ok(Some(command)) => prepare_command(rt, alloc, &command, inputs, gate, view),
         Ok(None) => match usage_line(alloc) {
             Ok(line) => Ok((Status::Usage, line)),
             Err(_) => Err(Unanswered::NoMemory),
@@ -121,13 +124,14 @@ fn prepare<R: Threads + Wait + Sync, I: Inputs, G: Gate>(
 ///
 /// Each worker enters the gate just before it tries for an actor. The call may wait, and where it runs a script it
 /// waits for its threads. The memory of a run that was written stays taken until the program ends.
-pub fn join_main<R: Threads + Wait + Sync, I: Inputs, S: CountingSink, G: Gate>(
+pub fn join_main<R: Threads + Wait + Sync, I: Inputs, S: CountingSink, G: Gate, V: View<R> + Sync>(
     rt: &R,
     alloc: Global,
     words: &WordList,
     inputs: &mut I,
     out: &mut S,
     gate: &G,
+    view: &mut V,
 ) -> Status
     // The status and the bytes written are those of the verdict on the words and the files. For a run they are the log
     // of a run that is linked to the posts of the feeds and is that of one schedule of single steps, for `ask` such a
@@ -163,7 +167,7 @@ pub fn join_main<R: Threads + Wait + Sync, I: Inputs, S: CountingSink, G: Gate>(
 {
     // It costs nothing, and completeness rests on it.
     one_verdict();
-    match prepare(rt, alloc, words, inputs, gate) {
+    match prepare(rt, alloc, words, inputs, gate, view) {
         Ok((status, output)) => match write_all(out, output.bytes()) {
             Ok(()) => status,
             Err(_) => Status::WriteFault,

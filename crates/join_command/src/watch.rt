@@ -21,10 +21,11 @@ use std::alloc::Global;
 use std::mem;
 use std::sync::Wait;
 use std::thread::Threads;
-use watch_run::{NoView, print_board, run_watched};
+use watch_run::{View, print_board, run_watched};
 
-// The run of the plan on its feeds, as `run_feeds` gives it, which so many monitors watch, and the board of its totals.
-fn watch_feeds<R: Threads + Wait + Sync, G: Gate>(
+// The run of the plan on its feeds, as `run_feeds` gives it, which so many monitors watch and show the view, and the
+// board of its totals.
+fn watch_feeds<R: Threads + Wait + Sync, G: Gate, V: View<R> + Sync>(
     rt: &R,
     alloc: Global,
     plan: &Plan,
@@ -32,6 +33,7 @@ fn watch_feeds<R: Threads + Wait + Sync, G: Gate>(
     feeds: FeedList,
     gate: &G,
     monitors: u32,
+    view: &mut V,
 ) -> Result<(Run, Board), NoMemory>
     requires parts { AreRunParts plan.now (limits_of options) feeds }
     requires numbers { AreInRange options }
@@ -49,12 +51,12 @@ fn watch_feeds<R: Threads + Wait + Sync, G: Gate>(
         options.workers,
         gate,
         monitors,
-        &NoView,
+        view,
     )
 }
 
 /// The status, the log of a plan over its feeds, and the totals of its actors.
-pub(crate) fn watch_output<R: Threads + Wait + Sync, G: Gate>(
+pub(crate) fn watch_output<R: Threads + Wait + Sync, G: Gate, V: View<R> + Sync>(
     rt: &R,
     alloc: Global,
     plan: &Plan,
@@ -62,6 +64,7 @@ pub(crate) fn watch_output<R: Threads + Wait + Sync, G: Gate>(
     feeds: FeedList,
     gate: &G,
     monitors: u32,
+    view: &mut V,
 ) -> Result<(Status, Bytes), NoMemory>
     requires parts { AreRunParts plan.now (limits_of options) feeds }
     requires numbers { AreInRange options }
@@ -69,7 +72,7 @@ pub(crate) fn watch_output<R: Threads + Wait + Sync, G: Gate>(
     ensures log { IfOk result (λ p. IsLogWithTotals plan.now (limits_of options) feeds p.0 p.1) }
     ensures settled { IfOk result (λ p. IsSettled p.0) }
 {
-    let (run, board) = watch_feeds(rt, alloc, plan, options, feeds, gate, monitors)?;
+    let (run, board) = watch_feeds(rt, alloc, plan, options, feeds, gate, monitors, view)?;
     let mut bytes = Bytes::new(alloc);
     print_log(alloc, plan, &run, &mut bytes)?;
     print_board(alloc, plan, &board, &mut bytes)?;

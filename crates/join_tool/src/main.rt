@@ -4,11 +4,13 @@
 #![tactic(auto)]
 
 mod note;
+mod panel;
 mod remark;
 mod wanted;
 mod watched;
 
 use crate::note::{tell, tell_no_memory};
+use crate::panel::Panel;
 use crate::watched::WatchedSink;
 use join_base::NoMemory;
 use join_command::{Counted, FreeGate, Status, join_main};
@@ -20,7 +22,16 @@ fn main(rt: HostRuntime) -> ExitCode {
         Ok(words) => {
             let mut inputs = FileInputs::new(&rt);
             let mut out = Counted::new(WatchedSink::new(rt.alloc(), OutSink::new(rt.stdout())));
-            let status = join_main(&rt, rt.alloc(), &words, &mut inputs, &mut out, &FreeGate);
+            let mut panel = Panel::new(rt.alloc());
+            let status = join_main(
+                &rt,
+                rt.alloc(),
+                &words,
+                &mut inputs,
+                &mut out,
+                &FreeGate,
+                &mut panel,
+            );
             let sink = out.into_sink();
             tell(&rt, &words, status, &inputs, &sink);
             status

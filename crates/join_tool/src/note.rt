@@ -154,7 +154,8 @@ fn note_of<W: Write + Drop>(
     }
 }
 
-fn tell_bytes(rt: &HostRuntime, bytes: &[u8]) {
+/// Writes to standard error what it takes.
+pub fn tell_bytes(rt: &HostRuntime, bytes: &[u8]) {
     // Where standard error takes nothing there is nobody to tell.
     let _ = write_all(&mut Counted::new(OutSink::new(rt.stderr())), bytes);
 }

@@ -2,10 +2,11 @@
 ghost use Rattle.std.specs.Prelude.{◌≡◌, ◌<◌, ◌^◌, length, map};
 ghost use Rattle.std.specs.List.{count_by, sum_by};
 ghost use Rattle.std.specs.Option.{is_some};
-ghost use Rattle.live_board.specs.Totalling.{is_post, post_count, totals_of};
+ghost use Rattle.actor_turn.specs.Counts.{post_count};
+ghost use Rattle.live_board.specs.Totalling.{totals_of};
 
-use actor_turn::Actor;
-use fair_semantics::{ActorRun, Effect, Entry, Fired};
+use actor_turn::{Actor, count_posts};
+use fair_semantics::{ActorRun, Entry};
 use join_base::Items;
 
 /// What an actor has done so far.
@@ -29,62 +30,14 @@ pub(crate) const NO_TOTALS: Totals = Totals {
 /// Totals, in the order of their actors. Contracts see a list.
 pub type TotalsList = Items<Totals>;
 
-fn is_post(effect: &Effect) -> bool
-    ensures { result ≡ is_post effect.now }
-{
-    match effect {
-        Effect::Post { .. } => true,
-        Effect::Print(_) | Effect::Reply { .. } => false,
-    }
-}
-
-// How many posts a firing made.
-fn count_posts(fired: &Fired) -> u64
-    ensures { result ≡ post_count fired.now }
-{
-    match fired.get() {
-        None => 0,
-        Some(firing) => {
-            let effects = firing.effects.as_slice();
-            effects.iter().filter(|effect| is_post(effect)).count() as u64
-        }
-    }
-}
-
-// The posts of all firings.
-fn sum_posts(firings: &[Fired]) -> u128
-    ensures { result ≡ sum_by post_count firings.now }
-{
-    let mut posts = 0u128;
-    for fired in firings {
-        posts += u128::from(count_posts(fired));
-    }
-    posts
-}
-
-// How many of the arrivals fired.
-fn count_fired(firings: &[Fired]) -> u32
-    requires few { length firings.now < 2 ^ 32 }
-    ensures { result ≡ count_by is_some firings.now }
-{
-    let mut count = 0u32;
-    for fired in firings {
-        if fired.get().is_some() {
-            count += 1;
-        }
-    }
-    count
-}
-
-/// The totals of an actor, as it stands. It goes over all of its arrivals.
+/// The totals of an actor, as it stands. The actor keeps them, so many arrivals cost no more than few.
 pub fn actor_totals(actor: &Actor) -> Totals
     ensures totals { result ≡ totals_of actor.now.state.entries }
 {
-    let firings = actor.firings();
     Totals {
         arrivals: actor.arrivals(),
-        firings: count_fired(firings),
-        posts: sum_posts(firings).min(u128::from(u64::MAX)) as u64,
+        firings: actor.fired_count(),
+        posts: actor.post_count(),
     }
 }
 

@@ -77,12 +77,7 @@ fn all_stand(offer: &Offer<'_>, slots: &Slots, longer: &Slots, pattern: u32) -> 
 
 // Whether the pattern may take the number beside the others: it has the kind, and every conjunct that is then decided
 // is true. It counts a step.
-fn try_at<L: Ledger>(
-    offer: &Offer<'_>,
-    slots: &Slots,
-    pattern: u32,
-    steps: &mut Steps<L>,
-) -> bool
+fn try_at<L: Ledger>(offer: &Offer<'_>, slots: &Slots, pattern: u32, steps: &mut Steps<L>) -> bool
     requires can { CanOffer (offered offer.now) slots.now }
     requires free { slice_get slots.now pattern ≡ Some None }
     ensures answer { result

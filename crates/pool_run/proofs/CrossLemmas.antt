@@ -47,6 +47,7 @@ use Rattle.match_tree.specs.contracts.tree.MatchTree as MatchTree
 use Rattle.mailbox_core.specs.contracts.mailbox.Mailbox as Mailbox
 use Rattle.value_index.specs.contracts.entry.Entry as IndexEntry
 use Rattle.value_index.specs.contracts.index.ValueIndex as ValueIndex
+use Rattle.actor_turn.specs.contracts.firings.Firings as Firings
 use Rattle.actor_turn.specs.contracts.outbox.Outbox as Outbox
 use Rattle.fair_semantics.specs.contracts.run.Effect as Effect
 use Rattle.fair_semantics.specs.contracts.run.Firing as Firing
@@ -256,6 +257,9 @@ effect-send = search (sendable, crosses, message-send, value-send) depth 40 fits
 firing-send : IsSend Firing.the_row
 firing-send = search (sendable, crosses, effect-send) depth 40 fits 100000
 
+firings-send : IsSend Firings.the_row
+firings-send = search (sendable, crosses, firing-send) depth 40 fits 100000
+
 entry-send : IsSend Entry.the_row
 entry-send = declared_send Entry.the_type (search (sendable, crosses) depth 40, (search (sendable, crosses) depth 40, (search (sendable, crosses, message-send) depth 40, (search (sendable, crosses) depth 40, (search (sendable, crosses, firing-send) depth 40, tt)))))
 
@@ -277,7 +281,7 @@ outward-send : IsSend Outward.the_row
 outward-send = declared_send Outward.the_type (search (sendable, crosses) depth 40, (search (sendable, crosses, in-send) depth 40, tt))
 
 actor-send : IsSend Actor.the_row
-actor-send = search (sendable, crosses, rule-send, mailbox-send, tree-send, index-send, firing-send, outbox-send, entry-send) depth 40 fits 100000
+actor-send = search (sendable, crosses, rule-send, mailbox-send, tree-send, index-send, firings-send, outbox-send, entry-send) depth 40 fits 100000
 
 boxed-send : IsSend (Box.the_row Actor.the_row Global.the_row ghosts)
 boxed-send = box-send Actor.the_row actor-send

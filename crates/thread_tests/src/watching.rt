@@ -5,24 +5,36 @@ use building_load::{load_feeds, load_plan};
 use fair_semantics::Limits;
 use join_base::NoMemory;
 use live_board::{Board, Totals};
+use script_types::Plan;
 use std::alloc::Global;
 use std::sync::Wait;
 use std::sync::atomic::{AtomicU64, Ordering};
 use std::test::Fail;
-use std::thread::{Threads, yield_now};
+use std::thread::Threads;
 use watch_run::{NoView, View, run_watched};
 
-/// Notes which monitors showed something, one bit for each.
+/// Notes which monitors showed something, one bit for each, and how many arrivals there were at last.
 #[derive(Drop)]
 struct Noting {
     monitors: AtomicU64,
+    arrivals: AtomicU64,
+}
+
+fn arrivals_in(rows: &[Totals]) -> u64 {
+    let mut arrivals = 0u64;
+    for row in rows {
+        arrivals = arrivals.saturating_add(u64::from(row.arrivals));
+    }
+    arrivals
 }
 
 impl<R> View<R> for Noting {
-    fn show(&self, _rt: &R, monitor: u32, _rows: &[Totals]) {
+    fn begin(&mut self, _rt: &R, _alloc: Global, _plan: &Plan) {}
+
+    fn show(&self, _rt: &R, _alloc: Global, monitor: u32, rows: &[Totals]) {
         let bit = if monitor == 1 { 1 } else { 2 };
         self.monitors.fetch_or(bit, Ordering::SeqCst);
-        yield_now();
+        self.arrivals.store(arrivals_in(rows), Ordering::SeqCst);
     }
 }
 
@@ -32,7 +44,7 @@ fn board_of<R: Threads + Wait + Sync, V: View<R> + Sync>(
     alloc: Global,
     rows: u32,
     monitors: u32,
-    view: &V,
+    view: &mut V,
 ) -> Result<Board, NoMemory> {
     if rows < 1 || rows > 20_000 || monitors < 1 || monitors > 8 {
         return Err(NoMemory);
@@ -67,12 +79,15 @@ fn is_board(board: &Board, arrivals: u32, posts: u32) -> bool {
 #[test]
 fn a_watched_run_comes_to_its_board(rt: HostRuntime) -> Result<(), Fail> {
     let alloc = rt.alloc();
-    let view = Noting {
+    let mut view = Noting {
         monitors: AtomicU64::new(0),
+        arrivals: AtomicU64::new(0),
     };
-    let one = board_of(&rt, alloc, 252, 1, &NoView)?;
-    let two = board_of(&rt, alloc, 2520, 2, &view)?;
+    let one = board_of(&rt, alloc, 252, 1, &mut NoView)?;
+    let two = board_of(&rt, alloc, 2520, 2, &mut view)?;
     let shown = view.monitors.load(Ordering::SeqCst);
-    assert!(rt; is_board(&one, 252, 84) && is_board(&two, 2520, 840) && shown > 0);
+    let arrivals = view.arrivals.load(Ordering::SeqCst);
+    assert!(rt; is_board(&one, 252, 84) && is_board(&two, 2520, 840));
+    assert!(rt; shown > 0 && arrivals == 13_440);
     Ok(())
 }

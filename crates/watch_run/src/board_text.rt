@@ -16,8 +16,8 @@ fn write_labelled(text: &mut Bytes, label: &[u8], number: u64) -> Result<(), NoM
     write_number(text, i128::from(number))
 }
 
-// The counts of an actor. Without memory a part of them may stay.
-fn write_totals(text: &mut Bytes, totals: Totals) -> Result<(), NoMemory>
+/// Appends ` arrivals N firings N posts N`. After `NoMemory` a part of it may stand there.
+pub fn write_totals(text: &mut Bytes, totals: Totals) -> Result<(), NoMemory>
     ensures { OnOk result (text.new ≡ text.old ++ totals_text totals) }
 {
     write_labelled(text, b" arrivals ", u64::from(totals.arrivals))?;

@@ -7,15 +7,21 @@ ghost use Rattle.live_board.specs.Monitors.{glass_of};
 use crate::view::View;
 use live_board::{Board, LeftGlass, Monitor, Unread};
 use std::alloc::Global;
-use std::sync::Wait;
+use std::sync::{Condvar, Wait};
 use std::thread;
 use std::thread::Threads;
+use std::time::Duration;
 
-// Reads the board of so many actors again and again, and shows it, until it is closed. Without memory it isn't read.
+// How many milliseconds a monitor rests between two reads.
+const REST: u64 = 100;
+
+// Reads the board of so many actors ten times a second, and shows it, until it is closed. Who notifies `ended` ends the
+// rest. Without memory the board isn't read.
 fn read_on<R: Wait, V: View<R>>(
     rt: &R,
     alloc: Global,
     view: &V,
+    ended: &Condvar,
     number: u32,
     actors: u32,
     mut monitor: Monitor<LeftGlass>,
@@ -27,19 +33,25 @@ fn read_on<R: Wait, V: View<R>>(
     };
     for _ in rt.forever() {
         match monitor.read(&mut board) {
-            Ok(()) => view.show(rt, number, board.rows()),
+            Ok(()) => {
+                view.show(rt, alloc, number, board.rows());
+                // Once it was notified, this returns at once.
+                ended.sleep(rt, 0, Duration::from_millis(REST));
+            }
             Err(Unread) => return,
         }
     }
 }
 
-/// Reads with each monitor, on a thread of its own, until the board is closed. One for which no thread can be made
-/// reads after another one, which finds the board closed.
+/// Reads with each monitor, on a thread of its own, until the board is closed. Between two reads a monitor rests, and who
+/// notifies `ended` ends that. One for which no thread can be made reads after another one, which finds the board
+/// closed.
 #[cycle(monitors)]
 pub(crate) fn read_all<R: Threads + Wait + Sync, V: View<R> + Sync>(
     rt: &R,
     alloc: Global,
     view: &V,
+    ended: &Condvar,
     actors: u32,
     mut monitors: Vec<Monitor<LeftGlass>>,
 )
@@ -54,9 +66,9 @@ pub(crate) fn read_all<R: Threads + Wait + Sync, V: View<R> + Sync>(
         requires cross { IsSync R.row × IsSync V.row }
         requires few { length monitors.items ≤ 8 }
         requires rows { All (λ monitor. left_rows (glass_of monitor) ≡ actors) monitors.items }
-    { read_all(rt, alloc, view, actors, monitors) };
+    { read_all(rt, alloc, view, ended, actors, monitors) };
     let own = move || -> ()
         requires { left_rows (glass_of monitor) ≡ actors }
-    { read_on(rt, alloc, view, number, actors, monitor) };
+    { read_on(rt, alloc, view, ended, number, actors, monitor) };
     thread::join(rt, others, own);
 }

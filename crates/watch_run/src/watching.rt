@@ -21,7 +21,7 @@ use live_board::{Board, SharedWriter, open_board};
 use pool_run::run_with;
 use script_types::Plan;
 use std::alloc::Global;
-use std::sync::{Mutex, Wait};
+use std::sync::{Condvar, Mutex, Wait};
 use std::thread;
 use std::thread::Threads;
 
@@ -80,10 +80,10 @@ fn run_to_board<R: Threads + Wait + Sync, G: Gate>(
 }
 
 /// The run of a well typed plan on its feeds, as `run_pool` of `pool_run` gives it, with the same conditions. Beside
-/// each thread the totals of the actors are published on a board, and 1 to 8 monitors read it and show it the view,
-/// while the run goes on. Where no thread can be made for a monitor, it reads nothing.
+/// each thread the totals of the actors are published on a board. While the run goes on, 1 to 8 monitors read it ten
+/// times a second and show it the view. Where no thread can be made for a monitor, it reads nothing.
 ///
-/// The board that comes back has the totals of the run. `NoMemory` comes where `run_pool` has it, and for the board. It
+/// The board that comes back has the totals of the run. It is what the view is shown last. `NoMemory` comes where `run_pool` has it, and for the board. It
 /// may wait.
 pub fn run_watched<R: Threads + Wait + Sync, G: Gate, V: View<R> + Sync>(
     rt: &R,
@@ -95,7 +95,7 @@ pub fn run_watched<R: Threads + Wait + Sync, G: Gate, V: View<R> + Sync>(
     workers: u32,
     gate: &G,
     monitors: u32,
-    view: &V,
+    view: &mut V,
 ) -> Result<(Run, Board), NoMemory>
     requires typed { IsTyped plan.now }
     requires limits { AreLimits limits }
@@ -107,14 +107,18 @@ pub fn run_watched<R: Threads + Wait + Sync, G: Gate, V: View<R> + Sync>(
     ensures watched { IfOk result (IsWatched plan.now limits feeds) }
 {
     let actors = plan.actors.len() as u32;
+    view.begin(rt, alloc, plan);
+    let view = &*view;
     let (writer, monitors) = open_board(rt, alloc, actors, monitors)?;
     let writer = SharedWriter::new(writer, rt);
     let monitors = monitors.into_vec();
+    let end = Condvar::new();
+    let ended = &end;
     let watch = move || -> ()
         requires cross { IsSync R.row × IsSync V.row }
         requires few { length monitors.items ≤ 8 }
         requires rows { All (λ monitor. left_rows (glass_of monitor) ≡ actors) monitors.items }
-    { read_all(rt, alloc, view, actors, monitors) };
+    { read_all(rt, alloc, view, ended, actors, monitors) };
     let run = move || -> Result<(Run, Board), NoMemory>
         requires cross { IsSync R.row × IsSync G.row }
         requires typed { IsTyped plan.now }
@@ -124,7 +128,13 @@ pub fn run_watched<R: Threads + Wait + Sync, G: Gate, V: View<R> + Sync>(
         requires ring { IsFrom1To 4096 ring }
         requires workers { workers ≤ 64 }
         ensures watched { IfOk result (IsWatched plan.entry.now limits feeds) }
-    { run_to_board(rt, alloc, plan, limits, feeds, ring, workers, gate, writer) };
+    {
+        let made = run_to_board(rt, alloc, plan, limits, feeds, ring, workers, gate, writer);
+        ended.notify_all();
+        made
+    };
     let (_, watched) = thread::join(rt, watch, run);
-    watched
+    let (run, board) = watched?;
+    view.show(rt, alloc, 1, board.rows());
+    Ok((run, board))
 }

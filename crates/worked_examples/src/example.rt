@@ -1,7 +1,7 @@
 //! Words over files in memory, and what they come to.
 
 use join_base::{Bytes, MemoryInputs, MemorySink, NoMemory, Word, WordList};
-use join_command::{Counted, FreeGate, Status, join_main};
+use join_command::{Counted, FreeGate, NoView, Status, join_main};
 use std::alloc::Global;
 use std::sync::Wait;
 use std::thread::Threads;
@@ -104,7 +104,15 @@ fn answer_to<R: Threads + Wait + Sync>(
     let words = words_of(alloc, texts)?;
     let mut inputs = inputs_of(alloc, files)?;
     let mut out = Counted::new(sink_of(alloc, ROOM)?);
-    let status = join_main(rt, alloc, &words, &mut inputs, &mut out, &FreeGate);
+    let status = join_main(
+        rt,
+        alloc,
+        &words,
+        &mut inputs,
+        &mut out,
+        &FreeGate,
+        &mut NoView,
+    );
     Ok((status, out.into_sink()))
 }
 

@@ -1,7 +1,7 @@
 use Rattle.std.proofs.Common.{◌≡◌, ◌≤◌, ◌+◌, ◌*◌, drop, map}
 use Rattle.std.specs.List.{sum_by}
 use Rattle.fair_semantics.specs.declared.run.Entry.{Entry}
-use Rattle.live_board.specs.Totalling.{post_count}
+use Rattle.actor_turn.specs.Counts.{post_count}
 use Rattle.live_board.proofs.totals.sum_entry_posts.Given as goal
 
 abbrev pub invariant-loop-entry : goal.invariant-loop-entry

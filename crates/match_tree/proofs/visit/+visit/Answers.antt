@@ -140,9 +140,9 @@ visit_only-returns-then-not-sees g t c =
       earned = earned_lead o a.slots.now (row_routes a.pattern row) c.requires.lead;
       counted = refl;
       stepped = (
-        let few = subst (λ (xs : List Branch). a.steps.now + 1 ≤ a.steps.now + tries_behind o a.slots.now (row_routes a.pattern xs)) all walked.stepped in
-        omega (arith, few, c.tick.ensures)
-      );
+          let few = subst (λ (xs : List Branch). a.steps.now + 1 ≤ a.steps.now + tries_behind o a.slots.now (row_routes a.pattern xs)) all walked.stepped in
+          omega (arith, few, c.tick.ensures)
+          );
     }
 
 pub visit_only-with-longer-requires : goal.visit_only-with-longer-requires

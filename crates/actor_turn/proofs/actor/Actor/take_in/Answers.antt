@@ -1,4 +1,4 @@
-use Rattle.std.proofs.Common.{true, false, ◌≡◌, ◌∙◌, ◌+◌, ◌<◌, ◌≤◌, ◌++◌, ◌∷◌, [], ℕ, List, Option, Some, None, map, drop, length, length-append, vec_capacity, refl, ap, sym, subst, arith}
+use Rattle.std.proofs.Common.{true, false, ◌≡◌, ◌∙◌, ◌+◌, ◌-◌, ◌^◌, ◌<◌, ◌≤◌, ◌++◌, ◌∷◌, [], ℕ, List, Option, Some, None, map, drop, length, length-append, vec_capacity, refl, ap, sym, subst, arith}
 use Rattle.std.specs.List.{AllByRecursion}
 use Rattle.std.specs.List.Sorted.{IsStrictlyIncreasing}
 use Rattle.std.proofs.lemmas.List.{length-map, map-append, take_at}
@@ -36,7 +36,7 @@ use Rattle.actor_turn.proofs.OfferedLemmas.{unsettled_can, unsettled_paths}
 use Rattle.actor_turn.proofs.HistoryLemmas.{history_more, same_arrivals}
 use Rattle.actor_turn.proofs.IndexLemmas.{each_recorded, fired_index, kept_index, paths_indexed, tried}
 use Rattle.actor_turn.proofs.PostsLemmas.{fired_posts, unfired_posts}
-use Rattle.actor_turn.proofs.actor.Actor.take_in.Goals.{After-empty_ended-in-Ok-fire, After-give_up, After-give_up-in-Err, After-empty_ended, After-record, After-remove_taken, After-unwrap-in-Ok-fire, In-Some, In_err-number, In_ok-number}
+use Rattle.actor_turn.proofs.actor.Actor.take_in.Goals.{After-empty_ended-in-Ok-fire, After-give_up, After-give_up-in-Err, After-empty_ended, After-record, After-remove_taken, After-push-in-Ok-fire, In-Some, In_err-number, In_ok-number}
 use Rattle.actor_turn.proofs.actor.Actor.take_in.Goals as goal
 
 -- ---- what the answers share
@@ -89,7 +89,7 @@ kept g c =
     let now = c.deref_mut-in_default-best_of.ensures.value ∙ again in
     let best : best_of offered ≡ None = ap best_of (sym (c.deref.ensures.value ∙ again)) ∙ sym c.best_of.ensures ∙ c.in_default-best_of.is in
     let rising = subst (λ (m : Mail). IsStrictlyIncreasing m.live) e.recorded e.ascending in
-    let firings : c.push.new.self.items ≡ a.firings.items ++ None ∷ [] = rw (c.push.ensures.items, c.unwrap.ensures, c.none.ensures.none) (ap (λ (fs : List (Option Firing)). fs ++ None ∷ []) c.reserve_entry.ensures.firings) in
+    let firings : c.push.new.self.items ≡ a.firings.items ++ None ∷ [] = rw (c.push.ensures.items, c.none.ensures.none) (ap (λ (fs : List (Option Firing)). fs ++ None ∷ []) c.reserve_entry.ensures.firings) in
     let keeps = subst (λ (ts : List Tree). Keeps c.in_ok-number.number a.limits.partials ts c.keep-outcome.new.trees c.record.new.mail.mail c.keep-outcome.new.mail.mail a.ending c.keep-outcome.new.ending c.keep-outcome.result) now c.keep-outcome.ensures in
     let P : List (Option Firing) → Type 0 = λ fs. IsDone (setting_in a) (arrival_at a c.args.source c.args.message c.args.stamp) None c.keep-outcome.new.mail.mail fs c.keep-outcome.new.ending c.keep-outcome.new.trees c.keep-outcome.result in
     subst P (sym firings)
@@ -110,7 +110,7 @@ may g c =
     may_fire (length a.outboxes.items) (setting_in a) a.mail.mail a.firings.items a.ending a.trees.items i.told i.rest c.args.source c.args.message c.args.stamp takes offered (e.same ∙ c.deref_mut.ensures.value) e.reserved running c.in-Some.chosen best
 
 -- what stands when it has fired
-fired : (g : _) (c : After-unwrap-in-Ok-fire g) → IsDone (setting_in c.self.inside) (arrival_at c.self.inside c.args.source c.args.message c.args.stamp) (Some c.in-Ok-fire.firing.value) c.fire.new.mail.mail c.push-in-Ok-fire.new.self.items c.fire.new.ending c.fire.new.trees Fired
+fired : (g : _) (c : After-push-in-Ok-fire g) → IsDone (setting_in c.self.inside) (arrival_at c.self.inside c.args.source c.args.message c.args.stamp) (Some c.in-Ok-fire.firing.value) c.fire.new.mail.mail c.push-in-Ok-fire.new.self.items c.fire.new.ending c.fire.new.trees Fired
 fired g c =
     let a = c.self.inside in
     let i = c.self.invariant in
@@ -123,7 +123,7 @@ fired g c =
     let best : best_of offered ≡ Some c.in-Some.chosen = ap best_of (sym (c.deref.ensures.value ∙ again)) ∙ sym c.best_of.ensures ∙ c.in-Some.is in
     let f = c.in-Ok-fire.ensures in
     let body = body_at a.rules c.in-Some.chosen.rule in
-    let firings : c.push-in-Ok-fire.new.self.items ≡ a.firings.items ++ Some c.in-Ok-fire.firing.value ∷ [] = rw (c.push-in-Ok-fire.ensures.items, c.unwrap-in-Ok-fire.ensures, c.from_box.ensures.firing) (ap (λ (fs : List (Option Firing)). fs ++ Some c.in-Ok-fire.firing.value ∷ []) c.reserve_entry.ensures.firings) in
+    let firings : c.push-in-Ok-fire.new.self.items ≡ a.firings.items ++ Some c.in-Ok-fire.firing.value ∷ [] = rw (c.push-in-Ok-fire.ensures.items, c.from_box.ensures.firing) (ap (λ (fs : List (Option Firing)). fs ++ Some c.in-Ok-fire.firing.value ∷ []) c.reserve_entry.ensures.firings) in
     let trees = subst (λ (ts : List Tree). c.fire.new.trees ≡ (if stops body then map cleared_tree ts else map (fired_at c.in_ok-number.number c.in-Some.chosen.taken) ts)) (c.deref_mut-2.ensures.value ∙ again) f.trees in
     fires_done (length a.outboxes.items) (setting_in a) a.mail.mail a.firings.items a.ending a.trees.items i.told i.rest c.args.source c.args.message c.args.stamp takes offered (e.same ∙ c.deref_mut.ensures.value) e.reserved running c.in-Some.chosen best c.in_ok-number.number (Some c.in-Ok-fire.firing.value) c.record.new.mail.mail c.fire.new.mail.mail c.push-in-Ok-fire.new.self.items c.fire.new.ending c.fire.new.trees
     e.number e.recorded f.firing f.mail trees f.ending firings
@@ -260,6 +260,21 @@ returns-in_default-insert-clause-waits g c =
 
 -- ---- keeping
 
+-- fewer arrivals are recorded than the counts reach
+few_fired : (g : _) (c : After-record g) → length c.reserve_entry.new.firings.items < 2 ^ 32 - 1
+few_fired g c =
+    let a = c.self.inside in
+    let i = c.self.invariant in
+    let takes = not_refused a _ c.args.message c.args.stamp c.self.view_is c.requires.taken in
+    let taken = taken_in (length a.outboxes.items) (setting_in a) a.mail.mail a.firings.items a.ending a.trees.items i.told i.rest c.args.source c.args.message c.args.stamp takes in
+    omega (arith, taken.few, i.rest.fired, ap length c.reserve_entry.ensures.firings)
+
+pub push-requires-clause-few : goal.push-requires-clause-few
+push-requires-clause-few g c = few_fired g (goal.at.push-requires-clause-few g c).After-record
+
+pub push-requires-in-Ok-fire-clause-few : goal.push-requires-in-Ok-fire-clause-few
+push-requires-in-Ok-fire-clause-few g c = few_fired g (goal.at.push-requires-in-Ok-fire-clause-few g c).After-record
+
 pub keep-outcome-requires-clause-reserved : goal.keep-outcome-requires-clause-reserved
 keep-outcome-requires-clause-reserved g c =
     let a = c.self.inside in
@@ -282,7 +297,7 @@ invariant_of-self-in_default-best_of g c =
     let rest = kept_inside g (goal.at.invariant_of-self-in_default-best_of g c).After-empty_ended in
     let messages = ap length c.messages-arrivals.ensures.messages ∙ length-map a.mail.mail.arrivals (λ (r : Received). r.message) in
     let place = c.in-Ok.ensures.room in
-    let firings : c.push.new.self.items ≡ a.firings.items ++ None ∷ [] = rw (c.push.ensures.items, c.unwrap.ensures, c.none.ensures.none) (ap (λ (fs : List (Option Firing)). fs ++ None ∷ []) c.reserve_entry.ensures.firings) in
+    let firings : c.push.new.self.items ≡ a.firings.items ++ None ∷ [] = rw (c.push.ensures.items, c.none.ensures.none) (ap (λ (fs : List (Option Firing)). fs ++ None ∷ []) c.reserve_entry.ensures.firings) in
     let more = ap length firings ∙ length-append a.firings.items (None ∷ []) in
     let room : length c.keep-outcome.new.mail.mail.arrivals ≤ vec_capacity c.reserve_entry.new.entries = omega (arith, rest.fired, i.rest.fired) in
     let e = c.in_ok-number.ensures in
@@ -422,7 +437,7 @@ fired_indexed g c none =
     let gone = subst P (λ j. (messages j, taken j)) c.remove_taken.ensures.gone in
     fired_index (setting_in a) a.mail.mail a.firings.items a.ending a.trees.items i.rest a.index i.indexed c.args.source c.args.message c.args.stamp c.remove_taken.new.index c.empty_ended-in-Ok-fire.new.index _ c.in-Some.chosen.taken c.record.new.mail.mail c.fire.new.mail.mail c.fire.new.ending running c.remove_taken.ensures.fields others c.remove_taken.ensures.adds_none gone newest e.recorded f.mail f.ending none c.empty_ended-in-Ok-fire.ensures.fields c.empty_ended-in-Ok-fire.ensures.entries
 
-fired_inside : (g : _) (c : After-unwrap-in-Ok-fire g) → IsAtRest (setting_in c.self.inside) c.fire.new.mail.mail c.push-in-Ok-fire.new.self.items c.fire.new.ending (with_items (with_items c.self.inside.trees c.record.new.trees) c.fire.new.trees).items
+fired_inside : (g : _) (c : After-push-in-Ok-fire g) → IsAtRest (setting_in c.self.inside) c.fire.new.mail.mail c.push-in-Ok-fire.new.self.items c.fire.new.ending (with_items (with_items c.self.inside.trees c.record.new.trees) c.fire.new.trees).items
 fired_inside g c =
     let a = c.self.inside in
     let long : length c.fire.new.trees ≡ a.trees.len = omega (arith, c.fire.auto.trees, c.deref_mut-2.ensures.len) in
@@ -433,13 +448,13 @@ pub invariant_of-self-in-Ok-fire : goal.invariant_of-self-in-Ok-fire
 invariant_of-self-in-Ok-fire g c =
     let a = c.self.inside in
     let i = c.self.invariant in
-    let rest = fired_inside g (goal.at.invariant_of-self-in-Ok-fire g c).After-unwrap-in-Ok-fire in
+    let rest = fired_inside g (goal.at.invariant_of-self-in-Ok-fire g c).After-push-in-Ok-fire in
     let long : length c.fire.new.outboxes ≡ a.outboxes.len = omega (arith, c.fire.auto.outboxes, c.deref_mut-3.ensures.len) in
     let boxes = take_at c.fire.new.outboxes (drop (length c.fire.new.outboxes) a.outboxes.items) a.outboxes.len long in
     let same_count : length a.outboxes.items ≡ length (with_items a.outboxes c.fire.new.outboxes).items = omega (arith, ap length boxes, a.outboxes.ok.0) in
     let messages = ap length c.messages-arrivals.ensures.messages ∙ length-map a.mail.mail.arrivals (λ (r : Received). r.message) in
     let place = c.in-Ok.ensures.room in
-    let firings : c.push-in-Ok-fire.new.self.items ≡ a.firings.items ++ Some c.in-Ok-fire.firing.value ∷ [] = rw (c.push-in-Ok-fire.ensures.items, c.unwrap-in-Ok-fire.ensures, c.from_box.ensures.firing) (ap (λ (fs : List (Option Firing)). fs ++ Some c.in-Ok-fire.firing.value ∷ []) c.reserve_entry.ensures.firings) in
+    let firings : c.push-in-Ok-fire.new.self.items ≡ a.firings.items ++ Some c.in-Ok-fire.firing.value ∷ [] = rw (c.push-in-Ok-fire.ensures.items, c.from_box.ensures.firing) (ap (λ (fs : List (Option Firing)). fs ++ Some c.in-Ok-fire.firing.value ∷ []) c.reserve_entry.ensures.firings) in
     let more = ap length firings ∙ length-append a.firings.items (Some c.in-Ok-fire.firing.value ∷ []) in
     let room : length c.fire.new.mail.mail.arrivals ≤ vec_capacity c.reserve_entry.new.entries = omega (arith, rest.fired, i.rest.fired) in
     let indexed = fired_indexed g (goal.at.invariant_of-self-in-Ok-fire g c).After-empty_ended-in-Ok-fire rest.ended in
@@ -447,11 +462,11 @@ invariant_of-self-in-Ok-fire g c =
 
 pub returns-in-Ok-fire-clause-partial : goal.returns-in-Ok-fire-clause-partial
 returns-in-Ok-fire-clause-partial g c =
-    partial_held (setting_in c.self.inside) c.fire.new.mail.mail c.push-in-Ok-fire.new.self.items c.fire.new.ending (with_items (with_items c.self.inside.trees c.record.new.trees) c.fire.new.trees).items _ _ (fired_inside g (goal.at.returns-in-Ok-fire-clause-partial g c).After-unwrap-in-Ok-fire)
+    partial_held (setting_in c.self.inside) c.fire.new.mail.mail c.push-in-Ok-fire.new.self.items c.fire.new.ending (with_items (with_items c.self.inside.trees c.record.new.trees) c.fire.new.trees).items _ _ (fired_inside g (goal.at.returns-in-Ok-fire-clause-partial g c).After-push-in-Ok-fire)
 
 pub returns-in-Ok-fire-clause-waits : goal.returns-in-Ok-fire-clause-waits
 returns-in-Ok-fire-clause-waits g c =
-    none_waits (setting_in c.self.inside) c.fire.new.mail.mail c.push-in-Ok-fire.new.self.items c.fire.new.ending (with_items (with_items c.self.inside.trees c.record.new.trees) c.fire.new.trees).items _ _ (fired_inside g (goal.at.returns-in-Ok-fire-clause-waits g c).After-unwrap-in-Ok-fire)
+    none_waits (setting_in c.self.inside) c.fire.new.mail.mail c.push-in-Ok-fire.new.self.items c.fire.new.ending (with_items (with_items c.self.inside.trees c.record.new.trees) c.fire.new.trees).items _ _ (fired_inside g (goal.at.returns-in-Ok-fire-clause-waits g c).After-push-in-Ok-fire)
 
 unfired_inside : (g : _) (c : After-give_up-in-Err g)
     → IsAtRest (setting_in c.self.inside) c.give_up-in-Err.new.mail.mail c.reserve_entry.new.firings.items c.fire.new.ending (with_items (with_items (with_items c.self.inside.trees c.record.new.trees) c.fire.new.trees) c.give_up-in-Err.new.trees).items
@@ -495,7 +510,7 @@ returns-in-Err-clause-waits g c =
 pub returns-in-Ok-fire-clause-step : goal.returns-in-Ok-fire-clause-step
 returns-in-Ok-fire-clause-step g c =
     subst (λ (h : Held). fair_step h.setting h.state c.args.source c.args.message c.args.stamp ≡ (state_of c.fire.new.mail.mail c.push-in-Ok-fire.new.self.items c.fire.new.ending, Fired)) c.self.view_is
-    (fired g (goal.at.returns-in-Ok-fire-clause-step g c).After-unwrap-in-Ok-fire).step
+    (fired g (goal.at.returns-in-Ok-fire-clause-step g c).After-push-in-Ok-fire).step
 
 pub returns-in-Ok-fire-clause-history : goal.returns-in-Ok-fire-clause-history
 returns-in-Ok-fire-clause-history g c =
@@ -518,6 +533,6 @@ returns-in-Ok-fire-clause-outbox g c =
     let stamp = stamp_same (length a.outboxes.items) (setting_in a) a.mail.mail a.firings.items a.ending a.trees.items i.told i.rest c.args.source c.args.message c.args.stamp before c.in_ok-number.ensures.recorded in
     let after : List (List Stamped) = map (λ (o : Queue). o.posts) (with_items a.outboxes c.fire.new.outboxes).items in
     let posts : after ≡ delivered (sent_by (latest before.arrivals) c.in-Ok-fire.firing.value.effects) outbox = ap (λ (os : List Queue). map (λ (o : Queue). o.posts) os) boxes ∙ f.posts ∙ (λ j. delivered (sent_by (latest before.arrivals) (effects j)) (map (λ (o : Queue). o.posts) (c.deref_mut-3.ensures.value j))) in
-    let news = (fired g (goal.at.returns-in-Ok-fire-clause-outbox g c).After-unwrap-in-Ok-fire).entries in
+    let news = (fired g (goal.at.returns-in-Ok-fire-clause-outbox g c).After-push-in-Ok-fire).entries in
     subst (λ (h : Held). map (λ (o : Queue). o.posts) (with_items a.outboxes c.fire.new.outboxes).items ≡ posts_behind 0 (new_entries h.state (state_of c.fire.new.mail.mail c.push-in-Ok-fire.new.self.items c.fire.new.ending)) h.outbox) c.self.view_is
     (posts ∙ fired_posts entry c.in-Ok-fire.firing.value (latest before.arrivals) outbox refl stamp ∙ ap (λ (es : List Entry). posts_behind 0 es outbox) (sym news))
