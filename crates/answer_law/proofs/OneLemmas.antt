@@ -44,7 +44,7 @@ mapped_at [] k x e = absurd cc
 mapped_at (y ∷ entries) zero x e = let same : y ≡ x = cc in ap (λ (z : Entry). Some z.number) same
 mapped_at (y ∷ entries) (suc k) x e = mapped_at entries k x e
 
-numbered_at : (entries : List Entry) (k : ℕ) (x : Entry) → AreNumbered entries → slice_get entries k ≡ Some x → x.number ≡ suc k
+pub numbered_at : (entries : List Entry) (k : ℕ) (x : Entry) → AreNumbered entries → slice_get entries k ≡ Some x → x.number ≡ suc k
 numbered_at entries k x numbered e =
     let within = get_within entries k x e in
     let same : Some x.number ≡ Some (1 + k) = sym (mapped_at entries k x e) ∙ ap (λ (ns : List ℕ). slice_get ns k) numbered ∙ number_at 1 (length entries) k within in
@@ -59,7 +59,7 @@ module _ (front back : List Entry) (x : Entry) where
   abbrev whole : List Entry
   whole = (front ++ x ∷ []) ++ back
 
-  own_arrivals : (feed : ℕ) → x.source ≡ Feed feed → arrivals_from (Feed feed) (front ++ x ∷ []) ≡ arrivals_from (Feed feed) front ++ x.number ∷ []
+  pub own_arrivals : (feed : ℕ) → x.source ≡ Feed feed → arrivals_from (Feed feed) (front ++ x ∷ []) ≡ arrivals_from (Feed feed) front ++ x.number ∷ []
   own_arrivals feed e =
       let own : number_from (Feed feed) x ≡ Some x.number = ap (λ (s : Source). if same_source s (Feed feed) then Some x.number else None) e ∙ ap (λ (b : Bool). if b then Some x.number else None) (equal_to_itself feed) in
       filter_map-append (number_from (Feed feed)) front (x ∷ []) ∙ ap (λ (o : Option ℕ). arrivals_from (Feed feed) front ++ cons_option o []) own
@@ -83,6 +83,29 @@ module _ (front back : List Entry) (x : Entry) where
           ap (λ (a : Ask). from_one (arrivals_from (Feed a.feed) whole) a.place) (sym same) ∙ found feed own
       by (Actor a) own is = absurd cc
 
+-- the entry at a place, between those before it and those behind it
+next_at : (entries : List Entry) (k : ℕ) (x : Entry) → slice_get entries k ≡ Some x → take (k + 1) entries ≡ take k entries ++ x ∷ []
+next_at entries k x at =
+    let within = get_within entries k x at in
+    let same : get_or entries k x ≡ x = let known : Some (get_or entries k x) ≡ Some x = sym (slice_get-get_or entries k x within) ∙ at in cc in
+    take_more entries k x within ∙ ap (λ (y : Entry). take k entries ++ y ∷ []) same
+
+parts_at : (entries : List Entry) (k : ℕ) (x : Entry) → slice_get entries k ≡ Some x → entries ≡ whole (take k entries) (drop (k + 1) entries) x
+parts_at entries k x at = sym (take-append-drop (k + 1) entries) ∙ ap (λ (es : List Entry). es ++ drop (k + 1) entries) (next_at entries k x at)
+
+-- its ask is the last one up to it
+pub ask_there : (actor : ℕ) (entries : List Entry) (k : ℕ) (x : Entry) → slice_get entries k ≡ Some x → slice_get (asks_of actor entries) k ≡ Some (last_ask actor x.source (take k entries ++ x ∷ []))
+ask_there actor entries k x at =
+    let within = get_within entries k x at in
+    let front : List Entry = take k entries in
+    let back : List Entry = drop (k + 1) entries in
+    let size : length (asks_of actor front) ≡ k = length_asks actor front ∙ length-take-le k entries (omega (arith, within)) in
+    let asks : asks_of actor entries ≡ (asks_of actor front ++ last_ask actor x.source (front ++ x ∷ []) ∷ []) ++ asks_behind actor (front ++ x ∷ []) back =
+    ap (asks_of actor) (parts_at entries k x at) ∙ asks_go_on actor (front ++ x ∷ []) back ∙ ap (λ (os : List (Option Ask)). os ++ asks_behind actor (front ++ x ∷ []) back) (asks_go_on actor front (x ∷ [])) in
+    ap (λ (os : List (Option Ask)). slice_get os k) (asks ∙ append_assoc (asks_of actor front) (last_ask actor x.source (front ++ x ∷ []) ∷ []) (asks_behind actor (front ++ x ∷ []) back))
+    ∙ ap (slice_get (asks_of actor front ++ last_ask actor x.source (front ++ x ∷ []) ∷ asks_behind actor (front ++ x ∷ []) back)) (sym size)
+    ∙ at_end (asks_of actor front) (last_ask actor x.source (front ++ x ∷ [])) (asks_behind actor (front ++ x ∷ []) back)
+
 -- the arrival of an ask is the one at its place among those of its feed
 pub arrival_of : (actor : ℕ) (entries : List Entry) (number : ℕ) (ask : Ask) → AreNumbered entries → ask_at (asks_of actor entries) number ≡ Some ask → from_one (arrivals_from (Feed ask.feed) entries) ask.place ≡ Some number
 arrival_of actor entries number ask numbered e = by (at_place (asks_of actor entries) number ask e)
@@ -98,18 +121,9 @@ arrival_of actor entries number ask numbered e = by (at_place (asks_of actor ent
         there (Some x) at =
             let front : List Entry = take k entries in
             let back : List Entry = drop (k + 1) entries in
-            let same : get_or entries k x ≡ x = let known : Some (get_or entries k x) ≡ Some x = sym (slice_get-get_or entries k x within) ∙ at in cc in
-            let next : take (k + 1) entries ≡ front ++ x ∷ [] = take_more entries k x within ∙ ap (λ (y : Entry). front ++ y ∷ []) same in
-            let parts : entries ≡ whole front back x = sym (take-append-drop (k + 1) entries) ∙ ap (λ (es : List Entry). es ++ back) next in
-            let size : length (asks_of actor front) ≡ k = length_asks actor front ∙ length-take-le k entries (omega (arith, within)) in
-            let asks : asks_of actor entries ≡ (asks_of actor front ++ last_ask actor x.source (front ++ x ∷ []) ∷ []) ++ asks_behind actor (front ++ x ∷ []) back =
-            ap (asks_of actor) parts ∙ asks_go_on actor (front ++ x ∷ []) back ∙ ap (λ (os : List (Option Ask)). os ++ asks_behind actor (front ++ x ∷ []) back) (asks_go_on actor front (x ∷ [])) in
-            let own : slice_get (asks_of actor entries) k ≡ Some (last_ask actor x.source (front ++ x ∷ [])) =
-            ap (λ (os : List (Option Ask)). slice_get os k) (asks ∙ append_assoc (asks_of actor front) (last_ask actor x.source (front ++ x ∷ []) ∷ []) (asks_behind actor (front ++ x ∷ []) back))
-            ∙ ap (slice_get (asks_of actor front ++ last_ask actor x.source (front ++ x ∷ []) ∷ asks_behind actor (front ++ x ∷ []) back)) (sym size)
-            ∙ at_end (asks_of actor front) (last_ask actor x.source (front ++ x ∷ [])) (asks_behind actor (front ++ x ∷ []) back) in
+            let own = ask_there actor entries k x at in
             let last : last_ask actor x.source (front ++ x ∷ []) ≡ Some ask = let both : Some (last_ask actor x.source (front ++ x ∷ [])) ≡ Some (Some ask) = sym own ∙ here in cc in
-            ap (λ (es : List Entry). from_one (arrivals_from (Feed ask.feed) es) ask.place) parts
+            ap (λ (es : List Entry). from_one (arrivals_from (Feed ask.feed) es) ask.place) (parts_at entries k x at)
             ∙ arrival_here front back x actor ask last
             ∙ ap (λ (n : ℕ). Some n) (numbered_at entries k x numbered at ∙ sym is)
 
@@ -122,7 +136,7 @@ is_same : (n m : ℕ) → (m == n) ≡ true → (n == m) ≡ true
 is_same n m e = grind (arith, nat_tests)
 
 -- among effects that reply to it, it is counted
-replied_some : (number : ℕ) (value : Value) (effects : List Effect) → IsIn (Reply number value) effects → 1 ≤ times number (filter_map reply_number effects)
+pub replied_some : (number : ℕ) (value : Value) (effects : List Effect) → IsIn (Reply number value) effects → 1 ≤ times number (filter_map reply_number effects)
 replied_some number value [] h = absurd h
 replied_some number value (effect ∷ effects) (inl e) = subst (λ (x : Effect). 1 ≤ times number (cons_option (reply_number x) (filter_map reply_number effects))) (sym e) here
   where

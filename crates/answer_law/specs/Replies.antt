@@ -15,9 +15,10 @@ use Rattle.fair_semantics.specs.Linked.{IsLinked}
 use Rattle.history_law.specs.History.{entries_by, history_in}
 use Rattle.feed_answers.specs.Answers.{answer_of, reply_at}
 use Rattle.ask_board.specs.declared.view.Ask.{Ask}
+use Rattle.ask_board.specs.Board.{HasAsk}
 use Rattle.answerer.specs.declared.reading.Answerer.{Answerer}
-use Rattle.answerer.specs.Answered.{known}
-use Rattle.answerer.specs.Fit.{Fits, IsReply}
+use Rattle.answerer.specs.Answered.{IsTried, known}
+use Rattle.answerer.specs.Fit.{AreAllTried, Fits, IsReply}
 
 -- the reply that fair steps give over a history to the post at a place, counted from 1, among those of a feed
 abbrev pub reply_by : Setting → List Sent → ℕ → ℕ → Option Value
@@ -50,3 +51,8 @@ abbrev pub ReadersAgree : Type 0
 ReadersAgree = (plan : Plan) (limits : Limits) (feeds : List (List (ℕ × Message))) (run : Run) → IsTyped plan → IsLinked plan limits feeds run → (answerer : Answerer) (ask : Ask) (own : ActorRun) → slice_get run.actors ask.actor ≡ Some own
     → Fits answerer ask.actor own.entries → IsIn ask answerer.answers.asks
     → (value : Value) × (known answerer.answers ask ≡ Some value) × (answer_of run.actors ask.feed ask.actor ask.place ≡ Some value)
+
+-- where each reply of an actor of a linked run was tried, the answer of each of its asks that the board has was tried
+abbrev pub ReadersTry : Type 0
+ReadersTry = (plan : Plan) (limits : Limits) (feeds : List (List (ℕ × Message))) (run : Run) → IsTyped plan → IsLinked plan limits feeds run → (answerer : Answerer) (ask : Ask) (own : ActorRun) (value : Value) → slice_get run.actors ask.actor ≡ Some own
+    → AreAllTried answerer ask.actor own.entries → HasAsk answerer.answers.board.now ask → answer_of run.actors ask.feed ask.actor ask.place ≡ Some value → IsTried answerer.answers ask value

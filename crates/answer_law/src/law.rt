@@ -1,5 +1,5 @@
 //! What holds of the reply over a history, and of answerers.
-ghost use Rattle.answer_law.specs.Replies.{AnswersAgree, ReadersAgree, RepliesAreOne, RepliesStay, RunsAnswer};
+ghost use Rattle.answer_law.specs.Replies.{AnswersAgree, ReadersAgree, ReadersTry, RepliesAreOne, RepliesStay, RunsAnswer};
 
 /// A reply over a history stays as the history goes on. In a linked run the answer of an ask is the reply over the
 /// history of its actor. What an actor of a well typed plan replies to the arrival of an ask is the one reply to it.
@@ -14,4 +14,10 @@ pub fn reply_law()
 pub fn agree_law()
     ensures histories { AnswersAgree }
     ensures runs { ReadersAgree }
+{}
+
+/// Where an answerer has tried each reply of an actor of a linked run of a well typed plan, it has tried the answer of
+/// each ask of that actor that the board has: the ask is on the list, or has another value.
+pub fn try_law()
+    ensures { ReadersTry }
 {}

@@ -19,7 +19,7 @@ use Rattle.ask_board.specs.Board.{HasAsk, KnowsAnother, StaysKnown}
 use Rattle.ask_board.proofs.RowsLemmas.{same_ask}
 use Rattle.answerer.specs.declared.answering.Answers.{Answers}
 use Rattle.answerer.specs.Asks.{ask_at}
-use Rattle.answerer.specs.Answered.{Answered, AreTried, AreTriedBack, AnswersOne, IsAnswer, IsOfBoard, IsTried, known}
+use Rattle.answerer.specs.Answered.{Answered, AreTried, AreTriedBack, AnswersOne, GoesOn, IsAnswer, IsOfBoard, IsTried, known}
 use Rattle.answerer.proofs.AskLemmas.{get_front, get_last}
 
 -- ---- what stays known
@@ -50,6 +50,30 @@ ask_cases x y = by_feed (cases_eq x.feed y.feed)
     by_feed : (x.feed ≡ y.feed) ⊎ (x.feed ≡ y.feed → ⊥) → (x ≡ y) ⊎ (x ≢ y)
     by_feed (inl f) = by_actor f (cases_eq x.actor y.actor)
     by_feed (inr f) = inr (λ e. f (ap (λ (z : Ask). z.feed) e))
+
+-- ---- what goes on
+
+pub goes_same : (a : Answers) → GoesOn a a
+goes_same a = record { board = refl; stays = λ ask. stays_same (known a ask) (known a ask) refl; kept = λ ask h. h }
+
+pub goes_on_on : (a b c : Answers) → GoesOn a b → GoesOn b c → GoesOn a c
+goes_on_on a b c first later = record {
+  board = later.board ∙ first.board;
+  stays = λ ask. stays_on (known a ask) (known b ask) (known c ask) (first.stays ask) (later.stays ask);
+  kept = λ ask h. later.kept ask (first.kept ask h);
+}
+
+pub answered_goes_on : (asks : List (Option Ask)) (effects : List Effect) (a b : Answers) → Answered asks effects a b → GoesOn a b
+answered_goes_on asks effects a b on = record { board = on.board; stays = on.stays; kept = on.kept }
+
+-- what was tried stays so
+pub tried_goes_on : (a b : Answers) (ask : Ask) (value : Value) → GoesOn a b → IsTried a ask value → IsTried b ask value
+tried_goes_on a b ask value on (inl h) = inl (on.kept ask h)
+tried_goes_on a b ask value on (inr another) = inr (another_stays (known a ask) (known b ask) value (on.stays ask) another)
+
+pub back_goes_on : (asks : List (Option Ask)) (entries : List Entry) (a b : Answers) → GoesOn a b → AreTriedBack asks entries a → AreTriedBack asks entries b
+back_goes_on asks entries a b on tried = λ place entry number value ask there h back here has.
+    tried_goes_on a b ask value on (tried place entry number value ask there h back here (subst (λ (board : AskBoard). HasAsk board ask) on.board has))
 
 -- ---- steps
 
@@ -154,8 +178,7 @@ push_tried a before ask value (Ok done) is = inl (subst (IsIn ask) (sym is) (IsI
 push_tried a before ask value (Err e) is = tt
 
 pub tried_on : (asks : List (Option Ask)) (effects : List Effect) (a b : Answers) (ask : Ask) (value : Value) → Answered asks effects a b → IsTried a ask value → IsTried b ask value
-tried_on asks effects a b ask value on (inl h) = inl (on.kept ask h)
-tried_on asks effects a b ask value on (inr another) = inr (another_stays (known a ask) (known b ask) value (on.stays ask) another)
+tried_on asks effects a b ask value on tried = tried_goes_on a b ask value (answered_goes_on asks effects a b on) tried
 
 pub none_tried : (asks : List (Option Ask)) (a : Answers) → AreTried asks [] a
 none_tried asks a = λ number value ask h here has. absurd h
@@ -212,7 +235,7 @@ up : (n m : ℕ) → (n < m) ⊎ (m ≤ n) → (suc n < suc m) ⊎ (suc m ≤ su
 up n m (inl h) = inl (omega arith)
 up n m (inr h) = inr (omega arith)
 
-less_or_not : (n m : ℕ) → (n < m) ⊎ (m ≤ n)
+pub less_or_not : (n m : ℕ) → (n < m) ⊎ (m ≤ n)
 less_or_not n zero = inr (omega arith)
 less_or_not zero (suc m) = inl (omega arith)
 less_or_not (suc n) (suc m) = up n m (less_or_not n m)
@@ -234,8 +257,7 @@ entry_tried asks entries i x b c l at on first later =
 
 -- what was tried before a step stays so
 pub back_on : (asks own : List (Option Ask)) (effects : List Effect) (entries : List Entry) (a b : Answers) → Answered own effects a b → AreTriedBack asks entries a → AreTriedBack asks entries b
-back_on asks own effects entries a b on tried = λ place entry number value ask there h back here has.
-    tried_on own effects a b ask value on (tried place entry number value ask there h back here (subst (λ (board : AskBoard). HasAsk board ask) on.board has))
+back_on asks own effects entries a b on tried = back_goes_on asks entries a b (answered_goes_on own effects a b on) tried
 
 -- one that stops early did some of the entries
 pub entries_stopped : (asks : List (Option Ask)) (entries : List Entry) (i : ℕ) (x : Entry) (a b c : Answers) → i < length entries → x ≡ get_or entries i x

@@ -24,6 +24,12 @@ IsOfBoard answers = IsViewOf answers.board.now answers.view
 abbrev pub AreKnown : Answers → Type 0
 AreKnown answers = (ask : Ask) → IsIn ask answers.asks → IsSome (known answers ask)
 
+-- what was known stays known, and what was listed stays on the list
+pub record GoesOn (old now : Answers) : Type 0 where
+  pub board : now.board.now ≡ old.board.now
+  pub stays : (ask : Ask) → StaysKnown (known old ask) (known now ask)
+  pub kept : (ask : Ask) → IsIn ask old.asks → IsIn ask now.asks
+
 -- the ask is on the list, or has another value
 abbrev pub IsTried : Answers → Ask → Value → Type 0
 IsTried answers ask value = IsIn ask answers.asks ⊎ KnowsAnother (known answers ask) value
@@ -70,3 +76,10 @@ pub record Joins (view : AskView) (asks : List Ask) (old now : Answers) : Type 0
   pub stays : (ask : Ask) → StaysKnown (known old ask) (known now ask)
   pub kept : (ask : Ask) → IsIn ask old.asks → IsIn ask now.asks
   pub listed : (ask : Ask) → IsIn ask now.asks → IsIn ask old.asks ⊎ (IsIn ask asks × (known now ask ≡ known_of view ask))
+
+-- the same asks are listed, and the same is known of each ask
+pub record KnowsTheSame (old now : Answers) : Type 0 where
+  pub board : now.board.now ≡ old.board.now
+  pub of_board : IsOfBoard now
+  pub asks : now.asks ≡ old.asks
+  pub known_same : (ask : Ask) → known now ask ≡ known old ask

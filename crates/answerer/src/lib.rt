@@ -18,6 +18,7 @@ mod law;
 mod noting;
 mod reading;
 mod showing;
+mod telling;
 
 pub use law::fit_law;
 pub use reading::Answerer;

@@ -4,7 +4,7 @@ ghost use Rattle.pattern_core.specs.Members.{IsIn};
 ghost use Rattle.ask_board.specs.Board.{cells_of};
 ghost use Rattle.ask_board.specs.declared.view.Ask.{Ask as OneAsk};
 ghost use Rattle.fair_semantics.specs.declared.run.Entry.{Entry as OneEntry};
-ghost use Rattle.answerer.specs.Answered.{AreKnown, AreTriedBack, IsOfBoard};
+ghost use Rattle.answerer.specs.Answered.{AreKnown, AreTriedBack, GoesOn, IsOfBoard};
 ghost use Rattle.answerer.specs.Asks.{asks_of};
 ghost use Rattle.answerer.specs.Fit.{AreAllTried, Fits, FitsIn, FitsNothing, IsAlike, KeepsOthers, not_read};
 
@@ -46,6 +46,7 @@ fn read_entries(
     requires fits { FitsIn actor entries.now progress.old answers.old }
     ensures fits { FitsIn actor entries.now progress.new answers.new }
     ensures others { (other : ℕ) → other ≢ actor → IsAlike other answers.old answers.new }
+    ensures goes_on { GoesOn answers.old answers.new }
     ensures tried { OnOk result (AreTriedBack (asks_of actor entries.now) entries.now answers.new) }
 {
     progress.note(actor, entries)?;
@@ -71,15 +72,17 @@ impl<'a> Answerer<'a> {
     /// Reads the entries of an actor, and answers what they reply to arrivals from feeds. What was read of the actor
     /// before begins them.
     ///
-    /// It fits the entries then, whatever the answer, and fits other actors as before. At `Ok` each reply to an arrival
-    /// up to then whose ask the board has was tried: the ask is on the list, or has another value. `NoMemory` comes
-    /// where there is no memory. What was answered by then stays, and a further call goes on from there.
+    /// It fits the entries then, whatever the answer, and fits other actors as before. What was on the list and what
+    /// was known stays so. At `Ok` each reply to an arrival up to then whose ask the board has was tried: the ask is on
+    /// the list, or has another value. `NoMemory` comes where there is no memory. What was answered by then stays, and
+    /// a further call goes on from there.
     pub fn read(&mut self, alloc: Global, actor: u32, entries: &[Entry]) -> Result<(), NoMemory>
         requires below { actor < 32 }
         requires few { length entries.now < 2 ^ 32 }
         requires fits { Fits self.old actor entries.now }
         ensures fits { Fits self.new actor entries.now }
         ensures others { KeepsOthers self.old self.new actor }
+        ensures goes_on { GoesOn self.old.answers self.new.answers }
         ensures tried { OnOk result (AreAllTried self.new actor entries.now) }
     {
         let progress = self.progress.at_mut(actor as usize);

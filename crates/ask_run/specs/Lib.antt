@@ -3,3 +3,6 @@ pub mod Asking
 -- an answerer of one board
 pub mod Tellers
 pub mod Growing
+-- what private functions do
+pub mod Reading
+pub mod Telling

@@ -8,9 +8,10 @@ ghost use Rattle.run_order_law.specs.Order.{IsScheduled};
 ghost use Rattle.actor_turn.specs.Held.{AreLimits};
 ghost use Rattle.ask_board.specs.Board.{cells_of};
 ghost use Rattle.answerer.specs.Answered.{AreKnown, IsOfBoard};
-ghost use Rattle.ask_run.specs.Asking.{KnowsAnswers};
+ghost use Rattle.ask_run.specs.Asking.{AnswersAll, KnowsAnswers};
 
 use crate::one_board::{OneBoard, Teller};
+use crate::reading::read_run;
 use crate::tellers::{join_tellers, tellers, with_tellers};
 use actor_pool::{Gate, PoolQueue, TicketSource};
 use answerer::Answerer;
@@ -51,6 +52,7 @@ fn run_on<'a, R: Threads + Wait + Sync, G: Gate, S: TicketSource + Send + Drop, 
     ensures of_board { IfOk result (λ made. IsOfBoard made.1.answers) }
     ensures known { IfOk result (λ made. AreKnown made.1.answers) }
     ensures answers { IfOk result (λ made. KnowsAnswers made.0 made.1) }
+    ensures all { IfOk result (λ made. AnswersAll made.0 made.1) }
 {
     let besides = tellers::<K>(alloc, board, feeds.len())?;
     let workers = with_tellers::<S, K>(alloc, board, sources, plan.actors.len() as u32)?;
@@ -58,7 +60,8 @@ fn run_on<'a, R: Threads + Wait + Sync, G: Gate, S: TicketSource + Send + Drop, 
         rt, alloc, plan, limits, feeds, ring, besides, workers, gate,
     )?;
     let joined = join_tellers(alloc, board, back)?;
-    Ok((run, joined))
+    let answerer = read_run(alloc, &run, joined)?;
+    Ok((run, answerer))
 }
 
 // So many workers that have the pool's queue alone.
@@ -73,10 +76,11 @@ fn queues(alloc: Global, count: u32) -> Result<Vec<PoolQueue>, NoMemory>
 }
 
 /// The run of a plan as `run_pool` gives it, with the same conditions and answers, beside which the asks of a board are
-/// answered: in each turn of an actor its replies to arrivals from feeds are put there.
+/// answered: in each turn of an actor its replies to arrivals from feeds are put there. What is replied after the last
+/// turn is put there at the end.
 ///
-/// The answerer has all asks that were answered on its list, and knows their answers in the run. `NoMemory` comes too
-/// where an answerer wanted memory.
+/// The answerer knows the answers in the run of all asks on its list. Each ask of the board that has an answer in the
+/// run is on the list, or somebody gave it another value. `NoMemory` comes too where an answerer wanted memory.
 pub fn run_asking<'a, R: Threads + Wait + Sync, G: Gate>(
     rt: &R,
     alloc: Global,
@@ -101,6 +105,7 @@ pub fn run_asking<'a, R: Threads + Wait + Sync, G: Gate>(
     ensures of_board { IfOk result (λ made. IsOfBoard made.1.answers) }
     ensures known { IfOk result (λ made. AreKnown made.1.answers) }
     ensures answers { IfOk result (λ made. KnowsAnswers made.0 made.1) }
+    ensures all { IfOk result (λ made. AnswersAll made.0 made.1) }
 {
     let sources = queues(alloc, workers)?;
     run_on::<R, G, PoolQueue, Brand>(rt, alloc, plan, limits, feeds, ring, sources, board, gate)

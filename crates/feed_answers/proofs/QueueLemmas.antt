@@ -114,3 +114,31 @@ as_many entries replies place all l =
 -- an answer more
 pub seen_more : (answers after : List (Option (Bor Value))) (x : Option (Bor Value)) → after ≡ answers ++ x ∷ [] → seen after ≡ seen answers ++ option_copied x ∷ []
 seen_more answers after x e = ap seen e ∙ map-append option_copied answers (x ∷ [])
+
+-- ---- an answer that is put in the place of the same one
+
+get_dropped : (values : List (Option Value)) (next place : ℕ) → slice_get (drop next values) place ≡ slice_get values (next + place)
+get_dropped [] zero place = refl
+get_dropped [] (suc next) place = refl
+get_dropped (v ∷ values) zero place = let e : 0 + place ≡ place = omega arith in ap (slice_get (v ∷ values)) (sym e)
+get_dropped (v ∷ values) (suc next) place = let e : suc next + place ≡ suc (next + place) = omega arith in get_dropped values next place ∙ ap (slice_get (v ∷ values)) (sym e)
+
+seen_put : (answers : List (Option (Bor Value))) (place : ℕ) (x : Option (Bor Value)) → slice_get (seen answers) place ≡ Some (option_copied x) → seen (slice_set answers place x) ≡ seen answers
+seen_put [] place x e = refl
+seen_put (a ∷ answers) zero x e = let same : option_copied a ≡ option_copied x = cc in ap (λ (v : Option Value). v ∷ seen answers) (sym same)
+seen_put (a ∷ answers) (suc place) x e = ap (λ (vs : List (Option Value)). option_copied a ∷ vs) (seen_put answers place x e)
+
+seen_within : (answers : List (Option (Bor Value))) (place : ℕ) (value : Option Value) → slice_get (seen answers) place ≡ Some value → place < length answers
+seen_within [] place value e = absurd cc
+seen_within (a ∷ answers) zero value e = omega arith
+seen_within (a ∷ answers) (suc place) value e = let rest = seen_within answers place value e in omega arith
+
+module _ (answers : List (Option (Bor Value))) (next place : ℕ) (queue : List (Option Value)) (is : drop next (seen answers) ≡ queue) where
+  there : (value : Option Value) → slice_get queue place ≡ Some value → slice_get (seen answers) (next + place) ≡ Some value
+  there value e = sym (get_dropped (seen answers) next place) ∙ ap (λ (q : List (Option Value)). slice_get q place) is ∙ e
+
+  pub put_within : (value : Option Value) → slice_get queue place ≡ Some value → next + place < length answers
+  put_within value e = seen_within answers (next + place) value (there value e)
+
+  pub put_same : (x : Option (Bor Value)) → slice_get queue place ≡ Some (option_copied x) → drop next (seen (slice_set answers (next + place) x)) ≡ queue
+  put_same x e = ap (drop next) (seen_put answers (next + place) x (there (option_copied x) e)) ∙ is

@@ -87,8 +87,8 @@ fn write_answer(
     }
 }
 
-// The lines of a feed, where the queues have the answers of its rows.
-fn write_feed(
+/// Appends the lines of a feed, where the queues have the answers of its rows. They are used up.
+pub fn write_feed(
     text: &mut Bytes,
     queues: &mut [Queue<'_>],
     feed: u64,

@@ -1,5 +1,5 @@
 //! The answers of a feed that come next, for each actor.
-ghost use Rattle.std.specs.Prelude.{◌≡◌, ◌<◌, IfOk, drop, length, map};
+ghost use Rattle.std.specs.Prelude.{◌≡◌, ◌<◌, IfOk, Some, drop, length, map, slice_get};
 ghost use Rattle.std.specs.Option.{option_copied};
 ghost use Rattle.std.specs.List.{AllByRecursion};
 ghost use Rattle.join_base.specs.declared.message.Source.TheVariants.{Feed};
@@ -30,6 +30,15 @@ impl<'a> Model for Queue<'a> {
 }
 
 impl<'a> Queue<'a> {
+    /// Puts an answer that is found elsewhere in the place of the same answer. Places count from 0.
+    pub fn put(&mut self, place: usize, answer: &'a Value)
+        requires there { slice_get self.old place ≡ Some (Some answer.now) }
+        ensures same { self.new ≡ self.old }
+    {
+        let place = self.next + place;
+        self.answers[place] = Some(answer);
+    }
+
     // Takes the next answer, or none at the end.
     fn take(&mut self) -> Option<&'a Value>
         ensures first { option_copied result ≡ front self.old }

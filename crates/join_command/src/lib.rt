@@ -18,6 +18,7 @@
 //! the log of a run is that of what its threads did.
 #![tactic(auto)]
 
+mod ask;
 mod command;
 mod count;
 mod counted;

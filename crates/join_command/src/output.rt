@@ -8,11 +8,12 @@ ghost use Rattle.script_types.specs.Typed.{IsTyped};
 ghost use Rattle.join_command.specs.Counting.{StopsAtFault, WritesFew, WritesFewWhereTold, fault_count};
 ghost use Rattle.join_command.specs.LintText.{lint_text};
 ghost use Rattle.join_command.specs.Loading.{refused_as};
-ghost use Rattle.join_command.specs.Output.{IsLog, IsLogWithAnswers, IsOutput, IsSettled, IsSummary, accepted_line, cause_name, feed_line, line, log_cause_name, log_line, met_limit, row_cause_name, run_status, script_line, too_long_line};
+ghost use Rattle.join_command.specs.Output.{IsLog, IsOutput, IsSettled, IsSummary, accepted_line, cause_name, feed_line, line, log_cause_name, log_line, met_limit, row_cause_name, run_status, script_line, too_long_line};
 ghost use Rattle.join_command.specs.Replying.{AreRunParts, IsRunnable, verdict_of};
 ghost use Rattle.join_command.specs.Verdict.{limits_of};
 ghost use Rattle.join_command.specs.Writing.{Writes};
 
+use crate::ask::ask_output;
 use crate::count::write_count;
 use crate::counted::CountingSink;
 use crate::lint_text::print_findings;
@@ -26,7 +27,6 @@ use arrival_log::print_log;
 use building_load::{load_feeds, load_plan, summary};
 use command_words::RunOptions;
 use fair_semantics::{ActorRun, Ending, Run};
-use feed_answers::{all_targets, numbered_law, print_answers};
 use join_base::{Bytes, Failed, FeedList, NoMemory};
 use plan_text::print_plan;
 use script_reader::ScriptCause;
@@ -232,33 +232,6 @@ fn run_output<R: Threads + Wait + Sync, G: Gate>(
     let status = run_status(&run);
     // The system takes its memory back as the program ends, at once. Message by message it costs up to a seventh of a
     // run.
-    mem::forget(run);
-    Ok((status, bytes))
-}
-
-// The status, the log of a plan over its feeds, and the answers of their rows.
-fn ask_output<R: Threads + Wait + Sync, G: Gate>(
-    rt: &R,
-    alloc: Global,
-    plan: &Plan,
-    options: RunOptions,
-    feeds: FeedList,
-    gate: &G,
-) -> Result<(Status, Bytes), NoMemory>
-    requires parts { AreRunParts plan.now (limits_of options) feeds }
-    requires numbers { AreInRange options }
-    ensures log { IfOk result (λ p. IsLogWithAnswers plan.now (limits_of options) feeds p.0 p.1) }
-    ensures settled { IfOk result (λ p. IsSettled p.0) }
-{
-    let targets = all_targets(alloc, &feeds)?;
-    let run = run_feeds(rt, alloc, plan, options, feeds, gate)?;
-    // It costs nothing, and the numbers of the arrivals rest on it.
-    numbered_law();
-    let mut bytes = Bytes::new(alloc);
-    print_log(alloc, plan, &run, &mut bytes)?;
-    print_answers(alloc, &run, &targets, &mut bytes)?;
-    let status = run_status(&run);
-    // As in `run_output`.
     mem::forget(run);
     Ok((status, bytes))
 }

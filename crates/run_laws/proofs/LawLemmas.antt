@@ -1,5 +1,5 @@
 -- From the firings of an actor's entries to the law of replies.
-use Rattle.std.proofs.Common.{◌≡◌, ℕ, ◌+◌, ◌≤◌, List, [], ◌∷◌, ◌++◌, length, map, Bool, true, false, Option, None, Some, refl, ap, sym, subst, arith, slice_get}
+use Rattle.std.proofs.Common.{◌≡◌, ℕ, zero, suc, ◌+◌, ◌≤◌, List, [], ◌∷◌, ◌++◌, length, map, Bool, true, false, Option, None, Some, refl, ap, sym, subst, arith, slice_get}
 use Rattle.std.specs.Prelude.{◌==◌, if◌then◌else◌}
 use Rattle.std.specs.List.{AllByRecursion}
 use Rattle.guard_eval.proofs.ReadyLemmas.{each_at}
@@ -8,6 +8,7 @@ use Rattle.script_types.specs.declared.plan.Plan.{Plan}
 use Rattle.script_types.specs.Typed.{IsTyped, IsTypedActor, IsTypedRule, kind_types}
 use Rattle.fair_semantics.specs.declared.run.ActorRun.{ActorRun}
 use Rattle.fair_semantics.specs.declared.run.Entry.{Entry}
+use Rattle.fair_semantics.specs.declared.run.Firing.{Firing}
 use Rattle.fair_semantics.specs.Fair.{fair, rules_of, run_of, setting_of}
 use Rattle.fair_semantics.specs.Linked.{given, unstamped, unstamped_entry}
 use Rattle.fair_semantics.specs.Step.{State, opening}
@@ -35,6 +36,7 @@ takes_once state h = record {
   taken = λ n. omega (arith, h.once n);
   among = λ n. replies_among n state.entries h.replies;
   replied = λ n. omega (arith, h.once n, replies_among n state.entries h.replies);
+  back = λ place entry n there l. omega (arith, (each_at RepliesAmong state.entries place entry there h.replies) n, h.back place entry n there l);
 }
 
 pub fair_takes_once : FairTakesOnce
@@ -52,6 +54,11 @@ same_replied : (entries : List Entry) → replied_in (map unstamped_entry entrie
 same_replied [] = refl
 same_replied (e ∷ entries) = ap (λ (ns : List ℕ). replies_of e.firing ++ ns) (same_replied entries)
 
+unmapped : (entries : List Entry) (place : ℕ) (x : Entry) → slice_get (map unstamped_entry entries) place ≡ Some x → (e : Entry) × (slice_get entries place ≡ Some e) × (e.firing ≡ x.firing)
+unmapped [] place x h = absurd cc
+unmapped (e ∷ entries) zero x h = let same : unstamped_entry e ≡ x = cc in (e, refl, ap (λ (y : Entry). y.firing) same)
+unmapped (e ∷ entries) (suc place) x h = unmapped entries place x h
+
 without_stamps : (entries : List Entry) → TakesOnce entries → TakesOnce (map unstamped_entry entries)
 without_stamps entries h =
     let taken : (n : ℕ) → times n (taken_in (map unstamped_entry entries)) ≡ times n (taken_in entries) = λ n. ap (times n) (same_taken entries) in
@@ -60,6 +67,9 @@ without_stamps entries h =
       taken = λ n. omega (arith, taken n, h.taken n);
       among = λ n. omega (arith, taken n, replied n, h.among n);
       replied = λ n. omega (arith, replied n, h.replied n);
+      back = λ place x n there l.
+          let (e, at, same) = unmapped entries place x there in
+          subst (λ (f : Option Firing). times n (replies_of f) ≡ 0) same (h.back place e n at l);
     }
 
 pub linked_takes_once : LinkedTakesOnce

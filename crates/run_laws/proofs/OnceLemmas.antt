@@ -1,5 +1,5 @@
--- A fair step keeps that each arrival was taken at most once, and that no live one was taken.
-use Rattle.std.proofs.Common.{◌≡◌, ℕ, ◌+◌, ◌<◌, ◌≤◌, List, [], ◌∷◌, ◌++◌, length, length-append, Bool, true, false, Option, None, Some, refl, ap, subst, arith}
+-- A fair step keeps that each arrival was taken at most once and by none before it, and that no live one was taken.
+use Rattle.std.proofs.Common.{◌≡◌, ◌⊎◌, inl, inr, ℕ, zero, suc, ◌+◌, ◌<◌, ◌≤◌, List, [], ◌∷◌, ◌++◌, length, length-append, slice_get, Bool, true, false, Option, None, Some, refl, ap, subst, arith}
 use Rattle.std.specs.Prelude.{◌==◌, if◌then◌else◌, nat_lt}
 use Rattle.std.specs.List.{AllByRecursion}
 use Rattle.std.proofs.lemmas.Bool.Decides.{nat_tests}
@@ -27,11 +27,16 @@ use Rattle.run_laws.proofs.TimesLemmas.{times-append, times_left}
 abbrev pub RepliesAmong : Entry → Type 0
 RepliesAmong entry = (n : ℕ) → times n (replies_of entry.firing) ≤ times n (taken_by entry.firing)
 
+-- no entry takes an arrival behind its own
+abbrev pub TakesBack : List Entry → Type 0
+TakesBack entries = (place : ℕ) (entry : Entry) (n : ℕ) → slice_get entries place ≡ Some entry → place + 1 < n → times n (taken_by entry.firing) ≡ 0
+
 -- each number was taken, or is live, at most once, and a number beyond the arrivals neither
 pub record IsOnce (state : State) : Type 0 where
   pub once : (n : ℕ) → times n (taken_in state.entries) + times n state.live ≤ 1
   pub fresh : (n : ℕ) → length state.entries < n → times n (taken_in state.entries) + times n state.live ≡ 0
   pub replies : AllByRecursion RepliesAmong state.entries
+  pub back : TakesBack state.entries
 
 taken_more : (n : ℕ) (entries : List Entry) (entry : Entry) → times n (taken_in (entries ++ entry ∷ [])) ≡ times n (taken_in entries) + times n (taken_by entry.firing)
 taken_more n [] entry = let last = times-append n (taken_by entry.firing) [] in omega arith
@@ -48,7 +53,18 @@ same_number : (n m : ℕ) → (n == m) ≡ true → n ≡ m
 same_number n m e = grind (arith, nat_tests)
 
 pub opening_once : (feeds actors : ℕ) → IsOnce (opening feeds actors)
-opening_once feeds actors = record { once = λ n. omega arith; fresh = λ n l. refl; replies = tt }
+opening_once feeds actors = record { once = λ n. omega arith; fresh = λ n l. refl; replies = tt; back = λ place entry n there l. let none : None ≡ Some entry = there in absurd cc }
+
+-- what stands in a list with one more stood there before, or is that one
+one_more_at : {X : Type 0} (xs : List X) (y x : X) (k : ℕ) → slice_get (xs ++ y ∷ []) k ≡ Some x → (slice_get xs k ≡ Some x) ⊎ ((k ≡ length xs) × (y ≡ x))
+one_more_at [] y x zero e = inr (refl, cc)
+one_more_at [] y x (suc k) e = absurd cc
+one_more_at (z ∷ xs) y x zero e = inl e
+one_more_at (z ∷ xs) y x (suc k) e = next (one_more_at xs y x k e)
+  where
+    next : (slice_get xs k ≡ Some x) ⊎ ((k ≡ length xs) × (y ≡ x)) → (slice_get (z ∷ xs) (suc k) ≡ Some x) ⊎ ((suc k ≡ length (z ∷ xs)) × (y ≡ x))
+    next (inl h) = inl h
+    next (inr (same, is)) = inr (ap suc same, is)
 
 -- ---- an arrival
 
@@ -88,7 +104,15 @@ module _ (arrival : Arrival) (h : IsOnce arrival.state) where
         once = λ n. omega (arith, taken_more n arrival.state.entries entry, takes n, once_with n);
         fresh = λ n l. let beyond : number_of arrival < n = omega (arith, count, l) in omega (arith, taken_more n arrival.state.entries entry, takes n, none_beyond n beyond);
         replies = each_append RepliesAmong arrival.state.entries (entry ∷ []) h.replies (replies, tt);
+        back = λ place e n there l. back place e n l (one_more_at arrival.state.entries entry e place there);
       }
+    where
+      back : (place : ℕ) (e : Entry) (n : ℕ) → place + 1 < n → (slice_get arrival.state.entries place ≡ Some e) ⊎ ((place ≡ length arrival.state.entries) × (entry_with arrival firing ≡ e)) → times n (taken_by e.firing) ≡ 0
+      back place e n l (inl before) = h.back place e n before l
+      back place e n l (inr (here, same)) =
+          let beyond : number_of arrival < n = omega (arith, here, l) in
+          let none : times n (taken_by firing) ≡ 0 = omega (arith, takes n, none_beyond n beyond) in
+          subst (λ (x : Entry). times n (taken_by x.firing) ≡ 0) same none
 
 module _ (setting : Setting) (actors : ℕ) (sorts : Sorts) (typed : AllByRecursion (IsTypedRule actors sorts) setting.rules) where
   module _ (arrival : Arrival) (h : IsOnce arrival.state) where
@@ -127,11 +151,11 @@ module _ (setting : Setting) (actors : ℕ) (sorts : Sorts) (typed : AllByRecurs
       arrival = arrival_of state sent
 
       running : (b : Bool) → IsOnce (running_step b setting state sent.0 sent.1.message sent.1.stamp).0
-      running true = record { once = λ n. omega (arith, h.once n); fresh = λ n l. omega (arith, h.fresh n l); replies = h.replies }
+      running true = record { once = λ n. omega (arith, h.once n); fresh = λ n l. omega (arith, h.fresh n l); replies = h.replies; back = h.back }
       running false = chosen_once arrival h (choice (messages_with arrival) (live_with arrival) (definitions_of setting.rules)) refl
 
       by : (b : Bool) → IsOnce (step_by b setting state sent.0 sent.1.message sent.1.stamp).0
-      by false = record { once = h.once; fresh = h.fresh; replies = h.replies }
+      by false = record { once = h.once; fresh = h.fresh; replies = h.replies; back = h.back }
       by true = running (is_refused setting state sent.1.message sent.1.stamp)
 
   pub all_once : (sent : List Sent) (state : State) → IsOnce state → IsOnce (after_all setting state sent)

@@ -1,5 +1,5 @@
--- Each arrival is taken at most once, and replied to at most once.
-use Rattle.std.specs.Prelude.{◌≡◌, ℕ, ◌+◌, ◌≤◌, List, [], ◌∷◌, Bool, cond, ◌==◌, Option, None, Some, slice_get}
+-- Each arrival is taken at most once, and replied to at most once, and not before it came.
+use Rattle.std.specs.Prelude.{◌≡◌, ℕ, ◌+◌, ◌<◌, ◌≤◌, List, [], ◌∷◌, Bool, cond, ◌==◌, Option, None, Some, slice_get}
 use Rattle.std.specs.List.{filter_map, flat_map}
 use Rattle.join_base.specs.declared.message.Message.{Message}
 use Rattle.script_types.specs.declared.plan.Plan.{Plan}
@@ -42,11 +42,16 @@ replies_of firing = filter_map reply_number (firing_effects firing)
 abbrev pub replied_in : List Entry → List ℕ
 replied_in entries = flat_map (λ entry. replies_of entry.firing) entries
 
--- each arrival is taken at most once, no other is replied to, and each at most once
+-- no entry replies to an arrival behind its own; the first entry is that of the arrival 1
+abbrev pub RepliesBack : List Entry → Type 0
+RepliesBack entries = (place : ℕ) (entry : Entry) (number : ℕ) → slice_get entries place ≡ Some entry → place + 1 < number → times number (replies_of entry.firing) ≡ 0
+
+-- each arrival is taken at most once, no other is replied to, each at most once, and none before it came
 pub record TakesOnce (entries : List Entry) : Type 0 where
   pub taken : (number : ℕ) → times number (taken_in entries) ≤ 1
   pub among : (number : ℕ) → times number (replied_in entries) ≤ times number (taken_in entries)
   pub replied : (number : ℕ) → times number (replied_in entries) ≤ 1
+  pub back : RepliesBack entries
 
 -- so it is at an actor of a well typed plan, whatever messages it is given
 abbrev pub FairTakesOnce : Type 0

@@ -11,7 +11,7 @@ pub fn spent_law()
 {}
 
 /// Whatever messages an actor of a well typed plan is given, its firings take each arrival at most once, and reply to
-/// each at most once, and only to what they took. So it is in a linked run, in both versions.
+/// each at most once, only to what they took, and to none behind their own. So it is in a linked run, in both versions.
 pub fn reply_law()
     ensures fair { FairTakesOnce }
     ensures linked { LinkedTakesOnce }

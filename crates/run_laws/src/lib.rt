@@ -5,7 +5,7 @@
 //! - `spent_law`: an actor ends as spent only by a message that it may not take. In a run that is linked to feeds that
 //!   fit, that is a message beyond the limit of arrivals, so the actor has as many arrivals as the limit allows.
 //! - `reply_law`: each arrival of an actor is taken by at most one firing, and once there. A firing replies only to
-//!   arrivals that it took, and to each at most once.
+//!   arrivals that it took, to each at most once, and to none that came later.
 //!
 //! The first stands on what `log_replay` proves of linked runs. There is no code here, and no test;
 //! examples are computed.

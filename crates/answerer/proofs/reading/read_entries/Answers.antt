@@ -3,7 +3,7 @@ use Rattle.feed_answers.specs.Answers.{effects_in}
 use Rattle.ask_board.specs.declared.view.Ask.{Ask}
 use Rattle.answerer.specs.Answered.{Answered}
 use Rattle.answerer.specs.Asks.{asks_of}
-use Rattle.answerer.proofs.AnsweredLemmas.{whole_tried}
+use Rattle.answerer.proofs.AnsweredLemmas.{answered_goes_on, goes_same, whole_tried}
 use Rattle.answerer.proofs.FitLemmas.{alike_answered, fits_answered, fits_noted}
 use Rattle.answerer.proofs.reading.read_entries.Goals as goal
 
@@ -20,3 +20,9 @@ returns-clause-others c = λ other differ.
 pub returns-clause-tried : goal.returns-clause-tried
 returns-clause-tried c =
     whole_tried c.note.new.self.asks (asks_of c.args.actor c.args.entries.now) c.args.entries.now c.answer_entries.new.progress.done c.answer_entries.new.self c.answer_entries.result c.in_ok-note.ensures.all c.answer_entries.ensures.tried c.answer_entries.ensures.all
+
+pub returns-in_err-note-clause-goes_on : goal.returns-in_err-note-clause-goes_on
+returns-in_err-note-clause-goes_on c = goes_same c.args.answers.now
+
+pub returns-clause-goes_on : goal.returns-clause-goes_on
+returns-clause-goes_on c = answered_goes_on c.note.new.self.asks (effects_in c.args.entries.now) c.args.answers.now c.answer_entries.new.self c.answer_entries.ensures.answered
