@@ -77,7 +77,10 @@ fn one_answerer<'a>(alloc: Global, board: &'a AskBoard) -> Result<Vec<Answerer<'
 fn one_worker<'a>(
     alloc: Global,
     board: &'a AskBoard,
-) -> Result<Vec<(PoolQueue, Answerer<'a>)>, NoMemory> {
+) -> Result<Vec<(PoolQueue, Answerer<'a>)>, NoMemory>
+    ensures count { IfOk result (λ workers. length workers.items ≡ 1) }
+    ensures opening { IfOk result (λ workers. All (λ worker. FitsOpening FitsHistory (worker.1)) workers.items) }
+{
     let mut workers = Vec::new(alloc);
     workers.push((PoolQueue, Answerer::new(alloc, board)?))?;
     Ok(workers)
