@@ -6,8 +6,8 @@
 //! is shown it. `print_board` appends a line for each actor, and `write_totals` the counts of one.
 //!
 //! A contract sees the run, as `run_pool` of `pool_run` has it, and the board that comes to the totals of that run
-//! (`totals_in`). Not said: what a monitor reads, how often, that one reads at all, what a view is shown, or that a call
-//! returns.
+//! (`totals_in`). Not said: what a monitor reads, how often, that one reads at all, what a view is shown, or that a
+//! call returns.
 #![tactic(auto)]
 
 mod board_text;

@@ -43,8 +43,8 @@ fn read_on<R: Wait, V: View<R>>(
     }
 }
 
-/// Reads with each monitor, on a thread of its own, until the board is closed. Between two reads a monitor rests, and who
-/// notifies `ended` ends that. One for which no thread can be made reads after another one, which finds the board
+/// Reads with each monitor, on a thread of its own, until the board is closed. Between two reads a monitor rests, and
+/// who notifies `ended` ends that. One for which no thread can be made reads after another one, which finds the board
 /// closed.
 #[cycle(monitors)]
 pub(crate) fn read_all<R: Threads + Wait + Sync, V: View<R> + Sync>(

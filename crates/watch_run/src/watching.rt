@@ -83,8 +83,8 @@ fn run_to_board<R: Threads + Wait + Sync, G: Gate>(
 /// each thread the totals of the actors are published on a board. While the run goes on, 1 to 8 monitors read it ten
 /// times a second and show it the view. Where no thread can be made for a monitor, it reads nothing.
 ///
-/// The board that comes back has the totals of the run. It is what the view is shown last. `NoMemory` comes where `run_pool` has it, and for the board. It
-/// may wait.
+/// The board that comes back has the totals of the run. It is what the view is shown last. `NoMemory` comes where
+/// `run_pool` has it, and for the board. It may wait.
 pub fn run_watched<R: Threads + Wait + Sync, G: Gate, V: View<R> + Sync>(
     rt: &R,
     alloc: Global,

@@ -53,6 +53,32 @@ pub const PING_PONG: &[u8] =
     b"message ping(n: int) actor p { when ping(n) { post q ping(n + 1); } } \
       actor q { when ping(n) { post p ping(n + 1); } }";
 
+/// The log of two actors that answer each other until one has no place for a further arrival.
+pub const ANSWERED: &[u8] = b"joinlog 2 arrivals 3 partials 65536 feeds 1\n\
+      actor p\n\
+      1 at 1 from feed 1 ping(0)\n\
+      fire rule 1 take 1\n\
+      post q ping(1)\n\
+      2 at 3 from actor q ping(2)\n\
+      fire rule 1 take 2\n\
+      post q ping(3)\n\
+      3 at 5 from actor q ping(4)\n\
+      fire rule 1 take 3\n\
+      post q ping(5)\n\
+      late actor q 1\n\
+      end spent left - partials 1\n\
+      actor q\n\
+      1 at 2 from actor p ping(1)\n\
+      fire rule 1 take 1\n\
+      post p ping(2)\n\
+      2 at 4 from actor p ping(3)\n\
+      fire rule 1 take 2\n\
+      post p ping(4)\n\
+      3 at 6 from actor p ping(5)\n\
+      fire rule 1 take 3\n\
+      post p ping(6)\n\
+      end running left - partials 1\n";
+
 /// Replies to each message.
 pub const REPLIES: &[u8] = b"message q(x: int) actor m { when q(x) { reply 1 x + 1; } }";
 

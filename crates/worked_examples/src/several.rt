@@ -1,7 +1,7 @@
 //! Runs of several actors, and of actors that meet a limit.
 ghost use Rattle.std.specs.Prelude.{◌≤◌};
 
-use crate::example::{Example, HEAD, PAIRS, PING_PONG, RUN, comes_to, push};
+use crate::example::{ANSWERED, Example, HEAD, PAIRS, PING_PONG, RUN, comes_to, push};
 use crate::made::push_numbered;
 use crate::runs::THREE;
 use crate::telling::{counted, tell_examples, told};
@@ -10,32 +10,6 @@ use join_command::Status;
 use std::alloc::Global;
 use std::sync::Wait;
 use std::thread::Threads;
-
-// The log of two actors that answer each other until one has no place for a further arrival.
-const ANSWERED: &[u8] = b"joinlog 2 arrivals 3 partials 65536 feeds 1\n\
-      actor p\n\
-      1 at 1 from feed 1 ping(0)\n\
-      fire rule 1 take 1\n\
-      post q ping(1)\n\
-      2 at 3 from actor q ping(2)\n\
-      fire rule 1 take 2\n\
-      post q ping(3)\n\
-      3 at 5 from actor q ping(4)\n\
-      fire rule 1 take 3\n\
-      post q ping(5)\n\
-      late actor q 1\n\
-      end spent left - partials 1\n\
-      actor q\n\
-      1 at 2 from actor p ping(1)\n\
-      fire rule 1 take 1\n\
-      post p ping(2)\n\
-      2 at 4 from actor p ping(3)\n\
-      fire rule 1 take 2\n\
-      post p ping(4)\n\
-      3 at 6 from actor p ping(5)\n\
-      fire rule 1 take 3\n\
-      post p ping(6)\n\
-      end running left - partials 1\n";
 
 // Each actor gets its messages from one source alone, or from the second only after all of the first, so there is one
 // log.
