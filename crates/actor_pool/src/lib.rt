@@ -13,9 +13,9 @@
 //! the queue, and `Pool::actors`, `due` and `feeds_ended`.
 //!
 //! A contract sees of a helper the view of its seat (`seat_of`) and of its pass (`pass_of`), and of a poster its links,
-//! their tag and the view of its seat. A helper goes on (`GoesOn`): it sees no less, and its tries, claims and empty
-//! takes don't fall. A turn shows by the tallies that were found and left what it answers; a worker made at least as
-//! many claims as it took tickets of actors. What a `Beside` keeps of each actor fits what the helper has seen of it
+//! their tag and the view of its seat. A helper goes on (`HelperGoesOn`): it sees no less, and its tries, claims and
+//! empty takes don't fall. A turn shows by the tallies that were found and left what it answers; a worker made at least
+//! as many claims as it took tickets of actors. What a `Beside` keeps of each actor fits what the helper has seen of it
 //! (`FitsSeen`). Between any two atomic steps, in every schedule, a cell that nobody has the turn of is lawful, by the
 //! rule of the lock.
 //!

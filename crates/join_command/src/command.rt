@@ -9,8 +9,7 @@ use command_words::{Request, Setting, Verb};
 use join_base::{NoMemory, WordList};
 use std::alloc::Global;
 
-/// The command that the words are, or none. This program takes these commands and options. `command_words` knows more
-/// of them, and words of those are no command.
+/// The command that the words are, or none.
 pub fn command_of<'a>(alloc: Global, words: &'a WordList) -> Result<Option<Request<'a>>, NoMemory>
     ensures command { IfOk result (λ request. option_map command_in request ≡ command_of words.now) }
     ensures in_range { IfOk result (λ request. IfSome request (λ r. IsInRange (command_in r))) }

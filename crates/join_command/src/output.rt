@@ -277,8 +277,8 @@ fn text_of_findings(alloc: Global, plan: &Plan) -> Result<Bytes, NoMemory>
     Ok(bytes)
 }
 
-/// The status of a reply, and what is written for it. It may wait where the reply is a run. The view is shown the totals
-/// of a run that is watched.
+/// The status of a reply, and what is written for it. It may wait where the reply is a run. The view is shown the
+/// totals of a run that is watched.
 pub fn output_of<R: Threads + Wait + Sync, G: Gate, V: View<R> + Sync>(
     rt: &R,
     alloc: Global,

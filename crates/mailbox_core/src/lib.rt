@@ -7,8 +7,8 @@
 //! message is stored once. Each call takes constant time, `append` and `clear` on average and `consume` for each
 //! number, but for `into_parts`.
 //!
-//! Contracts see a `Held`: the mail, of which each call has one equation between old and new, and for how many arrivals
-//! there is room. Times and sizes are not in the contracts. Tests make each call with ample memory.
+//! Contracts see a `HeldMail`: the mail, of which each call has one equation between old and new, and for how many
+//! arrivals there is room. Times and sizes are not in the contracts. Tests make each call with ample memory.
 #![tactic(auto)]
 
 mod late;
