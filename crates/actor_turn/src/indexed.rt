@@ -1,5 +1,5 @@
-//! The index of an actor's messages, by the fields that its definitions compare for equality. Which fields these are
-//! bears on speed alone, so no clause says it.
+//! The index of an actor's messages, by the fields that its definitions compare with fields of other patterns. Which
+//! fields these are bears on speed alone, so no clause says it.
 ghost use Rattle.std.specs.Prelude.{◌≡◌, [], All, if◌then◌else◌};
 ghost use Rattle.pattern_core.specs.Suits.{IsRecorded};
 ghost use Rattle.value_index.specs.Index.{AddsNone};
@@ -59,23 +59,53 @@ fn add_operand(
     }
 }
 
-// Whether an operand has a field.
-fn has_field(operand: &Operand) -> bool {
+// The pattern of the first field of an operand, if it has one.
+fn first_pattern(operand: &Operand) -> Option<u32> {
     match operand {
         Operand::Sum(term) => {
             for signed in term.leaves() {
-                if let Leaf::Field(_) = signed.leaf {
-                    return true;
+                if let Leaf::Field(place) = signed.leaf {
+                    return Some(place.pattern);
+                }
+            }
+            None
+        }
+        Operand::Words(WordsLeaf::Fixed(_)) => None,
+        Operand::Words(WordsLeaf::Field(place)) => Some(place.pattern),
+    }
+}
+
+// Whether an operand has a field of another pattern.
+fn has_other(operand: &Operand, pattern: u32) -> bool {
+    match operand {
+        Operand::Sum(term) => {
+            for signed in term.leaves() {
+                if let Leaf::Field(place) = signed.leaf {
+                    if place.pattern != pattern {
+                        return true;
+                    }
                 }
             }
             false
         }
         Operand::Words(WordsLeaf::Fixed(_)) => false,
-        Operand::Words(WordsLeaf::Field(_)) => true,
+        Operand::Words(WordsLeaf::Field(place)) => place.pattern != pattern,
     }
 }
 
-// Adds the fields of a conjunct that says that two operands with fields are equal, and nothing else.
+// Whether two operands have fields of different patterns.
+fn are_tied(left: &Operand, right: &Operand) -> bool {
+    match first_pattern(left) {
+        Some(pattern) => has_other(left, pattern) || has_other(right, pattern),
+        None => match first_pattern(right) {
+            Some(pattern) => has_other(right, pattern),
+            None => false,
+        },
+    }
+}
+
+// Adds the fields of a conjunct that compares fields of different patterns, and says nothing else. Fields that differ
+// are not looked up.
 fn add_conjunct(
     index: &mut ValueIndex,
     definition: &Definition,
@@ -85,11 +115,11 @@ fn add_conjunct(
         [
             Atom::Compare {
                 left,
-                relation: Relation::Equal,
+                relation,
                 right,
             },
         ] => {
-            if !has_field(left) || !has_field(right) {
+            if *relation == Relation::NotEqual || !are_tied(left, right) {
                 return Ok(());
             }
             add_operand(index, definition, left)?;
@@ -107,7 +137,7 @@ fn add_definition(index: &mut ValueIndex, definition: &Definition) -> Result<(),
     Ok(())
 }
 
-/// An index of the fields that the rules compare for equality, without a number.
+/// An index of the fields that the rules compare with those of other patterns, without a number.
 pub fn index_of(alloc: Global, rules: &Items<Rule>) -> Result<ValueIndex, NoMemory> {
     let mut index = ValueIndex::new(alloc);
     for rule in rules.as_slice() {

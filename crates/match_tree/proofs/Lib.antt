@@ -22,6 +22,8 @@
 -- - which conjuncts are decided is the same for all numbers of a row (`tests_alike`): ScreenLemmas
 -- - a number that an index has not under a look-up's value is not worth a visit (`key_looks`, `text_looks`), and those that
 --   are left of the index have all that are (`left_before`, `left_behind`): LookLemmas
+-- - a number that meets the bounds has a value of their span (`span_lies`), and those of these values are found
+--   (`range_found`): RangeLemmas
 -- - nodes of which some are without the routes that take a number (`both_thinned`, `thinned_each`), and why the others have
 --   none (`pruned_quiet`, `pruned_barred`): ThinLemmas
 -- - a visit adds routes only where some pattern may take the number (`earned_node`, `visited_routes`): EarnLemmas
@@ -47,6 +49,7 @@ pub mod PruneLemmas
 pub mod LeafLemmas
 pub mod KeyLemmas
 pub mod LookLemmas
+pub mod RangeLemmas
 pub mod CountLemmas
 pub mod ThinLemmas
 pub mod OpenLemmas

@@ -17,7 +17,7 @@ use Rattle.guard_bound.specs.Same.{is_same, words_at}
 use Rattle.guard_bound.specs.declared.same.Same.{Same}
 use Rattle.value_index.specs.declared.field.IndexedField.{IndexedField}
 use Rattle.value_index.specs.Index.{Index, entry}
-use Rattle.value_index.specs.SameValue.{Ascend}
+use Rattle.value_index.specs.ValueRange.{Ascend}
 use Rattle.value_index.proofs.EntryLemmas.{in_or_not}
 use Rattle.value_index.specs.Values.{text_value, value_at}
 use Rattle.match_tree.specs.Routes.{Branch, with_number}
@@ -26,13 +26,13 @@ use Rattle.match_tree.specs.Offers.{Offered, is_free, may_take, takers}
 use Rattle.match_tree.specs.Offering.{AreIndexed}
 use Rattle.match_tree.specs.Order.{Rise}
 use Rattle.match_tree.specs.Screen.{AreOffered, AreTests, AreWorthless, IsOffered, IsOther, IsWorthless, Screens, passes}
-use Rattle.match_tree.specs.Look.{AreLeft, HasLeft, LooksUp, LooksUpAt, may_meet}
+use Rattle.match_tree.specs.Look.{AreLeft, FindsAt, HasLeft, LooksUp, LooksUpAt, may_meet}
 use Rattle.match_tree.specs.declared.look.Look.{Look}
 use Rattle.match_tree.specs.declared.screen.Key.{Key}
 use Rattle.match_tree.specs.declared.screen.Screen.{Screen}
 use Rattle.match_tree.proofs.FirstLemmas.{all_in}
 use Rattle.match_tree.proofs.KeyLemmas.{number_there}
-use Rattle.match_tree.proofs.ScreenLemmas.{all_others, fails_one, is_another, misses_key, misses_text, number_set, other_at, others}
+use Rattle.match_tree.proofs.ScreenLemmas.{all_others, fails_one, is_another, misses_key, misses_text, none_taken, number_set, other_at, others}
 use Rattle.match_tree.proofs.TakeLemmas.{takers_further}
 
 -- ---- what an index has
@@ -60,7 +60,7 @@ kind_there messages (k ∷ kinds) (None ∷ slots) (suc q) m kind suits at get =
 kind_there messages (k ∷ kinds) (Some n ∷ slots) (suc q) m kind suits at get = kind_there messages kinds slots q m kind suits.3 at get
 
 -- an offered number of a row has its entries
-entry_there : (o : Offered) (slots : Assignment) (q m kind place : ℕ) (indexed : IndexedField) → IsOffered o slots q m → slice_get o.definition.patterns q ≡ Some kind → slice_get o.index.fields place ≡ Some indexed → kind ≡ indexed.kind
+pub entry_there : (o : Offered) (slots : Assignment) (q m kind place : ℕ) (indexed : IndexedField) → IsOffered o slots q m → slice_get o.definition.patterns q ≡ Some kind → slice_get o.index.fields place ≡ Some indexed → kind ≡ indexed.kind
     → IsIn (entry place (value_at o.messages m indexed) m) o.index.entries
 entry_there o slots q m kind place indexed offered pattern get same =
     let at = number_set slots q m offered.free in
@@ -101,6 +101,21 @@ all_look o slots q look all m offered absent = sym (takers_further o slots q m o
 
 pub look_alone : (o : Offered) (slots : Assignment) (q p : ℕ) (look : Look) → others o slots q ≡ p ∷ [] → LooksUpAt o slots q p look → LooksUp o slots q look
 look_alone o slots q p look alone at = all_look o slots q look (subst (λ (ps : List ℕ). AllByRecursion (λ x. LooksUpAt o slots q x look) ps) (sym alone) (at, tt))
+
+-- the numbers of the value are those that have it
+pub looks_find : (o : Offered) (slots : Assignment) (q p from : ℕ) (look : Look) (numbers : List ℕ) → LooksUpAt o slots q p look → Ascend numbers → ((number : ℕ) → from ≤ number → IsIn (entry look.place look.value number) o.index.entries → IsIn number numbers)
+    → FindsAt o slots q p from numbers
+looks_find o slots q p from look numbers looks ascend has = record {
+  ascend = ascend;
+  has = λ is number l offered. elim (in_or_not (entry look.place look.value number) o.index.entries) [
+    | inl there ↦ inl (has number l there)
+    | inr absent ↦ inr (looks is number offered absent)
+  ];
+}
+
+-- those from one on
+pub finds_from : (o : Offered) (slots : Assignment) (q p from : ℕ) (numbers : List ℕ) → FindsAt o slots q p 0 numbers → FindsAt o slots q p from numbers
+finds_from o slots q p from numbers finds = record { ascend = finds.ascend; has = λ is number l offered. finds.has is number (omega arith) offered }
 
 -- two look-ups that are one
 pub one_look : (o : Offered) (slots : Assignment) (q p : ℕ) (a b : Look) → ((a.place == b.place) && int_eq a.value b.value) ≡ true → LooksUpAt o slots q p a → LooksUpAt o slots q p b
@@ -162,6 +177,21 @@ module _ (o : Offered) (slots : Assignment) (q : ℕ) (row : List Branch) (from 
         | inl there ↦ inr (has number (node_up_to row from i rise l m) there)
         | inr absent ↦ inl (inr (looks number (offered i l m) absent))
       ]
+
+  -- or those that a screen finds
+  pub left_found : (p first : ℕ) (left : List ℕ) → first ≡ (node_at row from).number → others o slots q ≡ p ∷ [] → AreOffered o slots q row from → FindsAt o slots q p first left → HasLeft o slots q row from left
+  left_found p first left is alone offered finds = record { ascend = finds.ascend; has = there }
+    where
+      other : IsOther o slots q p
+      other = (subst (λ (ps : List ℕ). AllByRecursion (IsOther o slots q) ps) alone (all_others o slots q)).0
+
+      there : AreLeft o slots q row from left
+      there i l m =
+          let number : ℕ = (node_at row i).number in
+          elim (finds.has other number (subst (λ (n : ℕ). n ≤ number) (sym is) (node_up_to row from i rise l m)) (offered i l m)) [
+            | inl found ↦ inr found
+            | inr none ↦ inl (inr (none_taken o slots q number p (offered i l m).free alone none))
+          ]
 
   -- without one that is not worth a visit wherever it stands
   pub left_more : (number : ℕ) (left rest : List ℕ) → left ≡ number ∷ rest → ((i : ℕ) → from ≤ i → i < length row → (node_at row i).number ≡ number → IsWorthless o slots q number) → AreLeft o slots q row from left → AreLeft o slots q row from rest

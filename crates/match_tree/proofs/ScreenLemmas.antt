@@ -107,7 +107,7 @@ module _ (o : Offered) (slots : Assignment) (q m : ℕ) where
   longer = with_number slots q m
 
   -- where the one other pattern may not take the number, none may
-  none_taken : (p : ℕ) → is_free slots q ≡ true → others o slots q ≡ p ∷ [] → may_take o longer p ≡ false → takers o longer ≡ []
+  pub none_taken : (p : ℕ) → is_free slots q ≡ true → others o slots q ≡ p ∷ [] → may_take o longer p ≡ false → takers o longer ≡ []
   none_taken p free alone none =
       let nothing : filter (may_take o longer) (p ∷ []) ≡ [] = λ i. cond (none i) (p ∷ []) [] in
       sym (takers_further o slots q m free) ∙ ap (filter (may_take o longer)) alone ∙ nothing

@@ -14,8 +14,7 @@ use Rattle.pattern_core.specs.Matches.{is_of_kind, is_agreeable}
 use Rattle.pattern_core.specs.Members.{IsIn}
 use Rattle.pattern_core.specs.Suits.{IsRecorded, SlotsSuit}
 use Rattle.pattern_core.proofs.SuitsLemmas.{length-SlotsSuit}
-use Rattle.value_index.specs.Index.{entry}
-use Rattle.value_index.specs.SameValue.{Ascend}
+use Rattle.value_index.specs.ValueRange.{Ascend}
 use Rattle.match_tree.specs.Routes.{Route, Step, Branch, step, filled, with_number, node_routes, row_routes, lacks}
 use Rattle.match_tree.specs.Rows.{leaf, node_at}
 use Rattle.match_tree.specs.Below.{AreBelow, Climbs}
@@ -24,8 +23,7 @@ use Rattle.match_tree.specs.Offering.{CanOffer, LeadOn, LeadsOn}
 use Rattle.match_tree.specs.Order.{Earlier, Rise, IsOrderedNode, IsSoundRow}
 use Rattle.match_tree.specs.Pruned.{AreShort, NodesRise, RiseFrom, pruned}
 use Rattle.match_tree.specs.Screen.{IsOffered}
-use Rattle.match_tree.specs.Look.{IsAbsent, LooksUpAt}
-use Rattle.match_tree.specs.declared.look.Look.{Look}
+use Rattle.match_tree.specs.Look.{FindsAt}
 use Rattle.match_tree.specs.Thinned.{AreVisited, ContinuesPath, ContinuePath, IsBarred, IsGuarded, IsQuiet, IsThinned, IsVisited, NodesContinuePath}
 use Rattle.match_tree.proofs.FirstLemmas.{all_in}
 use Rattle.match_tree.proofs.LeadLemmas.{below_start, below_unset, not_it}
@@ -429,12 +427,15 @@ pub visited_nodes : (o : Offered) (slots : Assignment) (q : ℕ) (row : List Bra
 visited_nodes o slots q [] h = tt
 visited_nodes o slots q (node ∷ row) h = (all_left (IsVisited o slots) (node_routes q node) (row_routes q row) h, visited_nodes o slots q row (all_right (IsVisited o slots) (node_routes q node) (row_routes q row) h))
 
--- where the index has no entry, the pattern is barred
-pub absent_barred : (o : Offered) (slots : Assignment) (q p n : ℕ) (look : Look) → LooksUpAt o slots q p look → IsOffered o slots q n → IsAbsent o.index look n → may_take o (with_number slots q n) p ≡ false
-absent_barred o slots q p n look looks there absent = by (may_take o (with_number slots q n) p) refl
+-- at a number that is not found, the pattern is barred
+pub found_barred : (o : Offered) (slots : Assignment) (q p n : ℕ) (numbers : List ℕ) → FindsAt o slots q p 0 numbers → IsOffered o slots q n → ¬ IsIn n numbers → may_take o (with_number slots q n) p ≡ false
+found_barred o slots q p n numbers finds there absent = by (may_take o (with_number slots q n) p) refl
   where
     by : (b : Bool) → may_take o (with_number slots q n) p ≡ b → may_take o (with_number slots q n) p ≡ false
-    by true e = looks (record { may = takes_below o slots q n p there.free e; apart = takes_other o slots q n p e }) n there absent
+    by true e = elim (finds.has (record { may = takes_below o slots q n p there.free e; apart = takes_other o slots q n p e }) n (omega arith) there) [
+      | inl found ↦ absurd (absent found)
+      | inr none ↦ none
+    ]
     by false e = e
 
 -- ---- from what leads on
@@ -475,16 +476,16 @@ module _ (ks : List ℕ) (limit : ℕ) (all left : List ℕ) where
 
 -- ---- pattern by pattern
 
-pub pair_thinned : (o : Offered) (slots : Assignment) (q p : ℕ) (look : Look) (ks left : List ℕ) (before now : List Branch) → ks ≡ o.number ∷ [] → AllByRecursion (IsGuarded o slots q) before → LooksUpAt o slots q p look
-    → ((n : ℕ) → 0 ≤ n → IsIn (entry look.place look.value n) o.index.entries → IsIn n left) → IsThinned ks (λ n. n < o.number → ¬ IsIn n left) before now → IsThinned (o.number ∷ []) (IsBarred o slots q p) before now
-pair_thinned o slots q p look ks left before now is guards looks has h =
+pub pair_thinned : (o : Offered) (slots : Assignment) (q p : ℕ) (ks left : List ℕ) (before now : List Branch) → ks ≡ o.number ∷ [] → AllByRecursion (IsGuarded o slots q) before → FindsAt o slots q p 0 left → IsThinned ks (λ n. n < o.number → ¬ IsIn n left) before now
+    → IsThinned (o.number ∷ []) (IsBarred o slots q p) before now
+pair_thinned o slots q p ks left before now is guards finds h =
     weaker (o.number ∷ []) (λ n. n < o.number → ¬ IsIn n left) (IsBarred o slots q p) before now barred (subst (λ (ns : List ℕ). IsThinned ns (λ n. n < o.number → ¬ IsIn n left) before now) is h)
   where
     barred : (i : ℕ) → i < length before → ((node_at before i).number < o.number → ¬ IsIn (node_at before i).number left) → IsBarred o slots q p (node_at before i).number
     barred i l none less =
         let node : Branch = node_at before i in
         let there = (all_at (IsGuarded o slots q) before i (leaf 0) l guards).there less in
-        absent_barred o slots q p node.number look looks there (λ m. none less (has node.number (omega arith) m))
+        found_barred o slots q p node.number left finds there (none less)
 
 and_never : (a b : Bool) → (a && (false && b)) ≡ false
 and_never true b = refl

@@ -19,4 +19,5 @@ pub mod Kept
 pub mod Screen
 pub mod Ties
 pub mod Look
+pub mod Range
 pub mod Thinned

@@ -6,7 +6,7 @@ use Rattle.pattern_core.specs.Members.{IsIn}
 use Rattle.guard_bound.specs.Bound.{meets}
 use Rattle.guard_bound.specs.Same.{is_same}
 use Rattle.value_index.specs.Index.{Index, entry}
-use Rattle.value_index.specs.SameValue.{Ascend}
+use Rattle.value_index.specs.ValueRange.{Ascend}
 use Rattle.match_tree.specs.declared.look.Look.{Look}
 use Rattle.match_tree.specs.declared.screen.Screen.{Screen}
 use Rattle.match_tree.specs.Routes.{Branch, with_number}
@@ -25,6 +25,12 @@ LooksUp o slots pattern look = (number : ℕ) → IsOffered o slots pattern numb
 -- behind a number of the row that has none, the wanted pattern may not take the offered one
 abbrev pub LooksUpAt : Offered → Assignment → ℕ → ℕ → Look → Type 0
 LooksUpAt o slots pattern other look = IsOther o slots pattern other → (number : ℕ) → IsOffered o slots pattern number → IsAbsent o.index look number → may_take o (with_number slots pattern number) other ≡ false
+
+-- the numbers ascend, and each number of the row from one on is there, or the wanted pattern may not take the offered one
+-- behind it
+pub record FindsAt (o : Offered) (slots : Assignment) (pattern other from : ℕ) (numbers : List ℕ) : Type 0 where
+  pub ascend : Ascend numbers
+  pub has : IsOther o slots pattern other → (number : ℕ) → from ≤ number → IsOffered o slots pattern number → IsIn number numbers ⊎ (may_take o (with_number slots pattern number) other ≡ false)
 
 -- the number passes the bounds and the text of the screen
 abbrev pub may_meet : Offered → Option Screen → ℕ → Bool

@@ -5,7 +5,7 @@ ghost use Rattle.std.specs.List.{filter, AllByRecursion};
 ghost use Rattle.guard_eval.specs.Meaning.{Assignment};
 ghost use Rattle.pattern_core.specs.Members.{IsIn};
 ghost use Rattle.pattern_core.specs.Suits.{IsRecorded};
-ghost use Rattle.value_index.specs.SameValue.{Ascend};
+ghost use Rattle.value_index.specs.ValueRange.{Ascend};
 ghost use Rattle.match_tree.specs.Routes.{node_routes, rows_routes, row_routes, lacks, with_number};
 ghost use Rattle.match_tree.specs.Offers.{may_take};
 ghost use Rattle.match_tree.specs.Offering.{offered, CanOffer, LeadOn};
@@ -13,7 +13,7 @@ ghost use Rattle.match_tree.specs.Order.{IsSoundRow, AreSound};
 ghost use Rattle.match_tree.specs.Pruned.{AreShort, NodesRise, pruned};
 ghost use Rattle.match_tree.specs.Thinned.{AreVisited, IsBarred, IsGuarded, IsThinned, NodesContinuePath};
 
-use crate::look::{FEWEST, look_at, numbers_at};
+use crate::look::{FEWEST, found_at};
 use crate::node::Node;
 use crate::offer::Offer;
 use crate::prune::{prune_node, prune_nodes, remove_numbers};
@@ -21,7 +21,7 @@ use crate::row::{Nodes, Row, place_of_node};
 use join_base::{Numbers, Slots};
 use pattern_core::has_kind;
 use std::collections::VecDeque;
-use value_index::SameValue;
+use value_index::ValueRange;
 
 // How many routes went, and whether all went that take the number.
 #[derive(Clone, Copy)]
@@ -48,7 +48,7 @@ fn prune_at(nodes: &mut VecDeque<Node>, at: u32, numbers: &Numbers, levels: usiz
 // Leaves out the routes behind the nodes with numbers that are found, up to the limit.
 fn prune_found(
     nodes: &mut VecDeque<Node>,
-    left: &mut SameValue<'_>,
+    left: &mut ValueRange<'_>,
     limit: u32,
     numbers: &Numbers,
     levels: usize,
@@ -93,10 +93,9 @@ fn prune_pair(
     ensures gone { IfSome result (λ gone. gone + length (row_routes 0 nodes.new.items)
         ≡ length (row_routes 0 nodes.old.items)) }
 {
-    let look = look_at(offer, slots, pattern, other, nodes.len())?;
+    let mut left = found_at(offer, slots, pattern, other, nodes.len())?;
     let mut one = Numbers::new();
     one.push(offer.number);
-    let mut left = numbers_at(offer.index, look, 0);
     Some(prune_found(nodes, &mut left, offer.number, &one, levels))
 }
 

@@ -18,10 +18,12 @@
 //!
 //! `reserve_for` gets an index of the messages' values, which has the numbers of the paths. Where it knows the field of
 //! an equality, a row of at least 8 numbers is looked up there (`look`): the numbers of the value, each then found in
-//! the row. Each of them that is gone through counts, unless it ends the search, and there are never more than places
-//! passed. `prune` looks a number up in the same way (`by_value`): it stands behind a node of a first row only where it
-//! could be taken there, so that other nodes need no walk.
-//! `reserve_for` takes back in this way too what it had added before it found a match.
+//! the row. A field that has to have a least value, as in a window of time, is looked up by its range of values, where
+//! that has at most 32 numbers, which ascend with their values (`range`). Each number that is gone through counts,
+//! unless it ends the search, and there are never more than places passed. That a range was gone through once before,
+//! to see that its numbers ascend, is not counted, as the search in the index is not. `prune` looks a number up in the
+//! same way (`by_value`): it stands behind a node of a first row only where it could be taken there, so that other
+//! nodes need no walk. `reserve_for` takes back in this way too what it had added before it found a match.
 //!
 //! Tests show the calls of one arrival one behind the other: rows, and small scripts against a plain listing.
 #![tactic(auto)]
@@ -33,6 +35,7 @@ mod node;
 mod offer;
 mod pending;
 mod prune;
+mod range;
 mod reserve;
 mod row;
 mod row_numbers;

@@ -1,29 +1,30 @@
-//! Looking the numbers of a row up by the value that they have to have, where the index knows the field.
-ghost use Rattle.std.specs.Prelude.{◌≡◌, ◌+◌, ◌≤◌, ◌<◌, ◌&&◌, ℕ, length, map, slice_get, slice_index, Some, None, true, false, nat_le, not, ◌==◌, IfSome};
+//! Looking the numbers of a row up by the values that they have to have, where the index knows the field.
+ghost use Rattle.std.specs.Prelude.{◌≡◌, ◌+◌, ◌≤◌, ◌<◌, ◌∷◌, ◌&&◌, [], ℕ, length, map, slice_get, slice_index, Some, None, true, false, nat_le, not, ◌==◌, IfSome};
 ghost use Rattle.std.specs.List.{filter};
 ghost use Rattle.std.specs.Ordering.{int_eq};
 ghost use Rattle.pattern_core.specs.Members.{IsIn};
 ghost use Rattle.value_index.specs.Index.{entry};
-ghost use Rattle.value_index.specs.SameValue.{Ascend};
+ghost use Rattle.value_index.specs.ValueRange.{Ascend};
 ghost use Rattle.match_tree.specs.Offers.{takers};
 ghost use Rattle.match_tree.specs.Offering.{CanOffer, offered};
 ghost use Rattle.match_tree.specs.Order.{Rise};
 ghost use Rattle.match_tree.specs.RowNumbers.{numbers_in};
 ghost use Rattle.match_tree.specs.Rows.{node_at};
-ghost use Rattle.match_tree.specs.Look.{HasLeft, LooksUp, LooksUpAt, may_meet};
+ghost use Rattle.match_tree.specs.Look.{FindsAt, HasLeft, LooksUp, LooksUpAt, may_meet};
 ghost use Rattle.match_tree.specs.Routes.{with_number};
 ghost use Rattle.match_tree.specs.Screen.{AreOffered, AreTests, AreWorthless, IsWorthless, Screens};
 
 use crate::offer::Offer;
+use crate::range::by_range;
 use crate::row::Row;
 use crate::row_numbers::RowNumbers;
 use crate::screen::{Screen, passes_screen, screen_of};
 use guard_bound::{is_same, meets_all};
 use join_base::{Numbers, Slots, Steps};
 use std::sync::ledger::Ledger;
-use value_index::{IndexedField, SameValue, ValueIndex, value_at};
+use value_index::{IndexedField, ValueIndex, ValueRange, value_at};
 
-/// The place of a field in the index, and the value that a number of the row has to have there.
+/// The place of a field in the index, and the one value that a number of the row has to have there.
 #[derive(Clone, Copy, PartialEq, Eq, Debug)]
 pub struct Look {
     pub place: u32,
@@ -88,25 +89,54 @@ fn by_text(
     })
 }
 
-// The look-up by a screen: by its key, or by its text, where the index knows that field.
-fn look_by(offer: &Offer<'_>, slots: &Slots, pattern: u32, screen: &Screen) -> Option<Look>
-    requires tested { AreTests (offered offer.now) (with_number (with_number slots.now pattern offer.now.number)
-        screen.now.other offer.now.number) pattern screen.now }
-    ensures { IfSome result (LooksUpAt (offered offer.now) slots.now pattern screen.now.other) }
+// The kind of a pattern, where the definition has it.
+fn kind_of(offer: &Offer<'_>, pattern: u32) -> Option<u32>
+    ensures { IfSome result (λ kind. slice_get offer.now.definition.now.patterns pattern ≡ Some kind) }
 {
     let patterns = offer.definition.patterns.as_slice();
     if pattern as usize >= patterns.len() {
         return None;
     }
-    let kind = *offer.definition.patterns.at(pattern as usize);
+    Some(*offer.definition.patterns.at(pattern as usize))
+}
+
+// The look-up by a screen: by its key, or by its text, where the index knows that field.
+fn look_by(
+    offer: &Offer<'_>,
+    slots: &Slots,
+    pattern: u32,
+    kind: u32,
+    screen: &Screen,
+) -> Option<Look>
+    requires kind { slice_get offer.now.definition.now.patterns pattern ≡ Some kind }
+    requires tested { AreTests (offered offer.now) (with_number (with_number slots.now pattern offer.now.number)
+        screen.now.other offer.now.number) pattern screen.now }
+    ensures { IfSome result (LooksUpAt (offered offer.now) slots.now pattern screen.now.other) }
+{
     if let Some(look) = by_key(offer, slots, pattern, kind, screen) {
         return Some(look);
     }
     by_text(offer, slots, pattern, kind, screen)
 }
 
-/// The look-up for one of several wanted patterns of a row with so many numbers.
-pub fn look_at(
+// The screen of a row with so many numbers for one of several wanted patterns.
+fn screen_at(
+    offer: &Offer<'_>,
+    slots: &Slots,
+    pattern: u32,
+    other: u32,
+    numbers: usize,
+) -> Option<Screen>
+    requires can { CanOffer (offered offer.now) slots.now }
+    ensures { IfSome result (Screens (offered offer.now) slots.now pattern (other ∷ [])) }
+{
+    let mut one = Numbers::new();
+    one.push(other);
+    screen_of(offer, slots, pattern, &one, numbers)
+}
+
+// The look-up for one of several wanted patterns of a row with so many numbers.
+fn look_at(
     offer: &Offer<'_>,
     slots: &Slots,
     pattern: u32,
@@ -116,10 +146,9 @@ pub fn look_at(
     requires can { CanOffer (offered offer.now) slots.now }
     ensures { IfSome result (LooksUpAt (offered offer.now) slots.now pattern other) }
 {
-    let mut one = Numbers::new();
-    one.push(other);
-    let screen = screen_of(offer, slots, pattern, &one, numbers)?;
-    look_by(offer, slots, pattern, &screen)
+    let screen = screen_at(offer, slots, pattern, other, numbers)?;
+    let kind = kind_of(offer, pattern)?;
+    look_by(offer, slots, pattern, kind, &screen)
 }
 
 // Whether two look-ups are one.
@@ -184,30 +213,8 @@ fn common_look(
     Some(look)
 }
 
-// How the numbers of a row with so many are looked up: by the key of its screen, or by its text, where the index knows
-// that field. Where several patterns are wanted, each of them has to ask for the same value.
-fn look_of(
-    offer: &Offer<'_>,
-    slots: &Slots,
-    pattern: u32,
-    wanted: &Numbers,
-    screen: &Option<Screen>,
-    numbers: usize,
-) -> Option<Look>
-    requires can { CanOffer (offered offer.now) slots.now }
-    requires wanted { wanted.now ≡ filter (λ p. not (p == pattern)) (takers (offered offer.now) slots.now) }
-    requires screen { IfSome screen.now (Screens (offered offer.now) slots.now pattern (filter (λ p. not (p == pattern))
-        (takers (offered offer.now) slots.now))) }
-    ensures { IfSome result (LooksUp (offered offer.now) slots.now pattern) }
-{
-    match screen {
-        None => common_look(offer, slots, pattern, wanted, numbers),
-        Some(screen) => look_by(offer, slots, pattern, screen),
-    }
-}
-
-/// The numbers of the index from this one on that have the value.
-pub fn numbers_at<'a>(index: &'a ValueIndex, look: Look, from: u32) -> SameValue<'a>
+// The numbers of the index from this one on that have the value.
+fn numbers_at<'a>(index: &'a ValueIndex, look: Look, from: u32) -> ValueRange<'a>
     ensures ascend { Ascend result }
     ensures has { (number : ℕ) → from ≤ number → IsIn (entry look.place look.value number) index.now.entries
         → IsIn number result }
@@ -215,9 +222,46 @@ pub fn numbers_at<'a>(index: &'a ValueIndex, look: Look, from: u32) -> SameValue
     index.numbers_from(look.place, look.value, from)
 }
 
-/// The numbers of the index by which a row is looked up, if it is: those of the value that the key of its screen asks
-/// for, or its text, where the index knows that field. Where several patterns are wanted, each of them has to ask for
-/// the same value. A row of fewer than 8 numbers is gone through.
+// The numbers of the index from this one on by a screen. A range of values is looked up first: it has few numbers,
+// while one value may have any number of them.
+fn found_by<'a>(
+    offer: &Offer<'a>,
+    slots: &Slots,
+    pattern: u32,
+    screen: &Screen,
+    from: u32,
+) -> Option<ValueRange<'a>>
+    requires tested { AreTests (offered offer.now) (with_number (with_number slots.now pattern offer.now.number)
+        screen.now.other offer.now.number) pattern screen.now }
+    ensures { IfSome result (FindsAt (offered offer.now) slots.now pattern screen.now.other from) }
+{
+    let kind = kind_of(offer, pattern)?;
+    if let Some(numbers) = by_range(offer, slots, pattern, kind, screen) {
+        return Some(numbers);
+    }
+    let look = look_by(offer, slots, pattern, kind, screen)?;
+    Some(numbers_at(offer.index, look, from))
+}
+
+/// The numbers of the index by which a row with so many is looked up for one of several wanted patterns, if it is.
+pub fn found_at<'a>(
+    offer: &Offer<'a>,
+    slots: &Slots,
+    pattern: u32,
+    other: u32,
+    numbers: usize,
+) -> Option<ValueRange<'a>>
+    requires can { CanOffer (offered offer.now) slots.now }
+    ensures { IfSome result (FindsAt (offered offer.now) slots.now pattern other 0) }
+{
+    let screen = screen_at(offer, slots, pattern, other, numbers)?;
+    found_by(offer, slots, pattern, &screen, 0)
+}
+
+/// The numbers of the index by which a row is looked up, if it is: those of the range of values that the bounds of its
+/// screen leave a field, or else of the value that the key of its screen asks for, or its text, where the index knows
+/// that field. Where several patterns are wanted, each of them has to ask for the same value. A row of fewer than 8
+/// numbers is gone through.
 pub fn looked_up<'a>(
     offer: &Offer<'a>,
     slots: &Slots,
@@ -225,7 +269,7 @@ pub fn looked_up<'a>(
     wanted: &Numbers,
     screen: &Option<Screen>,
     row: &Row,
-) -> Option<SameValue<'a>>
+) -> Option<ValueRange<'a>>
     requires can { CanOffer (offered offer.now) slots.now }
     requires wanted { wanted.now ≡ filter (λ p. not (p == pattern)) (takers (offered offer.now) slots.now) }
     requires screen { IfSome screen.now (Screens (offered offer.now) slots.now pattern (filter (λ p. not (p == pattern))
@@ -238,9 +282,14 @@ pub fn looked_up<'a>(
     if numbers < FEWEST {
         return None;
     }
-    let look = look_of(offer, slots, pattern, wanted, screen, numbers)?;
     let first = row.number_at(0);
-    Some(numbers_at(offer.index, look, first))
+    match screen {
+        None => {
+            let look = common_look(offer, slots, pattern, wanted, numbers)?;
+            Some(numbers_at(offer.index, look, first))
+        }
+        Some(screen) => found_by(offer, slots, pattern, screen, first),
+    }
 }
 
 // The first place from this one on whose number is at least so great.
@@ -355,7 +404,7 @@ pub fn next_looked<L: Ledger>(
     slots: &Slots,
     pattern: u32,
     screen: &Option<Screen>,
-    left: &mut SameValue<'_>,
+    left: &mut ValueRange<'_>,
     row: &Row,
     from: usize,
     steps: &mut Steps<L>,

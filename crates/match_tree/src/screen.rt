@@ -25,7 +25,7 @@ use guard_eval::{decided, holds};
 use join_base::{Message, Numbers, Relation, Slots, Steps};
 use std::collections::VecDeque;
 use std::sync::ledger::Ledger;
-use value_index::SameValue;
+use value_index::ValueRange;
 
 /// The value that a number of the row has to have at a field.
 #[derive(Clone, Copy, PartialEq, Eq, Debug)]
@@ -480,7 +480,7 @@ pub fn next_place<L: Ledger>(
     slots: &Slots,
     pattern: u32,
     screen: &Option<Screen>,
-    left: &mut Option<SameValue<'_>>,
+    left: &mut Option<ValueRange<'_>>,
     row: &Row,
     from: usize,
     steps: &mut Steps<L>,

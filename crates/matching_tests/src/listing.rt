@@ -11,12 +11,23 @@ pub struct Arrival {
     pub value: i64,
 }
 
-/// A join of the first of these kinds, whose first two messages may have to be equal, and the first to be 1.
+/// What the values of the first two messages have to be.
+#[derive(Clone, Copy, PartialEq, Eq)]
+pub enum Tie {
+    Any,
+    Equal,
+    /// At most 2 apart.
+    Near,
+    /// The second at least the first, and at most 2 greater.
+    Rising,
+}
+
+/// A join of the first of these kinds, whose first two messages may be tied, and the first may have to be 1.
 #[derive(Clone, Copy)]
 pub struct Join {
     pub kinds: [u32; 3],
     pub patterns: u32,
-    pub equal: bool,
+    pub tie: Tie,
     pub one: bool,
     pub window: Option<u32>,
 }
@@ -46,6 +57,17 @@ fn differ(first: u32, second: u32, third: u32) -> bool {
     (first == 0 || first != second) && (third == 0 || third != first && third != second)
 }
 
+// Whether the values of the first two messages are tied so.
+fn are_tied(tie: Tie, first: i64, second: i64) -> bool {
+    let more = second as i128 - first as i128;
+    match tie {
+        Tie::Any => true,
+        Tie::Equal => more == 0,
+        Tie::Near => -2 <= more && more <= 2,
+        Tie::Rising => 0 <= more && more <= 2,
+    }
+}
+
 // Whether what is decided of the guard is true.
 fn holds(join: Join, arrivals: &[Arrival], first: u32, second: u32) -> bool {
     if first == 0 {
@@ -55,10 +77,14 @@ fn holds(join: Join, arrivals: &[Arrival], first: u32, second: u32) -> bool {
     if join.one && left != Some(1) {
         return false;
     }
-    if !join.equal || second == 0 {
+    if second == 0 {
         return true;
     }
-    left == arrival_at(arrivals, second).map(|arrival| arrival.value)
+    let right = arrival_at(arrivals, second).map(|arrival| arrival.value);
+    match (left, right) {
+        (Some(left), Some(right)) => are_tied(join.tie, left, right),
+        _ => false,
+    }
 }
 
 fn candidate(first: u32, second: u32, third: u32) -> Candidate {

@@ -1,5 +1,5 @@
 //! Operands, conjuncts and messages for the tests.
-ghost use Rattle.std.specs.Prelude.{◌≡◌, ◌∷◌, [], IfOk, false};
+ghost use Rattle.std.specs.Prelude.{◌≡◌, ◌∷◌, [], IfOk, false, true, pos};
 ghost use Rattle.guard_eval.specs.Condition.{Compares, Either, Never};
 ghost use Rattle.guard_eval.specs.Shape.{conjunct_condition};
 
@@ -62,6 +62,63 @@ pub fn equality(alloc: Global) -> Result<Conjunct, NoMemory>
     let left = variable(alloc, 0)?;
     let right = variable(alloc, 1)?;
     comparison(alloc, left, Relation::Equal, right)
+}
+
+/// The first field of a pattern without that of another.
+fn difference(alloc: Global, left: u32, right: u32) -> Result<Operand, NoMemory>
+    ensures { IfOk result (λ o. o ≡ Operand.Sum (record {
+      minus = false;
+      leaf = Leaf.Field (record { pattern = left; field = 0 });
+    } ∷ record {
+      minus = true;
+      leaf = Leaf.Field (record { pattern = right; field = 0 });
+    } ∷ [])) }
+{
+    let mut leaves = Items::new(alloc);
+    let first = Leaf::Field(Place {
+        pattern: left,
+        field: 0,
+    });
+    let second = Leaf::Field(Place {
+        pattern: right,
+        field: 0,
+    });
+    leaves.push(Signed {
+        minus: false,
+        leaf: first,
+    })?;
+    leaves.push(Signed {
+        minus: true,
+        leaf: second,
+    })?;
+    Ok(Operand::Sum(Term::new(leaves)))
+}
+
+/// x - y <= 2, of the first fields of two patterns.
+pub fn near(alloc: Global, left: u32, right: u32) -> Result<Conjunct, NoMemory>
+    ensures { IfOk result (λ c. conjunct_condition c ≡ Either (Compares (Operand.Sum (record {
+      minus = false;
+      leaf = Leaf.Field (record { pattern = left; field = 0 });
+    } ∷ record {
+      minus = true;
+      leaf = Leaf.Field (record { pattern = right; field = 0 });
+    } ∷ [])) Relation.LessEqual (Operand.Sum (record { minus = false; leaf = Leaf.Number (pos 2) } ∷ []))) Never) }
+{
+    let apart = difference(alloc, left, right)?;
+    let most = number(alloc, 2)?;
+    comparison(alloc, apart, Relation::LessEqual, most)
+}
+
+/// x <= y, of two patterns.
+pub fn order(alloc: Global) -> Result<Conjunct, NoMemory>
+    ensures { IfOk result (λ c. conjunct_condition c ≡ Either
+        (Compares (Operand.Sum (record { minus = false; leaf = Leaf.Field (record { pattern = 0; field = 0 }) } ∷ []))
+        Relation.LessEqual (Operand.Sum (record { minus = false; leaf = Leaf.Field (record { pattern = 1; field = 0 }) }
+        ∷ []))) Never) }
+{
+    let left = variable(alloc, 0)?;
+    let right = variable(alloc, 1)?;
+    comparison(alloc, left, Relation::LessEqual, right)
 }
 
 /// The message of a kind with its integer.

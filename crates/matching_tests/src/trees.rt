@@ -7,7 +7,7 @@ ghost use Rattle.pattern_core.specs.Window.{SeesLatest, oldest_seen};
 ghost use Rattle.match_tree.specs.Tree.{offer_to};
 ghost use Rattle.match_tree.specs.Offering.{CanOffer};
 
-use crate::listing::{Arrival, Join, is_listed, numbers};
+use crate::listing::{Arrival, Join, Tie, is_listed, numbers};
 use crate::made;
 use guard_eval::ConjunctList;
 use join_base::{Items, Message, MessageList, NoMemory, Relation, Sort, Steps};
@@ -45,15 +45,30 @@ fn add_one(alloc: Global, conjuncts: &mut ConjunctList, asked: bool) -> Result<(
     Ok(())
 }
 
-// The first two messages' values have to be equal, where that is asked.
-fn add_equal(alloc: Global, conjuncts: &mut ConjunctList, asked: bool) -> Result<(), NoMemory>
+// The first two messages' values have to be tied so.
+fn add_tie(alloc: Global, conjuncts: &mut ConjunctList, tie: Tie) -> Result<(), NoMemory>
     requires { AreSamples conjuncts.old }
     ensures { OnOk result (AreSamples conjuncts.new) }
 {
-    if asked {
-        conjuncts.push(made::equality(alloc)?)?;
+    match tie {
+        Tie::Any => Ok(()),
+        Tie::Equal => {
+            let equal = made::equality(alloc)?;
+            conjuncts.push(equal)
+        }
+        Tie::Near => {
+            let before = made::near(alloc, 1, 0)?;
+            conjuncts.push(before)?;
+            let behind = made::near(alloc, 0, 1)?;
+            conjuncts.push(behind)
+        }
+        Tie::Rising => {
+            let order = made::order(alloc)?;
+            conjuncts.push(order)?;
+            let near = made::near(alloc, 1, 0)?;
+            conjuncts.push(near)
+        }
     }
-    Ok(())
 }
 
 fn definition(alloc: Global, join: Join) -> Result<Definition, NoMemory>
@@ -65,7 +80,7 @@ fn definition(alloc: Global, join: Join) -> Result<Definition, NoMemory>
     let patterns = patterns(alloc, join)?;
     let mut conjuncts = ConjunctList::new(alloc);
     add_one(alloc, &mut conjuncts, join.one)?;
-    add_equal(alloc, &mut conjuncts, join.equal)?;
+    add_tie(alloc, &mut conjuncts, join.tie)?;
     Ok(Definition {
         patterns,
         conjuncts,
@@ -222,14 +237,14 @@ fn brings(kind: u32, value: i64) -> Arrival {
 }
 
 // A join whose patterns have a kind each.
-fn join_of(patterns: u32, equal: bool, one: bool, window: Option<u32>) -> Join
+fn join_of(patterns: u32, tie: Tie, one: bool, window: Option<u32>) -> Join
     ensures count { result.patterns ≡ patterns }
     ensures window { result.window ≡ window }
 {
     Join {
         kinds: [0, 1, 2],
         patterns,
-        equal,
+        tie,
         one,
         window,
     }
@@ -262,12 +277,29 @@ fn arrivals_fire_the_least_match_or_are_kept(rt: HostRuntime) -> Result<(), Fail
     let one = [brings(0, 1), brings(0, 2), brings(0, 3), brings(1, 7)];
     let pair = [a, a, b];
     let four = [a, a, a, a];
-    let all = gives(alloc, join_of(3, false, false, None), &any, &[2, 4, 1], 2)?
-        && gives(alloc, join_of(2, true, true, None), &one[..3], &[], 2)?
-        && gives(alloc, join_of(2, true, true, None), &one, &[], 3)?
-        && gives(alloc, join_of(2, false, false, Some(2)), &pair, &[2, 3], 1)?
-        && gives(alloc, join_of(2, false, false, Some(1)), &pair[1..], &[], 2)?
-        && gives(alloc, join_of(2, false, false, Some(3)), &four, &[], 4)?;
+    let all = gives(
+        alloc,
+        join_of(3, Tie::Any, false, None),
+        &any,
+        &[2, 4, 1],
+        2,
+    )? && gives(alloc, join_of(2, Tie::Equal, true, None), &one[..3], &[], 2)?
+        && gives(alloc, join_of(2, Tie::Equal, true, None), &one, &[], 3)?
+        && gives(
+            alloc,
+            join_of(2, Tie::Any, false, Some(2)),
+            &pair,
+            &[2, 3],
+            1,
+        )?
+        && gives(
+            alloc,
+            join_of(2, Tie::Any, false, Some(1)),
+            &pair[1..],
+            &[],
+            2,
+        )?
+        && gives(alloc, join_of(2, Tie::Any, false, Some(3)), &four, &[], 4)?;
     assert!(rt; all);
     Ok(())
 }
@@ -311,7 +343,8 @@ fn agrees_on(alloc: Global, seed: u32) -> Result<bool, NoMemory>
 {
     let crowd = if seed % 4 < 2 { 10 } else { 0 };
     let window = if seed % 5 == 1 { Some(4) } else { None };
-    let mut join = join_of(2 + seed % 2, seed % 3 > 0, seed % 8 == 1, window);
+    let tie = if seed % 3 > 0 { Tie::Equal } else { Tie::Any };
+    let mut join = join_of(2 + seed % 2, tie, seed % 8 == 1, window);
     join.kinds = kinds_by(seed);
     let outcome = play::<Brand>(alloc, join, &script(seed, join.kinds, crowd), Blank::new(1))?;
     Ok(outcome.agrees)
@@ -321,6 +354,54 @@ fn agrees_on(alloc: Global, seed: u32) -> Result<bool, NoMemory>
 fn each_arrival_does_what_a_plain_listing_says(rt: HostRuntime) -> Result<(), Fail> {
     for seed in 0..60 {
         assert!(rt; agrees_on(rt.alloc(), seed)?);
+    }
+    Ok(())
+}
+
+// Times by chance, of which the first ten are of the first kind. They rise by up to 1 behind the first one, and at each
+// other seed the seventh is before the others.
+fn times(seed: u32, kinds: [u32; 3], start: i64) -> [Arrival; 14] {
+    let mut arrivals = [brings(0, start); 14];
+    let mut state = seed;
+    let mut time = start;
+    for place in 0..14 {
+        state = state.wrapping_mul(1664525).wrapping_add(1013904223);
+        let kind = kind_by(state, kinds, place < 10);
+        time = time.saturating_add(((state >> 16) % 2) as i64);
+        arrivals[place] = brings(kind, time);
+    }
+    if seed % 2 == 1 {
+        arrivals[6] = brings(kinds[0], start);
+    }
+    arrivals
+}
+
+// Whether the listing says the same of times from this one on. Rows are looked up by ranges of them.
+fn agrees_from(alloc: Global, seed: u32, start: i64) -> Result<bool, NoMemory>
+    requires { seed < 40 }
+{
+    let tie = if seed % 4 < 2 { Tie::Near } else { Tie::Rising };
+    let mut join = join_of(2 + seed % 3 % 2, tie, false, None);
+    join.kinds = kinds_by(seed);
+    let outcome = play::<Brand>(alloc, join, &times(seed, join.kinds, start), Blank::new(1))?;
+    Ok(outcome.agrees)
+}
+
+// The same at both ends of 64 bits, and between.
+fn agrees_at_ends(alloc: Global, seed: u32) -> Result<bool, NoMemory>
+    requires { seed < 40 }
+{
+    Ok(
+        agrees_from(alloc, seed, 0)?
+            && agrees_from(alloc, seed, i64::MIN)?
+            && agrees_from(alloc, seed, i64::MAX - 4)?,
+    )
+}
+
+#[test]
+fn each_time_does_what_a_plain_listing_says(rt: HostRuntime) -> Result<(), Fail> {
+    for seed in 0..40 {
+        assert!(rt; agrees_at_ends(rt.alloc(), seed)?);
     }
     Ok(())
 }

@@ -1,6 +1,6 @@
 -- The claims: the value of a field, and what an index holds.
 pub mod Values
 pub mod Index
-pub mod SameValue
+pub mod ValueRange
 -- What private functions speak of: the order of entries.
 pub mod Order

@@ -1,16 +1,16 @@
 //! The index.
-ghost use Rattle.std.specs.Prelude.{◌≡◌, ◌≤◌, ◌<◌, [], length, ℕ, IfSome, OnOk, Some, slice_get, true};
+ghost use Rattle.std.specs.Prelude.{◌≡◌, ◌≤◌, ◌<◌, [], length, ℕ, ℤ, IfSome, OnOk, Some, slice_get, true};
 ghost use Rattle.guard_eval.specs.Meaning.{recorded_message};
 ghost use Rattle.pattern_core.specs.Matches.{is_of_kind};
 ghost use Rattle.pattern_core.specs.Members.{IsIn};
 ghost use Rattle.pattern_core.specs.Suits.{IsRecorded};
 ghost use Rattle.value_index.specs.Index.{AddsNone, AddsOnly, Has, HasAt, Keeps, KeepsOthers, Lacks, LacksAt, entry};
-ghost use Rattle.value_index.specs.SameValue.{Ascend};
+ghost use Rattle.value_index.specs.ValueRange.{Ascend, lies_in};
 ghost use Rattle.value_index.specs.Values.{value_at};
 
 use crate::entry::{Entry, add_entry, remove_entry};
 use crate::field::{IndexedField, value_at};
-use crate::same_value::SameValue;
+use crate::value_range::{Span, ValueRange};
 use join_base::{Message, NoMemory};
 use pattern_core::has_kind;
 use std::alloc::Global;
@@ -184,11 +184,25 @@ impl ValueIndex {
     }
 
     /// The numbers from this one on that have the value at the field of the place, in ascending order.
-    pub fn numbers_from(&self, place: u32, value: i64, from: u32) -> SameValue<'_>
+    pub fn numbers_from(&self, place: u32, value: i64, from: u32) -> ValueRange<'_>
         ensures ascend { Ascend result }
         ensures has { (number : ℕ) → from ≤ number → IsIn (entry place value number) self.now.entries
             → IsIn number result }
     {
-        SameValue::from_start(&self.entries, Entry::new(place, value, from))
+        ValueRange::from_start(&self.entries, Span::of(place, value), from)
+    }
+
+    /// The numbers that have a value of the span, if in the order of these values they ascend and are at most 32. So it
+    /// is with times, where messages arrive in their order. The numbers are gone through once to see that.
+    pub fn numbers_between(&self, span: Span) -> Option<ValueRange<'_>>
+        ensures ascend { IfSome result Ascend }
+        ensures has { IfSome result (λ numbers. (value : ℤ) (number : ℕ) → lies_in span value ≡ true
+            → IsIn (entry span.place value number) self.now.entries → IsIn number numbers) }
+    {
+        let found = ValueRange::from_start(&self.entries, span, 0);
+        if !found.ascends() {
+            return None;
+        }
+        Some(found)
     }
 }

@@ -1,5 +1,5 @@
 use Rattle.std.proofs.Common.{ℕ, subst, arith}
-use Rattle.value_index.specs.SameValue.{Ascend}
+use Rattle.value_index.specs.ValueRange.{Ascend}
 use Rattle.match_tree.proofs.ThinLemmas.{IsLeft, found_far, found_more, found_none, same_thinned, thinned_rise, thinned_short, thinned_sound}
 use Rattle.match_tree.proofs.by_value.prune_found.Goals as goal
 

@@ -1,5 +1,5 @@
 use Rattle.std.proofs.Common.{◌≡◌, ◌+◌, length}
-use Rattle.value_index.specs.SameValue.{Ascend}
+use Rattle.value_index.specs.ValueRange.{Ascend}
 use Rattle.match_tree.specs.Routes.{row_routes}
 use Rattle.match_tree.specs.Thinned.{IsThinned}
 use Rattle.match_tree.proofs.ThinLemmas.{IsLeft}

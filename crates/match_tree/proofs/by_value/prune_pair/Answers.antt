@@ -7,4 +7,4 @@ pub returns-clause-left : goal.returns-clause-left
 returns-clause-left c =
     let a = c.args in
     let one : c.push.new.self ≡ a.offer.now.number ∷ [] = c.push.ensures.appended ∙ ap (λ (ns : List ℕ). ns ++ a.offer.now.number ∷ []) c.new-one.ensures.empty in
-    pair_thinned (offered a.offer.now) a.slots.now a.pattern a.other c.in_ok-look.look c.push.new.self c.numbers_at-left.result a.nodes.now.items c.prune_found.new.nodes.items one c.requires.guarded c.in_ok-look.ensures c.numbers_at-left.ensures.has c.prune_found.ensures.left
+    pair_thinned (offered a.offer.now) a.slots.now a.pattern a.other c.push.new.self c.in_ok-left.left a.nodes.now.items c.prune_found.new.nodes.items one c.requires.guarded c.in_ok-left.ensures c.prune_found.ensures.left

@@ -1,5 +1,5 @@
 use Rattle.std.proofs.Common.{◌≡◌, ◌+◌, ◌≤◌, length}
-use Rattle.value_index.specs.SameValue.{Ascend}
+use Rattle.value_index.specs.ValueRange.{Ascend}
 use Rattle.match_tree.specs.Offering.{offered}
 use Rattle.match_tree.specs.Screen.{AreWorthless}
 use Rattle.match_tree.specs.Look.{AreLeft}
