@@ -120,6 +120,7 @@ impl Actor {
     }
 
     // Whether the actor runs and takes the message: it is not full, the message fits, and a stamp is left.
+    #[inline(always)]
     fn takes(&self, message: &Message, stamp: u64) -> bool
         ensures { result ≡ is_taken self.now.setting self.now.state message.now stamp }
     {
@@ -202,6 +203,7 @@ impl Actor {
 
     /// The same step with a message that is handed over, and so is not copied. `Refused` comes only where there is no
     /// memory and the actor runs and takes the message. It has the message, and the actor is as it was.
+    #[inline(always)]
     pub fn receive<L: Ledger>(
         &mut self,
         alloc: Global,

@@ -69,13 +69,22 @@ fn read_to(
     Ok(None)
 }
 
+// A reader of all records, which may differ in length. Without a header row csv would keep copies of the first record,
+// so it is given an empty one.
+fn reader_of(alloc: Global, bytes: &[u8]) -> Result<Reader<&[u8]>, NoMemory> {
+    let mut reader = ReaderBuilder::new()
+        .flexible(true)
+        .from_reader(alloc, bytes);
+    match reader.set_byte_headers(ByteRecord::new(alloc)) {
+        Ok(()) => Ok(reader),
+        Err(_) => Err(NoMemory),
+    }
+}
+
 /// The record of this number, counted from 1. Where there is no such record, it has no fields, and its place is the
 /// end.
 pub fn row_at(alloc: Global, bytes: &[u8], row: u64) -> Result<Row<'_>, NoMemory> {
-    let mut reader = ReaderBuilder::new()
-        .has_headers(false)
-        .flexible(true)
-        .from_reader(alloc, bytes);
+    let mut reader = reader_of(alloc, bytes)?;
     let mut fields = ByteRecord::new(alloc);
     let (place, bytes) = match read_to(&mut reader, &mut fields, row)? {
         Some((start, end)) => row_between(bytes, start, end),
