@@ -3,7 +3,7 @@ use Rattle.std.proofs.Common.{◌≡◌, ℕ, ◌+◌, add-one, Some, slice_get,
 use Rattle.std.proofs.Math.Seq.{take-length}
 use Rattle.live_board.specs.declared.totals.Totals.{Totals}
 use Rattle.live_board.specs.declared.record.Record.{Record}
-use Rattle.live_board.specs.Folding.{board_of, no_totals, with_record}
+use Rattle.live_board.specs.Folding.{board_of, no_totals, records_from, with_record}
 
 fold-more : {A B : Type 0} (f : A → B → A) (a : A) (xs : List B) (x : B) → fold f a (xs ++ x ∷ []) ≡ f (fold f a xs) x
 fold-more f a [] x = refl
@@ -76,6 +76,31 @@ take-whole xs ys n one two same = sym (take-all xs n one) ∙ same ∙ take-all 
   where
     take-all : {B : Type 0} (zs : List B) (m : ℕ) → length zs ≡ m → take m zs ≡ zs
     take-all zs m all = subst (λ (k : ℕ). take k zs ≡ zs) all (take-length zs)
+
+-- ---- the records of rows
+
+abbrev row_of : ℕ → Totals → Record
+row_of actor totals = record { actor = actor; totals = totals }
+
+-- one row more
+pub records-more : (from i actor : ℕ) (rows : List Totals) (x : Totals) → actor ≡ from + i → slice_get rows i ≡ Some x
+    → records_from from (take (i + 1) rows) ≡ records_from from (take i rows) ++ row_of actor x ∷ []
+records-more from i actor rows x is at =
+    subst (λ (n : ℕ). records_from from (take n rows) ≡ records_from from (take i rows) ++ row_of actor x ∷ []) (sym (add-one i)) (go from i actor rows x is at)
+  where
+    go : (from i actor : ℕ) (rows : List Totals) (x : Totals) → actor ≡ from + i → slice_get rows i ≡ Some x
+        → records_from from (take (suc i) rows) ≡ records_from from (take i rows) ++ row_of actor x ∷ []
+    go from i actor [] x is at = absurd (let e : ⊥ = cc in e)
+    go from zero actor (r ∷ rows) x is at =
+        let same : r ≡ x = cc in
+        let here : from ≡ actor = omega (arith, is) in
+        ap (λ (t : Totals). row_of from t ∷ []) same ∙ ap (λ (n : ℕ). row_of n x ∷ []) here
+    go from (suc i) actor (r ∷ rows) x is at =
+        ap (λ l. row_of from r ∷ l) (go (from + 1) i actor rows x (omega (arith, is)) at)
+
+-- the records of all rows
+pub records-whole : (n : ℕ) (rows : List Totals) → n ≡ length rows → records_from 0 (take n rows) ≡ records_from 0 rows
+records-whole n rows all = ap (records_from 0) (subst (λ (m : ℕ). take m rows ≡ rows) (sym all) (take-length rows))
 
 pub replicate-more : {A : Type 0} (n : ℕ) (a : A) → replicate n a ++ a ∷ [] ≡ replicate (n + 1) a
 replicate-more n a = go n ∙ ap (λ m. replicate m a) (sym (add-one n))

@@ -24,6 +24,9 @@ pub trait Glass {
     // What stays of a glass, as which board it shows.
     ghost stays: { Self → Self → Type 0 };
 
+    // What a look did that showed a board, as that it took what was published.
+    ghost looks: { Self → Self → Type 0 };
+
     /// Shows the board of records that begin with those that it knew. It knows them from then on.
     ///
     /// `Refused` comes only where the count of refused looks rose. Then the board is as it was.
@@ -33,6 +36,7 @@ pub trait Glass {
         ensures stays { stays self.old self.new }
         ensures shown { OnOk result (Shows (rows self.old) (known self.old) (known self.new) into.new) }
         ensures refused { OnErr result (ShowsNothing (known self.old) (known self.new) into.old into.new) }
+        ensures looks { OnOk result (looks self.old self.new) }
         ensures later { refusals self.old ≤ refusals self.new }
         ensures cause { OnErr result (Rose (refusals self.old) (refusals self.new)) };
 }

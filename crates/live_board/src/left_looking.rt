@@ -1,5 +1,5 @@
 //! Looking at what is published.
-ghost use Rattle.std.specs.Prelude.{◌≡◌, ◌≤◌, IfSome};
+ghost use Rattle.std.specs.Prelude.{◌≡◌, ◌≤◌, ◌∷◌, IfSome};
 ghost use mathlib.Core.List.{IsPrefix};
 ghost use Rattle.join_base.specs.Outside.{Rose};
 ghost use Rattle.left_right.specs.Sides.{view};
@@ -21,6 +21,7 @@ use core::mem::replace_with;
 fn see(reader: BoardReader, _: ()) -> (BoardReader, Option<Snapshot>)
     ensures tied { (b : Book) → HasSeenOf b (view reader.place) → HasSeenOf b (view result.0.place)
         × IfSome result.1 (λ x. front_book x.front ≡ b) }
+    ensures taken { IfSome result.1 (λ x. view result.0.place ≡ x ∷ view reader.place) }
 {
     match reader.enter_as::<Sees>() {
         Ok(reading) => {
@@ -35,6 +36,7 @@ impl LeftGlass {
     // A copy of what is published on this glass's board, or none where the writer is gone.
     fn see(&mut self) -> Option<Snapshot>
         ensures book { IfSome result (λ x. front_book x.front ≡ left_book self.old) }
+        ensures taken { IfSome result (λ x. view self.new.reader.place ≡ x ∷ view self.old.reader.place) }
         ensures front { self.new.front ≡ self.old.front }
         ensures rows { left_rows self.new ≡ left_rows self.old }
         ensures refusals { left_refusals self.new ≡ left_refusals self.old }
@@ -72,7 +74,7 @@ impl LeftGlass {
 }
 
 impl Glass for LeftGlass {
-    ghost use Rattle.live_board.specs.Glasses.{SameBoard, left_records, left_refusals, left_rows};
+    ghost use Rattle.live_board.specs.Glasses.{SameBoard, TookPublished, left_records, left_refusals, left_rows};
 
     ghost rows = { left_rows };
 
@@ -81,6 +83,8 @@ impl Glass for LeftGlass {
     ghost refusals = { left_refusals };
 
     ghost stays = { SameBoard };
+
+    ghost looks = { TookPublished };
 
     fn look(&mut self, into: &mut Board) -> Result<(), Refused> {
         let Some(snapshot) = self.see() else {

@@ -12,9 +12,9 @@
 //! A contract sees of a writer the list that it published (`published`), of a note the list that it knows (`noted`),
 //! and of a publisher its notes (`notes_of`). A board is what `board_of` makes of a list: each record in turn replaces
 //! its actor's totals. A read gives the board of a list that begins with all that the monitor had read or learnt, and
-//! the monitor knows that list from then on (`Shows`). What any reader has seen begins what is published, however
-//! threads are scheduled (`AllBegin`). What monitors and notes know are beginnings of one history, of which the shorter
-//! begins the longer.
+//! the monitor knows that list from then on (`Shows`). It was published at a moment of the read (`TookPublished`). What
+//! any reader has seen begins what is published, however threads are scheduled (`AllBegin`). What monitors and notes
+//! know are beginnings of one history, of which the shorter begins the longer.
 //!
 //! Not said: that a monitor ever reads, that `publish` returns, that calls answer `Ok` where memory is ample, and of
 //! which board the note of a publisher is, since no clause says what lies behind a lock. Only tested: that a look is

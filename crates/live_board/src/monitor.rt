@@ -45,6 +45,7 @@ impl<W: Glass> Monitor<W> {
             (W.known (glass_of self.new)) into.new) }
         ensures unread { OnErr result (ShowsNothing (W.known (glass_of self.old)) (W.known (glass_of self.new))
             into.old into.new) }
+        ensures looks { OnOk result (W.looks (glass_of self.old) (glass_of self.new)) }
         ensures later { W.refusals (glass_of self.old) ≤ W.refusals (glass_of self.new) }
         ensures cause { OnErr result (Rose (W.refusals (glass_of self.old)) (W.refusals (glass_of self.new))) }
     {

@@ -1,8 +1,9 @@
 //! What the writer of a board does.
-ghost use Rattle.std.specs.Prelude.{◌≡◌, ◌≤◌, [], ◌∷◌, ◌++◌, drop, length, slice_get, Some, IsOk, MatchResult, OnOk};
+ghost use Rattle.std.specs.Prelude.{◌≡◌, ◌≤◌, ℕ, [], ◌∷◌, ◌++◌, Some, IsOk, MatchResult, OnOk};
+ghost use Rattle.std.specs.Prelude.{drop, length, slice_get, take};
 ghost use mathlib.Core.List.{IsPrefix};
 ghost use Rattle.left_right.specs.Sides.{view};
-ghost use Rattle.live_board.specs.Folding.{board_of};
+ghost use Rattle.live_board.specs.Folding.{board_of, records_from};
 ghost use Rattle.live_board.specs.BoardRule.{Begins};
 ghost use Rattle.live_board.specs.Writers.{published, writer_book, row_count, noted, note_book};
 
@@ -57,13 +58,17 @@ impl BoardWriter {
         Ok(())
     }
 
-    /// Publishes the totals of each actor, in order, of up to 32. At `Ok` the published list comes to just these on a
-    /// board of so many actors. At `NoMemory` those of some first actors may have been published.
+    /// Publishes the totals of each actor, in order, of up to 32: one record of each actor, and no other. At `Ok` the
+    /// published list comes to just these on a board of so many actors. At `NoMemory` those of some first actors may
+    /// have been published.
     pub fn publish_all<R: Wait>(&mut self, rt: &R, totals: &TotalsList) -> Result<(), NoMemory>
         requires few { length totals.now ≤ 32 }
         ensures book { writer_book self.new ≡ writer_book self.old }
         ensures rows { row_count self.new ≡ row_count self.old }
         ensures kept { IsPrefix (published self.old) (published self.new) }
+        ensures first { (count : ℕ) × (published self.new ≡ published self.old
+            ++ records_from 0 (take count totals.now)) }
+        ensures all { OnOk result (published self.new ≡ published self.old ++ records_from 0 totals.now) }
         ensures board { OnOk result (board_of (length totals.now) (published self.new) ≡ totals.now) }
     {
         let count = totals.len() as u32;

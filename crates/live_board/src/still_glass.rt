@@ -28,7 +28,7 @@ impl StillGlass {
 }
 
 impl Glass for StillGlass {
-    ghost use Rattle.live_board.specs.Glasses.{still_records, still_rows};
+    ghost use Rattle.live_board.specs.Glasses.{SameRecords, still_records, still_rows};
 
     ghost rows = { still_rows };
 
@@ -36,7 +36,9 @@ impl Glass for StillGlass {
 
     ghost refusals = { λ _. 0 };
 
-    ghost stays = { λ _ _. Unit {0} };
+    ghost stays = { SameRecords };
+
+    ghost looks = { λ _ _. Unit {0} };
 
     fn look(&mut self, into: &mut Board) -> Result<(), Refused> {
         into.clear();

@@ -1,4 +1,4 @@
-use Rattle.std.proofs.Common.{ℕ, List, ap, subst, take, ◌∙◌}
+use Rattle.std.proofs.Common.{ℕ, List, ap, refl, subst, take, ◌∙◌}
 use mathlib.Core.List.{IsPrefix}
 use Rattle.live_board.specs.declared.totals.Totals.{Totals}
 use Rattle.live_board.specs.declared.front.Front.{Front}
@@ -14,3 +14,6 @@ returns-clause-shown c =
       folded = c.copy_from.ensures.first ∙ ap (λ (n : ℕ). take n snapshot.totals) c.requires.rows ∙ ap (λ (l : List Totals). take rows l) snapshot.folded
           ∙ first-rows rows 32 (front_records snapshot.front) c.args.self.now.few;
     }
+
+pub returns-clause-looks : goal.returns-clause-looks
+returns-clause-looks c = (c.in-Some.snapshot, c.in-Some.ensures.taken, refl)
