@@ -12,7 +12,7 @@ use Rattle.mailbox_core.specs.Mail.{Mail, Received, recorded_messages, next_arri
 use Rattle.pattern_core.specs.Members.{IsIn}
 use Rattle.pattern_core.specs.Suits.{IsRecorded}
 use Rattle.pattern_core.proofs.MembersLemmas.{IsIn-append_cases, IsIn-append_left, IsIn-append_right, IsIn-filter, IsIn-filter_from}
-use Rattle.value_index.specs.declared.entry.Entry.{Entry}
+use Rattle.value_index.specs.Entries.{Entry}
 use Rattle.value_index.specs.declared.field.IndexedField.{IndexedField}
 use Rattle.value_index.specs.Index.{AddsNone, AddsOnly, Index, Has, Keeps, Lacks, entry}
 use Rattle.value_index.specs.Values.{value_at}

@@ -5,7 +5,7 @@ use Rattle.join_base.specs.declared.message.Message.{Message}
 use Rattle.mailbox_core.specs.Mail.{Mail, recorded_messages}
 use Rattle.pattern_core.specs.Members.{IsIn}
 use Rattle.pattern_core.specs.Suits.{IsRecorded}
-use Rattle.value_index.specs.declared.entry.Entry.{Entry}
+use Rattle.value_index.specs.Entries.{Entry}
 use Rattle.value_index.specs.Index.{Index, Has, Lacks}
 
 -- each number that is not consumed is in the index, with the values of its message

@@ -1,6 +1,6 @@
 -- The nodes that a definition does not see stand at the front of the first rows.
 use Rattle.std.proofs.Common.{◌≡◌, ◌∙◌, not, length, ℕ, zero, suc, ◌+◌, ◌<◌, ◌≤◌, List, [], ◌∷◌, ◌++◌, map, Bool, true, false, ◌&&◌, cond, nat_le, nat_lt, Option, None, Some, refl, sym, ap, subst, arith}
-use Rattle.std.specs.Prelude.{MatchOption}
+use Rattle.std.specs.Prelude.{MatchOption, is_some}
 use Rattle.std.specs.List.{filter, remove, AllByRecursion}
 use Rattle.std.proofs.lemmas.Bool.Decides.{nat_tests}
 use Rattle.std.proofs.lemmas.List.Elements.{filter-append}
@@ -14,8 +14,9 @@ use Rattle.match_tree.specs.Order.{Rise, IsSoundRow}
 use Rattle.match_tree.specs.Pruned.{AreShort, seen_nodes}
 use Rattle.match_tree.specs.Routes.{lacks}
 use Rattle.match_tree.specs.Tree.{Tree, empty_of, is_path_seen, with_paths}
-use Rattle.match_tree.specs.Kept.{IsKept, CountsAdded, SeesAdded, added, paths_of, reserve_of, tree_of}
+use Rattle.match_tree.specs.Kept.{IsKept, CountsAdded, SeesAdded, SeesAll, added, paths_of, reserve_of, tree_of}
 use Rattle.match_tree.specs.declared.pending.Pending.{Pending}
+use Rattle.match_tree.specs.declared.ties.Ties.{Ties}
 use Rattle.pattern_core.specs.declared.definition.Definition.{Definition}
 use Rattle.pattern_core.specs.Window.{oldest_seen}
 use Rattle.match_tree.proofs.OrderLemmas.{later_numbers}
@@ -152,19 +153,21 @@ added_lasts : (d : Definition) (pending : Option Pending) (x : Pending) (routes 
 added_lasts d pending x routes now sees is e left =
     ap (added x) left ∙ filter_swap (is_seen (oldest_seen d.window x.number)) (λ r. not (lacks (x.number ∷ []) r)) routes ∙ sees_added d pending x routes sees is e
 
-pub expired_kept : (d : Definition) (rows now : List (List Branch)) (count count' : ℕ) (pending : Option Pending) (x : Pending) → IsKept d rows count pending → pending ≡ Some x
+pub expired_kept : {ties : Ties} (d : Definition) (rows now : List (List Branch)) (count count' : ℕ) (pending : Option Pending) (x : Pending) → IsKept d ties rows count pending → pending ≡ Some x
     → oldest_seen d.window x.number ≤ x.number → length now ≡ length rows → rows_routes 0 now ≡ filter (is_seen (oldest_seen d.window x.number)) (rows_routes 0 rows)
-    → count' ≡ 1 + length (rows_routes 0 now) → IsKept d now count' pending
-expired_kept d rows now count count' pending x k is e l left counts =
+    → count' ≡ 1 + length (rows_routes 0 now) → IsKept d ties now count' pending
+expired_kept {ties} d rows now count count' pending x k is e l left counts =
     let fewer = kept_fewer d rows now count count' pending (is_seen (oldest_seen d.window x.number)) k l left counts in
     let same = added_lasts d pending x (rows_routes 0 rows) (rows_routes 0 now) k.seen is e left in
     let here : x.aside ≡ length (added x (rows_routes 0 rows)) = subst (λ q. CountsAdded q (rows_routes 0 rows)) is k.aside in
-    subst (λ (q : Option Pending). IsKept d now count' q) (sym is) (record {
+    subst (λ (q : Option Pending). IsKept d ties now count' q) (sym is) (record {
       some = fewer.some;
       many = fewer.many;
+      tied = fewer.tied;
       few = fewer.few;
       sound = fewer.sound;
       free_left = fewer.free_left;
+      sees_all = fewer.sees_all;
       counted = fewer.counted;
       aside = here ∙ ap (λ (rs : List Route). length rs) (sym same);
       seen = subst (λ (rs : List Route). oldest_seen d.window x.number ≤ x.number → AllByRecursion (λ r. is_seen (oldest_seen d.window x.number) r ≡ true) rs) (sym same) (subst (λ q. SeesAdded d q (rows_routes 0 rows)) is k.seen);
@@ -200,3 +203,13 @@ pub expired_at : (d : Definition) (rule : ℕ) (pending : Option Pending) (x : P
 expired_at d rule pending x routes now t n shown is numbered opened sees e left =
     expired_tree d rule pending x routes now t shown is opened sees e left
     ∙ ap (λ (k : ℕ). with_paths t (filter (is_path_seen k) t.paths) t.reserve) (ap (oldest_seen d.window) numbered ∙ ap (λ (u : Tree). oldest_seen u.definition.window n) shown)
+
+-- without a window the definition sees all of them
+pub all_seen : (d : Definition) (routes : List Route) (n : ℕ) → SeesAll d routes → d.window ≡ None → routes ≡ filter (is_seen (oldest_seen d.window n)) routes
+all_seen d routes n sees none =
+    let oldest : oldest_seen d.window n ≡ 1 = ap (λ (w : Option ℕ). oldest_seen w n) none in
+    sym (ap (λ (k : ℕ). filter (is_seen k) routes) oldest ∙ filter_all (is_seen 1) routes (sees none))
+
+pub no_window : (window : Option ℕ) → is_some window ≡ false → window ≡ None
+no_window None h = refl
+no_window (Some n) h = absurd cc

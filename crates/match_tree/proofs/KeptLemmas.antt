@@ -1,13 +1,13 @@
 -- What is kept of a tree, and what its paths are.
 use Rattle.std.proofs.Common.{◌≡◌, inl, inr, ◌∙◌, ℕ, zero, suc, ◌+◌, ◌-◌, List, [], ◌∷◌, ◌++◌, map, length, replicate, Bool, true, false, not, ◌&&◌, cond, Option, None, Some, refl, sym, ap, subst, arith}
-use Rattle.std.specs.List.{filter}
+use Rattle.std.specs.List.{filter, AllByRecursion}
 use Rattle.std.proofs.lemmas.List.{length-map, map-append}
 use Rattle.std.proofs.lemmas.List.Filters.{length-filter_both}
 use Rattle.guard_eval.specs.Meaning.{Assignment}
 use Rattle.pattern_core.specs.declared.definition.Definition.{Definition}
 use Rattle.pattern_core.specs.Members.{IsIn}
 use Rattle.pattern_core.proofs.MembersLemmas.{IsIn-append_left, IsIn-append_right, IsIn-append_cases, IsIn-map, IsIn-map_from, IsIn-filter, IsIn-filter_from}
-use Rattle.match_tree.specs.Routes.{Route, with_number, filled, lacks}
+use Rattle.match_tree.specs.Routes.{Route, with_number, filled, is_seen, lacks}
 use Rattle.join_base.specs.Taken.{contains_number}
 use Rattle.match_tree.specs.Offers.{is_free}
 use Rattle.match_tree.specs.Below.{Climbs, IsOpen, AreOpen}
@@ -17,6 +17,7 @@ use Rattle.match_tree.specs.Order.{AreOrdered}
 use Rattle.match_tree.specs.Pruned.{AreShort}
 use Rattle.match_tree.specs.Kept.{IsKept, CountsAdded, lasting, added, paths_of, reserve_of, tree_of}
 use Rattle.match_tree.specs.declared.pending.Pending.{Pending}
+use Rattle.match_tree.specs.declared.ties.Ties.{Ties}
 use Rattle.match_tree.proofs.OrderLemmas.{rows_ordered, rows_sound, ordered_filter}
 use Rattle.match_tree.proofs.VisitLemmas.{all_filter}
 use Rattle.match_tree.proofs.RootLemmas.{open_short}
@@ -123,13 +124,13 @@ settled_none d None routes h = refl
 settled_none d (Some x) routes h = absurd cc
 
 -- the paths of rows that are seen as a slice, by the number of patterns that was read
-pub kept_short : {d : Definition} {items seen : List (List Branch)} {count patterns : ℕ} {pending : Option Pending} → seen ≡ items → patterns ≡ length d.patterns → IsKept d items count pending
+pub kept_short : {d : Definition} {ties : Ties} {items seen : List (List Branch)} {count patterns : ℕ} {pending : Option Pending} → seen ≡ items → patterns ≡ length d.patterns → IsKept d ties items count pending
     → AreShort (patterns - 1) (rows_routes 0 seen)
-kept_short {d} {items} {seen} {count} {patterns} {pending} same count_is k =
+kept_short {d} {ties} {items} {seen} {count} {patterns} {pending} same count_is k =
     let short = open_short (length d.patterns) (rows_routes 0 items) k.free_left in
     subst (λ (n : ℕ). AreShort (n - 1) (rows_routes 0 seen)) (sym count_is) (subst (λ (xs : List (List Branch)). AreShort (length d.patterns - 1) (rows_routes 0 xs)) (sym same) short)
 
-pub kept_aside : (d : Definition) (rows : List (List Branch)) (count : ℕ) (pending : Option Pending) (x : Pending) → IsKept d rows count pending → pending ≡ Some x
+pub kept_aside : {ties : Ties} (d : Definition) (rows : List (List Branch)) (count : ℕ) (pending : Option Pending) (x : Pending) → IsKept d ties rows count pending → pending ≡ Some x
     → count ≡ x.aside + (1 + length (filter (lacks (x.number ∷ [])) (rows_routes 0 rows)))
 kept_aside d rows count pending x k is =
     let here : x.aside ≡ length (added x (rows_routes 0 rows)) = subst (λ q. CountsAdded q (rows_routes 0 rows)) is k.aside in
@@ -137,7 +138,7 @@ kept_aside d rows count pending x k is =
     let whole = k.counted in
     omega arith
 
-pub kept_count : (d : Definition) (rows : List (List Branch)) (count : ℕ) (pending : Option Pending) (x : Pending) → IsKept d rows count pending → pending ≡ Some x
+pub kept_count : {ties : Ties} (d : Definition) (rows : List (List Branch)) (count : ℕ) (pending : Option Pending) (x : Pending) → IsKept d ties rows count pending → pending ≡ Some x
     → count - x.aside ≡ length (paths_of d ([] ∷ lasting pending (rows_routes 0 rows)))
 kept_count d rows count pending x k is =
     let whole = kept_aside d rows count pending x k is in
@@ -154,14 +155,16 @@ gains_at d None routes n h = h
 gains_at d (Some x) routes n h = gains d (lacks (x.number ∷ [])) routes
 
 -- fewer nodes are kept as well
-pub kept_fewer : (d : Definition) (rows now : List (List Branch)) (count count' : ℕ) (pending : Option Pending) (p : Route → Bool) → IsKept d rows count pending
-    → length now ≡ length rows → rows_routes 0 now ≡ filter p (rows_routes 0 rows) → count' ≡ 1 + length (rows_routes 0 now) → IsKept d now count' None
+pub kept_fewer : {ties : Ties} (d : Definition) (rows now : List (List Branch)) (count count' : ℕ) (pending : Option Pending) (p : Route → Bool) → IsKept d ties rows count pending
+    → length now ≡ length rows → rows_routes 0 now ≡ filter p (rows_routes 0 rows) → count' ≡ 1 + length (rows_routes 0 now) → IsKept d ties now count' None
 kept_fewer d rows now count count' pending p k l is counts = record {
   some = k.some;
   many = k.many;
+  tied = k.tied;
   few = let f = k.few in omega arith;
   sound = rows_sound 0 now (subst AreOrdered (sym is) (ordered_filter p (rows_routes 0 rows) (rows_ordered 0 rows k.sound)));
   free_left = subst (AreOpen (empty_of d)) (sym is) (all_filter (IsOpen (empty_of d)) p (rows_routes 0 rows) k.free_left);
+  sees_all = λ none. subst (λ (rs : List Route). AllByRecursion (λ r. is_seen 1 r ≡ true) rs) (sym is) (all_filter (λ r. is_seen 1 r ≡ true) p (rows_routes 0 rows) (k.sees_all none));
   counted = counts;
   aside = tt;
   seen = tt;
@@ -183,7 +186,7 @@ all_kept {X} p (x ∷ xs) h = by (p x) refl (all_kept p xs)
         let count = sym (λ i. length (cond (not (e i)) (x ∷ filter (λ y. not (p y)) xs) (filter (λ y. not (p y)) xs))) ∙ h in
         absurd (omega arith)
 
-pub none_added : (d : Definition) (rows : List (List Branch)) (count : ℕ) (pending : Option Pending) (x : Pending) → IsKept d rows count pending → pending ≡ Some x → x.aside ≡ 0
+pub none_added : {ties : Ties} (d : Definition) (rows : List (List Branch)) (count : ℕ) (pending : Option Pending) (x : Pending) → IsKept d ties rows count pending → pending ≡ Some x → x.aside ≡ 0
     → rows_routes 0 rows ≡ filter (lacks (x.number ∷ [])) (rows_routes 0 rows)
 none_added d rows count pending x k is zero_added = sym (all_kept (lacks (x.number ∷ [])) (rows_routes 0 rows) (sym (subst (λ q. CountsAdded q (rows_routes 0 rows)) is k.aside) ∙ zero_added))
 

@@ -1,5 +1,5 @@
 -- Rows of leaves alone, which are no more than their numbers.
-use Rattle.std.proofs.Common.{◌≡◌, inl, inr, ◌∙◌, ℕ, zero, suc, ◌<◌, ◌≤◌, ◌≢◌, List, [], ◌∷◌, ◌++◌, map, length, get_or, Option, None, Some, refl, sym, ap, subst, arith}
+use Rattle.std.proofs.Common.{◌≡◌, inl, inr, ◌∙◌, ℕ, zero, suc, ◌+◌, ◌<◌, ◌≤◌, ◌≢◌, List, [], ◌∷◌, ◌++◌, map, length, get_or, Option, None, Some, refl, sym, ap, subst, arith}
 use Rattle.std.specs.Prelude.{MatchOption}
 use Rattle.std.specs.List.{AllByRecursion, remove}
 use Rattle.std.specs.List.Sorted.{IsNonDecreasingBy, IsPartitionPoint}
@@ -83,6 +83,12 @@ number_missing ns n i rise within parted =
       | inl below ↦ λ e. let less : get_or ns k d < n = ranked (get_or ns k d) n Less (sym (parts.0 k d (omega arith) below)) in omega arith
       | inr above ↦ λ e. let more : n < get_or ns k d = ranked (get_or ns k d) n Greater (sym (parts.1 k d above l)) in omega arith
     ])
+
+-- none of the numbers is one above the last
+pub last_below : (ns : List ℕ) (n i last : ℕ) → Rise ns → length ns ≡ i + 1 → last ≡ get_or ns i last → last < n → AllByRecursion (λ m. m ≢ n) ns
+last_below ns n i last rise long is less =
+    let at : get_or ns i last ≡ get_or ns i 0 = get_or_default ns i last 0 (omega arith) in
+    from_places (λ m. m ≢ n) ns (λ k d l. let up = numbers_rise ns k i rise (omega arith) (omega arith) in let same : get_or ns k d ≡ get_or ns k 0 = get_or_default ns k d 0 l in λ e. omega arith)
 
 leaf_number : (ns : List ℕ) (i : ℕ) (d : Branch) → i < length ns → (get_or (map leaf ns) i d).number ≡ get_or ns i 0
 leaf_number ns i d within =

@@ -1,7 +1,7 @@
 -- The lemmas by topic:
 -- - from the routes of a tree's nodes to its paths (`kept_..` keep the invariant, `.._tree` say what is shown):
 --   KeptLemmas, ReserveLemmas, ExpireLemmas, OnceLemmas
--- - one path and a number: SlotsLemmas, TakeLemmas, MatchLemmas
+-- - one path and a number: SlotsLemmas, TakeLemmas, MatchLemmas; whether it leaves a pattern free: FreeLemmas
 -- - the nodes of a row: VisitLemmas, WalkLemmas
 -- - the rows: RowsLemmas
 -- - what is left, and how many routes went: PruneLemmas, CountLemmas
@@ -18,7 +18,10 @@
 -- - the number behind may be offered to the paths that an arrival leaves: NextLemmas
 -- - a node that fails its row's screen has no takers behind it (`lacks_key`, `fails_one`, `is_another`, `disagrees`),
 --   and is passed as it is (`passed_quiet`), many in one step too (`walk_to`): ScreenLemmas, VisitLemmas, SkipLemmas
--- - a conjunct without a field of a pattern stands beside a number there as without (`stands_beside`): TieLemmas
+-- - a conjunct without a field of a pattern stands beside a number there as without (`stands_beside`): TieLemmas, which
+--   also has the sets of the table of ties (`tied_more`, `all_before_more`)
+-- - a path is agreeable where the conjuncts with a field of the new pattern are (`set_stands`): TrialLemmas
+-- - sets of places, bit by bit: PlaceSetLemmas
 -- - which conjuncts are decided is the same for all numbers of a row (`tests_alike`): ScreenLemmas
 -- - a number that an index has not under a look-up's value is not worth a visit (`key_looks`, `text_looks`), and those that
 --   are left of the index have all that are (`left_before`, `left_behind`): LookLemmas
@@ -32,6 +35,7 @@ pub mod Examples
 pub mod SlotsLemmas
 pub mod TakeLemmas
 pub mod TakenLemmas
+pub mod FreeLemmas
 pub mod MatchLemmas
 pub mod GrowLemmas
 pub mod BeginLemmas
@@ -42,7 +46,9 @@ pub mod OrderLemmas
 pub mod VisitLemmas
 pub mod EarnLemmas
 pub mod ScreenLemmas
+pub mod PlaceSetLemmas
 pub mod TieLemmas
+pub mod TrialLemmas
 pub mod WalkLemmas
 pub mod RowsLemmas
 pub mod PruneLemmas

@@ -12,6 +12,7 @@ use Rattle.match_tree.specs.Order.{Earlier, AreOrdered}
 use Rattle.match_tree.specs.Kept.{IsKept, lasting, paths_of}
 use Rattle.match_tree.specs.declared.pending.Pending.{Pending}
 use Rattle.match_tree.specs.Tree.{empty_of, AreOnce}
+use Rattle.match_tree.specs.declared.ties.Ties.{Ties}
 use Rattle.std.specs.Prelude.{◌==◌, not}
 use Rattle.std.proofs.lemmas.Bool.Decides.{nat_tests}
 use Rattle.match_tree.proofs.SlotsLemmas.{free_is_none, free_further}
@@ -143,7 +144,7 @@ paths_once d routes opened ordered = once_paths d ([] ∷ routes) (tt, all_climb
     all_climb (x ∷ xs) h = (h.0.climbs, all_climb xs h.1)
 
 -- no path that a tree shows stands twice
-pub kept_once : (d : Definition) (rows : List (List Branch)) (count : ℕ) (pending : Option Pending) → IsKept d rows count pending → AreOnce (paths_of d ([] ∷ lasting pending (rows_routes 0 rows)))
+pub kept_once : {ties : Ties} (d : Definition) (rows : List (List Branch)) (count : ℕ) (pending : Option Pending) → IsKept d ties rows count pending → AreOnce (paths_of d ([] ∷ lasting pending (rows_routes 0 rows)))
 kept_once d rows count None k = paths_once d (rows_routes 0 rows) k.free_left (rows_ordered_behind 0 rows k.sound)
 kept_once d rows count (Some x) k =
     let routes = rows_routes 0 rows in

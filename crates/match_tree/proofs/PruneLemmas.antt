@@ -10,7 +10,7 @@ use Rattle.match_tree.proofs.LeadLemmas.{all_both}
 use Rattle.std.proofs.lemmas.Cmp.{ranked}
 use Rattle.std.proofs.lemmas.List.Sorted.{IsNonDecreasingBy-from_default}
 use Rattle.std.proofs.lemmas.Bool.Decides.{nat_tests}
-use Rattle.std.proofs.lemmas.List.{length-map}
+use Rattle.std.proofs.lemmas.List.{get_or_default, length-map}
 use Rattle.std.proofs.lemmas.List.Elements.{filter-append}
 use Rattle.match_tree.specs.Routes.{Route, Step, Branch, step, node_routes, row_routes, rows_routes, lacks}
 use Rattle.join_base.specs.Taken.{contains_number}
@@ -90,6 +90,15 @@ place_missing row n i rise within parted =
       | inl below ↦ λ e. let less : (get_or row k d).number < n = ranked (get_or row k d).number n Less (sym (parts.0 k d (omega arith) below)) in omega arith
       | inr above ↦ λ e. let more : n < (get_or row k d).number = ranked (get_or row k d).number n Greater (sym (parts.1 k d above l)) in omega arith
     ])
+
+-- no node has a number above that of the last
+pub last_node_below : (row : List Branch) (n i : ℕ) (last : Branch) → Rise (map (λ node. node.number) row) → length row ≡ i + 1 → last ≡ get_or row i last → last.number < n → AllByRecursion (λ node. node.number ≢ n) row
+last_node_below row n i last rise long is less =
+    let at = ap (λ (node : Branch). node.number) is in
+    from_places (λ node. node.number ≢ n) row (λ k d l.
+    let up = rise_le row k i last rise (omega arith) (omega arith) in
+    let same = ap (λ (node : Branch). node.number) (get_or_default row k d last l) in
+    λ e. omega arith)
 
 -- ---- taking several numbers out
 

@@ -1,7 +1,7 @@
 -- What bounds say of the values of an integer field, and the numbers that are found by them.
-use Rattle.std.proofs.Common.{◌≡◌, ◌⊎◌, ◌∙◌, inl, inr, ℕ, ℤ, zero, suc, ◌<◌, ◌≤◌, List, [], ◌∷◌, length, get_or, Bool, true, false, Option, Some, None, slice_get, refl, sym, ap, subst, arith}
+use Rattle.std.proofs.Common.{◌≡◌, ◌⊎◌, inl, inr, ℕ, ℤ, zero, suc, ◌<◌, List, [], ◌∷◌, length, get_or, Bool, true, false, Option, Some, None, slice_get, refl, sym, subst, arith}
 use Rattle.std.proofs.lemmas.Int.{ints}
-use Rattle.std.specs.Prelude.{◌&&◌, IfSome, IsSomeAnd, int_le, int_lt}
+use Rattle.std.specs.Prelude.{IfSome, IsSomeAnd, int_le, int_lt}
 use Rattle.std.specs.List.{list_all}
 use Rattle.std.proofs.lemmas.Bool.{and_parts}
 use Rattle.std.proofs.lemmas.Bool.Decides.{Decides-int_eq}
@@ -12,7 +12,6 @@ use Rattle.guard_eval.specs.Meaning.{Assignment, int_relation}
 use Rattle.guard_bound.specs.declared.bound.Bound.{Bound}
 use Rattle.guard_bound.specs.Bound.{int_at, meets}
 use Rattle.pattern_core.specs.Members.{IsIn}
-use Rattle.value_index.specs.declared.field.IndexedField.{IndexedField}
 use Rattle.value_index.specs.declared.value_range.Span.{Span}
 use Rattle.value_index.specs.Index.{entry}
 use Rattle.value_index.specs.ValueRange.{Ascend, is_up_to, lies_in}

@@ -23,8 +23,9 @@ use Rattle.match_tree.specs.Growth.{Lasts, Grows, steps_to}
 use Rattle.match_tree.specs.Order.{AreSound}
 use Rattle.match_tree.specs.Tries.{tried, tries, tries_behind}
 use Rattle.match_tree.specs.Tree.{Tree, empty_of, offer_to, SameMembers, is_path_seen, seen_paths, extensions, completions, IsReserved}
-use Rattle.match_tree.specs.Kept.{IsKept, SeesAdded, paths_of, reserve_of, tree_of}
+use Rattle.match_tree.specs.Kept.{IsKept, SeesAdded, SeesAll, paths_of, reserve_of, tree_of}
 use Rattle.match_tree.specs.declared.pending.Pending.{Pending}
+use Rattle.match_tree.specs.declared.ties.Ties.{Ties}
 use Rattle.match_tree.proofs.FirstLemmas.{all_in, all_members}
 use Rattle.match_tree.proofs.KeptLemmas.{parts_count, same_map, settled_none, and_true, and_assoc, and_comm}
 use Rattle.join_base.proofs.EachLemmas.{each_append}
@@ -229,16 +230,42 @@ reserve_seen o before now None aside same lasts found grows = λ e.
 reserve_seen o before now (Some b) aside same lasts found grows = λ e.
     subst (λ (rs : List Route). AllByRecursion (λ r. is_seen (oldest_seen o.definition.window o.number) r ≡ true) rs) (sym (none_new o.number now (lasts_alike o.number before now lasts (found (λ h. absurd cc))))) tt
 
-pub reserve_kept : (d : Definition) (rows now : List (List Branch)) (count count' number : ℕ) (best : Option Candidate) (pending : Option Pending) → IsKept d rows count pending
+-- what is true of the routes that lack the number, and of the others, is true of all
+all_parts : (P : Route → Type 0) (p : Route → Bool) (routes : List Route) → AllByRecursion P (filter p routes) → AllByRecursion P (filter (λ r. not (p r)) routes) → AllByRecursion P routes
+all_parts P p [] some others = tt
+all_parts P p (r ∷ routes) some others = by (p r) refl (all_parts P p routes)
+  where
+    by : (b : Bool) → p r ≡ b → (AllByRecursion P (filter p routes) → AllByRecursion P (filter (λ x. not (p x)) routes) → AllByRecursion P routes) → P r × AllByRecursion P routes
+    by true e later =
+        let here = subst (λ (b : Bool). AllByRecursion P (cond b (r ∷ filter p routes) (filter p routes))) e some in
+        let rest = subst (λ (b : Bool). AllByRecursion P (cond (not b) (r ∷ filter (λ x. not (p x)) routes) (filter (λ x. not (p x)) routes))) e others in
+        (here.0, later here.1 rest)
+    by false e later =
+        let rest = subst (λ (b : Bool). AllByRecursion P (cond b (r ∷ filter p routes) (filter p routes))) e some in
+        let here = subst (λ (b : Bool). AllByRecursion P (cond (not b) (r ∷ filter (λ x. not (p x)) routes) (filter (λ x. not (p x)) routes))) e others in
+        (here.0, later rest here.1)
+
+-- without a window all routes are seen as before, and those that were added
+reserve_all : (d : Definition) (before now : List Route) (number aside : ℕ) (best : Option Candidate) → 1 ≤ number → Lasts number before now → SeesAll d before → SeesAdded d (Some record { number = number; best = best; aside = aside }) now → SeesAll d now
+reserve_all d before now number aside best from lasts sees added none =
+    let oldest : oldest_seen d.window number ≡ 1 = ap (λ (w : Option ℕ). oldest_seen w number) none in
+    let new : AllByRecursion (λ r. is_seen 1 r ≡ true) (filter (λ r. not (lacks (number ∷ []) r)) now) =
+    subst (λ (k : ℕ). AllByRecursion (λ r. is_seen k r ≡ true) (filter (λ r. not (lacks (number ∷ []) r)) now)) oldest (added (omega (arith, from, oldest)))
+    in
+    all_parts (λ r. is_seen 1 r ≡ true) (lacks (number ∷ [])) now (subst (λ (rs : List Route). AllByRecursion (λ r. is_seen 1 r ≡ true) rs) (sym lasts) (sees none)) new
+
+pub reserve_kept : {ties : Ties} (d : Definition) (rows now : List (List Branch)) (count count' number : ℕ) (best : Option Candidate) (pending : Option Pending) → IsKept d ties rows count pending → 1 ≤ number
     → length now ≤ 8 → AreSound now → AreOpen (empty_of d) (rows_routes 0 now) → Lasts number (rows_routes 0 rows) (rows_routes 0 now)
     → SeesAdded d (Some record { number = number; best = best; aside = count' - count }) (rows_routes 0 now)
-    → count' + length (rows_routes 0 rows) ≡ count + length (rows_routes 0 now) → IsKept d now count' (Some record { number = number; best = best; aside = count' - count })
-reserve_kept d rows now count count' number best pending k few sound opened lasts seen counts = record {
+    → count' + length (rows_routes 0 rows) ≡ count + length (rows_routes 0 now) → IsKept d ties now count' (Some record { number = number; best = best; aside = count' - count })
+reserve_kept d rows now count count' number best pending k from few sound opened lasts seen counts = record {
   some = k.some;
   many = k.many;
+  tied = k.tied;
   few = few;
   sound = sound;
   free_left = opened;
+  sees_all = reserve_all d (rows_routes 0 rows) (rows_routes 0 now) number (count' - count) best from lasts k.sees_all seen;
   counted = let whole = k.counted in omega arith;
   aside = let more = reserve_counts number (rows_routes 0 rows) (rows_routes 0 now) lasts in omega arith;
   seen = seen;

@@ -3,6 +3,7 @@ use Rattle.std.proofs.Common.{◌≡◌, ◌⊎◌, ◌∙◌, inl, inr, ℕ, ze
 use Rattle.std.specs.Prelude.{nat_le, slice_index, ◌==◌, IfSome}
 use Rattle.std.specs.List.{filter, list_all, AllByRecursion}
 use Rattle.std.proofs.lemmas.Bool.{cases_lt}
+use Rattle.std.proofs.lemmas.Option.{IfSome_then}
 use Rattle.join_base.specs.declared.message.Message.{Message}
 use Rattle.guard_eval.specs.Condition.{Condition}
 use Rattle.guard_eval.specs.Meaning.{Assignment, Need, recorded_message, number_at, needs_of, has_some, is_slot_filled, is_filled, is_decided, is_true}
@@ -19,11 +20,13 @@ use Rattle.match_tree.specs.Offers.{Offered, places, is_free, may_take, takers}
 use Rattle.match_tree.specs.Offering.{CanOffer, LeadOn}
 use Rattle.match_tree.specs.Order.{IsOrderedNode}
 use Rattle.guard_bound.specs.Bound.{IsPair, meets}
-use Rattle.guard_bound.specs.Same.{is_same}
+use Rattle.guard_bound.specs.Same.{SaysSame, is_same}
 use Rattle.guard_bound.proofs.SameLemmas.{same_said}
 use Rattle.guard_bound.specs.declared.same.Same.{Same}
 use Rattle.match_tree.specs.Rows.{node_at}
-use Rattle.match_tree.specs.Screen.{AreTests, AreWorthless, IsBound, IsDecidedAt, IsOther, IsSaid, IsWorthless, Screens, as_bound, key_of, passes}
+use Rattle.match_tree.specs.Screen.{AreTests, AreWorthless, IsBound, IsOther, IsSaid, IsWorthless, Screens, as_bound, key_of, passes}
+use Rattle.match_tree.specs.Trial.{AreDecided}
+use Rattle.match_tree.specs.declared.place_set.PlaceSet.{PlaceSet}
 use Rattle.match_tree.specs.declared.screen.Screen.{Screen}
 use Rattle.guard_bound.specs.declared.bound.Bound.{Bound}
 use Rattle.match_tree.specs.declared.screen.Key.{Key}
@@ -159,12 +162,12 @@ all_alike : (slots : Assignment) (q m k p n : ℕ) (needs : List Need) → list_
 all_alike slots q m k p n [] = refl
 all_alike slots q m k p n (need ∷ needs) = λ i. filled_alike slots q m k p n need.0.pattern i && all_alike slots q m k p n needs i
 
-pub tests_alike : (o : Offered) (slots : Assignment) (q m k p n : ℕ) (tests : List ℕ) → AllByRecursion (IsDecidedAt o (with_number (with_number slots q m) p n)) tests → AllByRecursion (IsDecidedAt o (with_number (with_number slots q k) p n)) tests
-tests_alike o slots q m k p n [] h = tt
-tests_alike o slots q m k p n (t ∷ tests) h =
-    let c = h.0.conjunct in
+pub tests_alike : (o : Offered) (slots : Assignment) (q m k p n : ℕ) (tests : PlaceSet) → AreDecided o (with_number (with_number slots q m) p n) tests → AreDecided o (with_number (with_number slots q k) p n) tests
+tests_alike o slots q m k p n tests h place small member =
+    let d = h place small member in
+    let c = d.conjunct in
     let same : is_decided (with_number (with_number slots q k) p n) c ≡ is_decided (with_number (with_number slots q m) p n) c = λ i. has_some (needs_of c) && all_alike slots q k m p n (needs_of c) i in
-    (record { conjunct = c; at = h.0.at; decided = same ∙ h.0.decided }, tests_alike o slots q m k p n tests h.1)
+    record { conjunct = c; at = d.at; decided = same ∙ d.decided }
 
 -- a decided conjunct that is false
 pub not_agreeable : (o : Offered) (slots : Assignment) (c : Condition) (b : Bool) → is_agreeable o.messages o.definition.conjuncts slots ≡ b → IsIn c o.definition.conjuncts → is_decided slots c ≡ true → is_true o.messages slots c ≡ false → b ≡ false
@@ -253,7 +256,20 @@ bound_more o whole pattern before now bound h is other same tests bounds key =
       key = subst (λ (n : ℕ). IfSome now.key (λ k. P n (as_bound k))) (sym other) keyed;
       bounds = subst (λ (n : ℕ). AllByRecursion (P n) now.bounds) (sym other) all;
       same = subst (λ (n : ℕ). IfSome now.same (IsSaid o whole pattern n)) (sym other) (subst (λ (x : Option Same). IfSome x (IsSaid o whole pattern before.other)) (sym same) h.same);
-      tests = subst (λ (ts : List ℕ). AllByRecursion (IsDecidedAt o whole) ts) (sym tests) h.tests;
+      tests = subst (λ (ts : PlaceSet). AreDecided o whole ts) (sym tests) h.tests;
+    }
+
+pub same_more : (o : Offered) (whole : Assignment) (pattern : ℕ) (before now : Screen) (c : Condition) → AreTests o whole pattern before → IsIn c o.definition.conjuncts → is_decided whole c ≡ true
+    → now.other ≡ before.other → now.key ≡ before.key → now.bounds ≡ before.bounds → now.tests ≡ before.tests → IfSome now.same (SaysSame pattern before.other c) → AreTests o whole pattern now
+same_more o whole pattern before now c h member decided other key bounds tests said =
+    let said_all : IfSome now.same (IsSaid o whole pattern before.other) = IfSome_then now.same said (λ (s : Same) says. record { conjunct = c; is_in = member; decided = decided; says = says }) in
+    let keyed : IfSome now.key (λ k. IsBound o whole pattern before.other (as_bound k)) = subst (λ (x : Option Key). IfSome x (λ k. IsBound o whole pattern before.other (as_bound k))) (sym key) h.key in
+    let all : AllByRecursion (IsBound o whole pattern before.other) now.bounds = subst (λ (bs : List Bound). AllByRecursion (IsBound o whole pattern before.other) bs) (sym bounds) h.bounds in
+    record {
+      key = subst (λ (n : ℕ). IfSome now.key (λ k. IsBound o whole pattern n (as_bound k))) (sym other) keyed;
+      bounds = subst (λ (n : ℕ). AllByRecursion (IsBound o whole pattern n) now.bounds) (sym other) all;
+      same = subst (λ (n : ℕ). IfSome now.same (IsSaid o whole pattern n)) (sym other) said_all;
+      tests = subst (λ (ts : PlaceSet). AreDecided o whole ts) (sym tests) h.tests;
     }
 
 -- ---- a node that is not worth a visit

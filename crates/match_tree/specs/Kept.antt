@@ -8,7 +8,9 @@ use Rattle.pattern_core.specs.Window.{oldest_seen}
 use Rattle.match_tree.specs.Below.{AreOpen}
 use Rattle.match_tree.specs.Order.{AreSound}
 use Rattle.match_tree.specs.Tree.{Tree, Reserve, empty_of}
+use Rattle.match_tree.specs.Ties.{AreTied}
 use Rattle.match_tree.specs.declared.pending.Pending.{Pending}
+use Rattle.match_tree.specs.declared.ties.Ties.{Ties}
 
 -- the routes without those that a reserve has added
 abbrev pub lasting : Option Pending → List Route → List Route
@@ -35,13 +37,19 @@ abbrev pub SeesAdded : Definition → Option Pending → List Route → Type 0
 SeesAdded definition None routes = Unit {0}
 SeesAdded definition (Some pending) routes = oldest_seen definition.window pending.number ≤ pending.number → AllByRecursion (λ r. is_seen (oldest_seen definition.window pending.number) r ≡ true) (added pending routes)
 
+-- a definition without a window sees the routes
+abbrev pub SeesAll : Definition → List Route → Type 0
+SeesAll definition routes = definition.window ≡ None → AllByRecursion (λ r. is_seen 1 r ≡ true) routes
+
 -- what a tree keeps
-pub record IsKept (definition : Definition) (rows : List (List Branch)) (count : ℕ) (pending : Option Pending) : Type 0 where
+pub record IsKept (definition : Definition) (ties : Ties) (rows : List (List Branch)) (count : ℕ) (pending : Option Pending) : Type 0 where
   pub some : 1 ≤ length definition.patterns
   pub many : length definition.patterns ≤ 8
+  pub tied : AreTied ties definition.conjuncts
   pub few : length rows ≤ 8
   pub sound : AreSound rows
   pub free_left : AreOpen (empty_of definition) (rows_routes 0 rows)
+  pub sees_all : SeesAll definition (rows_routes 0 rows)
   pub counted : count ≡ 1 + length (rows_routes 0 rows)
   pub aside : CountsAdded pending (rows_routes 0 rows)
   pub seen : SeesAdded definition pending (rows_routes 0 rows)

@@ -17,7 +17,9 @@ pub mod Behind
 pub mod Pruned
 pub mod Kept
 pub mod Screen
+pub mod PlaceSet
 pub mod Ties
+pub mod Trial
 pub mod Look
 pub mod Range
 pub mod Thinned

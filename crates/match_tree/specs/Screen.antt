@@ -17,16 +17,11 @@ use Rattle.guard_bound.specs.Same.{SaysSame}
 use Rattle.match_tree.specs.Rows.{node_at}
 use Rattle.match_tree.specs.Offers.{Offered, is_free, may_take, takers}
 use Rattle.match_tree.specs.Offering.{CanOffer}
+use Rattle.match_tree.specs.Trial.{AreDecided}
 
 -- the equality as a bound
 abbrev pub as_bound : Key → Bound
 as_bound key = record { field = key.field; relation = Equal; value = key.value }
-
--- the conjunct at the place is decided
-pub record IsDecidedAt (o : Offered) (slots : Assignment) (place : ℕ) : Type 0 where
-  pub conjunct : Condition
-  pub at : slice_get o.definition.conjuncts place ≡ Some conjunct
-  pub decided : is_decided slots conjunct ≡ true
 
 -- the bound is what a decided conjunct of the definition says
 pub record IsBound (o : Offered) (whole : Assignment) (pattern wanted : ℕ) (bound : Bound) : Type 0 where
@@ -47,7 +42,7 @@ pub record AreTests (o : Offered) (whole : Assignment) (pattern : ℕ) (screen :
   pub key : IfSome screen.key (λ k. IsBound o whole pattern screen.other (as_bound k))
   pub bounds : AllByRecursion (IsBound o whole pattern screen.other) screen.bounds
   pub same : IfSome screen.same (IsSaid o whole pattern screen.other)
-  pub tests : AllByRecursion (IsDecidedAt o whole) screen.tests
+  pub tests : AreDecided o whole screen.tests
 
 -- the pattern is another than the row's, and may take the offered number
 pub record IsOther (o : Offered) (slots : Assignment) (pattern other : ℕ) : Type 0 where

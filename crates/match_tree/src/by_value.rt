@@ -192,6 +192,7 @@ fn prune_number(
         messages: offer.messages,
         index: offer.index,
         definition: offer.definition,
+        ties: offer.ties,
         rule: offer.rule,
         number,
         oldest: offer.oldest,

@@ -14,7 +14,8 @@
 //! (`ties`), and first at one that says what an integer field of the row is equal to. It leaves out nodes behind which
 //! no try can succeed, so that the tries are fewer and what is found and added is the same.
 //! Most rows behind a node have no node or one, and these need no screen.
-//! A try evaluates the conjuncts that have a field of its pattern alone (`ties`): the others are true as before it.
+//! A try evaluates the decided conjuncts that have a field of its pattern alone: the others are as before it. Which these
+//! are is found by sets of conjuncts (`ties`).
 //!
 //! `reserve_for` gets an index of the messages' values, which has the numbers of the paths. Where it knows the field of
 //! an equality, a row of at least 8 numbers is looked up there (`look`): the numbers of the value, each then found in
@@ -28,12 +29,14 @@
 //! Tests show the calls of one arrival one behind the other: rows, and small scripts against a plain listing.
 #![tactic(auto)]
 
+mod at_leaf;
 mod by_value;
 mod expire;
 mod look;
 mod node;
 mod offer;
 mod pending;
+mod place_set;
 mod prune;
 mod range;
 mod reserve;
@@ -42,6 +45,7 @@ mod row_numbers;
 mod screen;
 mod ties;
 mod tree;
+mod trial;
 mod visit;
 
 pub use tree::MatchTree;

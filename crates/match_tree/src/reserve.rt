@@ -16,9 +16,11 @@ ghost use Rattle.match_tree.specs.Thinned.{AreVisited};
 ghost use Rattle.match_tree.specs.Tries.{tried, tries_behind};
 
 use crate::by_value::take_back;
-use crate::offer::{Offer, best_match, takers};
+use crate::offer::Offer;
+use crate::place_set::PlaceSet;
 use crate::prune::prune_rows;
 use crate::row::Row;
+use crate::trial::{best_match, takers};
 use crate::visit::visit_rows;
 use join_base::{Message, NoMemory, Numbers, Slots, Steps};
 use pattern_core::{Candidate, Definition, has_kind};
@@ -106,7 +108,7 @@ fn visit_path<L: Ledger>(
     ensures best { result ≡ least (matches_at (offered offer.now) slots.now) }
     ensures counted { steps.new ≡ steps.old + length wanted.now }
 {
-    let able = takers(offer, slots, wanted, steps);
+    let able = takers(offer, slots, PlaceSet::all(), wanted, steps);
     best_match(offer, slots, &able)
 }
 
@@ -156,7 +158,8 @@ pub fn visit_all<L: Ledger>(
         return Ok(visit_path(offer, &slots, &wanted, steps));
     }
     let before = *count;
-    match visit_rows(alloc, offer, &slots, &wanted, rows, count, steps) {
+    let asked = PlaceSet::all();
+    match visit_rows(alloc, offer, &slots, asked, &wanted, rows, count, steps) {
         Ok(None) => Ok(None),
         Ok(Some(best)) => {
             let added = more_than(count, before);

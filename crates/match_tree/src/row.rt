@@ -169,8 +169,8 @@ fn place_of_one(only: u32, number: u32) -> Option<usize>
     None
 }
 
-// The place of the number among numbers that rise.
-fn place_of_leaf(leaves: &VecDeque<u32>, number: u32) -> Option<usize>
+// The place of the number among numbers that rise, by halves.
+fn place_among(leaves: &VecDeque<u32>, number: u32) -> Option<usize>
     requires { Rise leaves.now.items }
     ensures { MatchOption result (AllByRecursion (λ n. n ≢ number) leaves.now.items) (λ i. (i < length leaves.now.items)
         × ((d : _) → slice_index_or leaves.now.items i d ≡ number)) }
@@ -181,8 +181,27 @@ fn place_of_leaf(leaves: &VecDeque<u32>, number: u32) -> Option<usize>
     }
 }
 
-/// The place of the node with the number among nodes whose numbers rise.
-pub fn place_of_node(nodes: &VecDeque<Node>, number: u32) -> Option<usize>
+// The place of the number among numbers that rise. One that is taken back is the last or not there, so the last is
+// looked at first.
+fn place_of_leaf(leaves: &VecDeque<u32>, number: u32) -> Option<usize>
+    requires { Rise leaves.now.items }
+    ensures { MatchOption result (AllByRecursion (λ n. n ≢ number) leaves.now.items) (λ i. (i < length leaves.now.items)
+        × ((d : _) → slice_index_or leaves.now.items i d ≡ number)) }
+{
+    let Some(last) = leaves.back() else {
+        return None;
+    };
+    if *last < number {
+        return None;
+    }
+    if *last == number {
+        return Some(leaves.len() - 1);
+    }
+    place_among(leaves, number)
+}
+
+// The place of the node with the number among nodes whose numbers rise, by halves.
+fn place_among_nodes(nodes: &VecDeque<Node>, number: u32) -> Option<usize>
     requires { Rise (map (λ node. node.number) nodes.now.items) }
     ensures { MatchOption result (AllByRecursion (λ node. node.number ≢ number) nodes.now.items)
         (λ i. (i < length nodes.now.items) × ((d : _) → (slice_index_or nodes.now.items i d).number ≡ number)) }
@@ -191,6 +210,24 @@ pub fn place_of_node(nodes: &VecDeque<Node>, number: u32) -> Option<usize>
         Ok(place) => Some(place),
         Err(_) => None,
     }
+}
+
+/// The place of the node with the number among nodes whose numbers rise. The last is looked at first.
+pub fn place_of_node(nodes: &VecDeque<Node>, number: u32) -> Option<usize>
+    requires { Rise (map (λ node. node.number) nodes.now.items) }
+    ensures { MatchOption result (AllByRecursion (λ node. node.number ≢ number) nodes.now.items)
+        (λ i. (i < length nodes.now.items) × ((d : _) → (slice_index_or nodes.now.items i d).number ≡ number)) }
+{
+    let Some(last) = nodes.back() else {
+        return None;
+    };
+    if last.number() < number {
+        return None;
+    }
+    if last.number() == number {
+        return Some(nodes.len() - 1);
+    }
+    place_among_nodes(nodes, number)
 }
 
 fn two_leaves(alloc: Global, first: u32, second: u32) -> Result<Box<VecDeque<u32>>, NoMemory>

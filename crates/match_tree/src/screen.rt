@@ -1,10 +1,11 @@
 //! Tests of the numbers of a row that are cheaper than a try. Which conjuncts tie the row's pattern to the wanted one
 //! and are decided is found once for the row, and only these are looked at. Where such a conjunct compares one field of
 //! the row with what is known, it is enough to read that field, and an equality is looked at first.
-ghost use Rattle.std.specs.Prelude.{◌≡◌, ◌⊎◌, ◌+◌, ◌<◌, ◌≤◌, ◌++◌, ◌∷◌, [], length, map, slice_get, Some, None, true, false, not, ◌==◌, nat_le, IfSome};
-ghost use Rattle.std.specs.List.{filter, AllByRecursion};
-ghost use Rattle.pattern_core.specs.Matches.{is_agreeable};
-ghost use Rattle.pattern_core.specs.Suits.{DefinitionSuits, SlotsSuit};
+ghost use Rattle.std.specs.Prelude.{◌≡◌, ◌⊎◌, ◌+◌, ◌<◌, ◌≤◌, ◌++◌, ◌∷◌, [], ◌||◌, ℕ, length, map, slice_get, Some, None, true, false, not, ◌==◌, nat_le, IfSome};
+ghost use Rattle.std.specs.List.{filter};
+ghost use Rattle.guard_bound.specs.Same.{SaysSame};
+ghost use Rattle.guard_eval.specs.Shape.{conjunct_condition};
+ghost use Rattle.pattern_core.specs.Suits.{DefinitionSuits};
 ghost use Rattle.match_tree.specs.Routes.{with_number};
 ghost use Rattle.match_tree.specs.Offers.{takers};
 ghost use Rattle.match_tree.specs.Offering.{offered, CanOffer};
@@ -12,16 +13,19 @@ ghost use Rattle.match_tree.specs.RowNumbers.{numbers_in};
 ghost use Rattle.match_tree.specs.Rows.{node_at};
 ghost use Rattle.match_tree.specs.Order.{Rise};
 ghost use Rattle.match_tree.specs.Look.{HasLeft};
-ghost use Rattle.match_tree.specs.Screen.{AreLacking, AreOffered, AreTests, AreWorthless, IsDecidedAt, IsWith, Screens, as_bound, key_of, passes};
+ghost use Rattle.match_tree.specs.PlaceSet.{has};
+ghost use Rattle.match_tree.specs.Screen.{AreLacking, AreOffered, AreTests, AreWorthless, IsWith, Screens, as_bound, key_of, passes};
+ghost use Rattle.match_tree.specs.Trial.{IsDecidedAt};
 
 use crate::look::next_looked;
 use crate::node::Node;
 use crate::offer::Offer;
+use crate::place_set::PlaceSet;
 use crate::row::Row;
 use crate::row_numbers::RowNumbers;
-use crate::ties::is_tied;
+use crate::trial::{all_hold, filled_among};
 use guard_bound::{Bound, Bounds, Same, bound_of, int_at, is_same, meets_all, same_of};
-use guard_eval::{decided, holds};
+use guard_eval::Conjunct;
 use join_base::{Message, Numbers, Relation, Slots, Steps};
 use std::collections::VecDeque;
 use std::sync::ledger::Ledger;
@@ -42,8 +46,8 @@ pub struct Screen {
     pub key: Option<Key>,
     pub bounds: Bounds,
     pub same: Option<Same>,
-    /// The places of further conjuncts, at most 8.
-    pub tests: Numbers,
+    /// Further conjuncts.
+    pub tests: PlaceSet,
 }
 
 // The assignment in which the pattern has the number too, where there is the pattern and it is free.
@@ -58,16 +62,6 @@ fn with_free(slots: &Slots, patterns: usize, pattern: u32, number: u32) -> Optio
         None => Some(slots.with(pattern, number)),
         Some(_) => None,
     }
-}
-
-// Whether the conjunct at the place is decided.
-fn decides(offer: &Offer<'_>, slots: &Slots, place: u32) -> bool
-    requires definition { DefinitionSuits offer.now.messages.now offer.now.definition.now }
-    requires long { length slots.now ≡ length offer.now.definition.now.patterns }
-    requires within { place < length offer.now.definition.now.conjuncts }
-    ensures { result ≡ true → IsDecidedAt (offered offer.now) slots.now place }
-{
-    decided(offer.definition.conjuncts.at(place as usize), slots)
 }
 
 // The equality that the bound is, where it is one.
@@ -104,8 +98,43 @@ fn add_bound(screen: &mut Screen, bound: Bound)
     screen.bounds.push(bound);
 }
 
+// Adds the texts that a decided conjunct says are equal, where it does, and no others are compared.
+fn add_same(screen: &mut Screen, pattern: u32, conjunct: &Conjunct) -> bool
+    ensures kept { result ≡ false → screen.new ≡ screen.old }
+    ensures other { screen.new.other ≡ screen.old.other }
+    ensures key { screen.new.key ≡ screen.old.key }
+    ensures bounds { screen.new.bounds ≡ screen.old.bounds }
+    ensures tests { screen.new.tests ≡ screen.old.tests }
+    ensures said { result ≡ true → IfSome screen.new.same (SaysSame pattern screen.old.other
+        (conjunct_condition conjunct.now)) }
+{
+    if screen.same.is_some() {
+        return false;
+    }
+    match same_of(pattern, screen.other, conjunct) {
+        None => false,
+        Some(same) => {
+            screen.same = Some(same);
+            true
+        }
+    }
+}
+
+// Adds the place of a decided conjunct.
+fn add_place(screen: &mut Screen, place: u32)
+    requires small { place < 64 }
+    ensures other { screen.new.other ≡ screen.old.other }
+    ensures key { screen.new.key ≡ screen.old.key }
+    ensures bounds { screen.new.bounds ≡ screen.old.bounds }
+    ensures same { screen.new.same ≡ screen.old.same }
+    ensures tests { (k : ℕ) → has screen.new.tests k ≡ ((k == place) || has screen.old.tests k) }
+{
+    screen.tests = screen.tests.with(place);
+}
+
 // Adds the decided conjunct at the place to the screen.
 fn add_test(offer: &Offer<'_>, whole: &Slots, pattern: u32, place: u32, screen: &mut Screen)
+    requires small { place < 64 }
     requires decided { IsDecidedAt (offered offer.now) whole.now place }
     requires before { AreTests (offered offer.now) whole.now pattern screen.old }
     ensures other { screen.new.other ≡ screen.old.other }
@@ -124,32 +153,18 @@ fn add_test(offer: &Offer<'_>, whole: &Slots, pattern: u32, place: u32, screen: 
             return;
         }
     }
-    if screen.same.is_none() {
-        screen.same = same_of(pattern, screen.other, conjunct);
-        if screen.same.is_some() {
-            return;
-        }
+    if add_same(screen, pattern, conjunct) {
+        return;
     }
-    if screen.tests.len() < 8 {
-        screen.tests.push(place);
-    }
-}
-
-// Whether the conjunct at the place ties the patterns.
-fn has_tie(offer: &Offer<'_>, pattern: u32, other: u32, place: u32) -> bool
-    requires within { place < length offer.now.definition.now.conjuncts }
-{
-    is_tied(
-        offer.definition.conjuncts.at(place as usize),
-        pattern,
-        other,
-    )
+    add_place(screen, place);
 }
 
 // The screen of the conjuncts that tie the two patterns, and that the assignment decides, which has the number at both.
 fn tests_of(offer: &Offer<'_>, pattern: u32, other: u32, whole: &Slots) -> Screen
     requires definition { DefinitionSuits offer.now.messages.now offer.now.definition.now }
     requires long { length whole.now ≡ length offer.now.definition.now.patterns }
+    requires within { pattern < length whole.now }
+    requires other_within { other < length whole.now }
     ensures other { result.other ≡ other }
     ensures tests { AreTests (offered offer.now) whole.now pattern result }
 {
@@ -158,13 +173,13 @@ fn tests_of(offer: &Offer<'_>, pattern: u32, other: u32, whole: &Slots) -> Scree
         key: None,
         bounds: Bounds::new(),
         same: None,
-        tests: Numbers::new(),
+        tests: PlaceSet::new(),
     };
-    let count = offer.definition.conjuncts.len().min(64) as u32;
-    for place in 0..count {
-        if has_tie(offer, pattern, other, place) && decides(offer, whole, place) {
-            add_test(offer, whole, pattern, place, &mut screen);
-        }
+    let tied = offer.ties.naming(pattern).both(offer.ties.naming(other));
+    let mut left = filled_among(offer, whole, tied);
+    while let Some(place) = left.first() {
+        add_test(offer, whole, pattern, place, &mut screen);
+        left = left.but(place);
     }
     screen
 }
@@ -203,37 +218,6 @@ fn key_of(screen: &Option<Screen>) -> Option<Key>
     }
 }
 
-// Whether the decided conjunct at the place holds.
-fn holds_at(offer: &Offer<'_>, slots: &Slots, place: u32) -> bool
-    requires definition { DefinitionSuits offer.now.messages.now offer.now.definition.now }
-    requires suits { SlotsSuit offer.now.messages.now offer.now.definition.now.patterns slots.now }
-    requires decided { IsDecidedAt (offered offer.now) slots.now place }
-    ensures { result ≡ false → is_agreeable offer.now.messages.now offer.now.definition.now.conjuncts
-        slots.now ≡ false }
-{
-    holds(
-        offer.definition.conjuncts.at(place as usize),
-        slots,
-        offer.messages,
-    )
-}
-
-// Whether the decided conjuncts at these places hold.
-fn all_hold(offer: &Offer<'_>, slots: &Slots, places: &Numbers) -> bool
-    requires definition { DefinitionSuits offer.now.messages.now offer.now.definition.now }
-    requires suits { SlotsSuit offer.now.messages.now offer.now.definition.now.patterns slots.now }
-    requires decided { AllByRecursion (IsDecidedAt (offered offer.now) slots.now) places.now }
-    ensures { result ≡ false → is_agreeable offer.now.messages.now offer.now.definition.now.conjuncts
-        slots.now ≡ false }
-{
-    for place in places.as_slice() {
-        if !holds_at(offer, slots, *place) {
-            return false;
-        }
-    }
-    true
-}
-
 // Whether the number passes the tests beside the offered one.
 fn agrees(offer: &Offer<'_>, slots: &Slots, pattern: u32, screen: &Screen, number: u32) -> bool
     requires can { CanOffer (offered offer.now) (with_number slots.now pattern number) }
@@ -242,12 +226,12 @@ fn agrees(offer: &Offer<'_>, slots: &Slots, pattern: u32, screen: &Screen, numbe
         (takers (offered offer.now) slots.now)) screen.now }
     ensures { result ≡ false → takers (offered offer.now) (with_number slots.now pattern number) ≡ [] }
 {
-    if screen.tests.len() == 0 {
+    if screen.tests.first().is_none() {
         return true;
     }
     let longer = slots.with(pattern, number);
     let whole = longer.with(screen.other, offer.number);
-    all_hold(offer, &whole, &screen.tests)
+    all_hold(offer, &whole, screen.tests)
 }
 
 /// Whether a number of a row that has the screen's key is worth a visit. It isn't where the definition no longer sees

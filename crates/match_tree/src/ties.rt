@@ -1,11 +1,12 @@
-//! Which patterns a conjunct has fields of, and which two it ties. That two are tied bears on speed alone, so no clause
-//! says it.
-ghost use Rattle.std.specs.Prelude.{◌≡◌, ◌++◌, false};
+//! Which conjuncts of a definition have fields of which patterns. It is found once a definition, since each try asks it.
+ghost use Rattle.std.specs.Prelude.{◌≡◌, ◌++◌, ◌<◌, ◌&&◌, ◌||◌, ◌==◌, ℕ, Some, length, slice_get};
 ghost use Rattle.guard_eval.specs.Meaning.{leaf_needs, needs_of, operand_needs, term_needs, words_needs};
-ghost use Rattle.guard_eval.specs.Shape.{conjunct_condition};
-ghost use Rattle.match_tree.specs.Ties.{names};
+ghost use Rattle.guard_eval.specs.Shape.{atom_condition, conjunct_condition};
+ghost use Rattle.match_tree.specs.PlaceSet.{has};
+ghost use Rattle.match_tree.specs.Ties.{AreNaming, AreTied, names, needs_at};
 
-use guard_eval::{Atom, Conjunct, Leaf, Operand, Signed, WordsLeaf};
+use crate::place_set::PlaceSet;
+use guard_eval::{Atom, Conjunct, ConjunctList, Leaf, Operand, Signed, WordsLeaf};
 
 // Whether a leaf is a field of the pattern.
 fn is_field_of(leaf: Leaf, pattern: u32) -> bool
@@ -67,36 +68,78 @@ fn have_field(left: &Operand, right: &Operand, pattern: u32) -> bool
     has_field(left, pattern) || has_field(right, pattern)
 }
 
-/// Whether the conjunct may have a field of the pattern. Where it is no single comparison, it may.
-#[tactic(auto, using(crate::proofs::TieLemmas::names_single))]
-pub fn may_name(conjunct: &Conjunct, pattern: u32) -> bool
-    ensures { result ≡ false → names pattern (needs_of (conjunct_condition conjunct.now)) ≡ false }
+// Whether an atom has a field of the pattern.
+#[cycle(naming)]
+fn atom_names(atom: &Atom, pattern: u32) -> bool
+    ensures { result ≡ names pattern (needs_of (atom_condition atom.now)) }
 {
-    match conjunct.atoms.as_slice() {
-        [Atom::Compare { left, right, .. }] => have_field(left, right, pattern),
-        _ => true,
-    }
-}
-
-// What stands deeper is not looked at, and counts as speaking of each pattern.
-fn may_speak(atom: &Atom, pattern: u32) -> bool {
     match atom {
         Atom::Compare { left, right, .. } => have_field(left, right, pattern),
-        Atom::Not(_) => true,
-        Atom::Group(_) => true,
+        Atom::Not(inner) => atom_names(inner, pattern),
+        Atom::Group(inner) => conjunct_names(inner, pattern),
     }
 }
 
-fn speaks_of(conjunct: &Conjunct, pattern: u32) -> bool {
-    for atom in conjunct.atoms.as_slice() {
-        if may_speak(atom, pattern) {
+// Whether a conjunct has a field of the pattern.
+#[cycle(naming)]
+fn conjunct_names(conjunct: &Conjunct, pattern: u32) -> bool
+    ensures { result ≡ names pattern (needs_of (conjunct_condition conjunct.now)) }
+{
+    for atom in &conjunct.atoms {
+        if atom_names(atom, pattern) {
             return true;
         }
     }
     false
 }
 
-/// Whether the conjunct has fields of both patterns, as far as its comparisons say.
-pub fn is_tied(conjunct: &Conjunct, pattern: u32, other: u32) -> bool {
-    speaks_of(conjunct, pattern) && speaks_of(conjunct, other)
+// The places with one more, if the conjunct there has a field of the pattern.
+fn add_naming(conjuncts: &ConjunctList, pattern: u32, found: PlaceSet, place: u32) -> PlaceSet
+    requires within { place < length conjuncts.now }
+    requires small { place < 64 }
+    ensures { (k : ℕ) → has result k ≡ (((k == place) && names pattern (needs_at conjuncts.now place))
+        || has found k) }
+{
+    if conjunct_names(conjuncts.at(place as usize), pattern) {
+        return found.with(place);
+    }
+    found
+}
+
+// Those of the first 64 conjuncts that have a field of the pattern.
+fn naming_of(conjuncts: &ConjunctList, pattern: u32) -> PlaceSet
+    ensures { AreNaming conjuncts.now pattern result }
+{
+    let mut found = PlaceSet::new();
+    for place in 0..conjuncts.len().min(64) as u32 {
+        found = add_naming(conjuncts, pattern, found, place);
+    }
+    found
+}
+
+/// For each of 8 patterns those of the first 64 conjuncts that have a field of it.
+#[derive(Clone, Copy)]
+pub struct Ties {
+    cells: [PlaceSet; 8],
+}
+
+impl Ties {
+    pub fn new(conjuncts: &ConjunctList) -> Ties
+        ensures { AreTied result conjuncts.now }
+    {
+        let mut cells = [PlaceSet::new(); 8];
+        for pattern in 0..8u32 {
+            cells[pattern as usize] = naming_of(conjuncts, pattern);
+        }
+        Ties { cells }
+    }
+
+    /// The conjuncts that have a field of the pattern.
+    #[inline]
+    pub fn naming(&self, pattern: u32) -> PlaceSet
+        requires { pattern < 8 }
+        ensures { slice_get self.now.cells pattern ≡ Some result }
+    {
+        self.cells[pattern as usize]
+    }
 }

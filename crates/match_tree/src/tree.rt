@@ -13,6 +13,7 @@ use crate::pending::Pending;
 use crate::prune::prune_rows;
 use crate::reserve::visit_all;
 use crate::row::Row;
+use crate::ties::Ties;
 use join_base::{Message, NoMemory, Numbers, Steps};
 use pattern_core::{Candidate, Definition, oldest_seen};
 use std::alloc::Global;
@@ -39,6 +40,7 @@ fn copy_of(candidate: &Candidate) -> Candidate
 pub struct MatchTree {
     alloc: Global,
     definition: Definition,
+    ties: Ties,
     rule: u32,
     rows: Vec<Row>,
     count: u64,
@@ -65,7 +67,7 @@ impl Model for MatchTree {
       reserve = reserve_of a.definition a.pending (rows_routes 0 a.rows.items);
     } };
 
-    ghost invariant = { λ a. IsKept a.definition a.rows.items a.count a.pending };
+    ghost invariant = { λ a. IsKept a.definition a.ties a.rows.items a.count a.pending };
 }
 
 impl MatchTree {
@@ -83,9 +85,11 @@ impl MatchTree {
         }) }
     {
         let definition = definition.copy(alloc)?;
+        let ties = Ties::new(&definition.conjuncts);
         Ok(MatchTree {
             alloc,
             definition,
+            ties,
             rule,
             rows: Vec::new(alloc),
             count: 1,
@@ -130,6 +134,7 @@ impl MatchTree {
             messages,
             index,
             definition: &self.definition,
+            ties: &self.ties,
             rule: self.rule,
             number,
             oldest: oldest_seen(&self.definition, number),
@@ -179,6 +184,9 @@ impl MatchTree {
         ensures { self.new ≡ with_paths self.old (filter (is_path_seen (oldest_seen self.old.definition.window number))
             self.old.paths) self.old.reserve }
     {
+        if self.definition.window.is_none() {
+            return;
+        }
         let oldest = oldest_seen(&self.definition, number);
         let levels = self.definition.patterns.len() - 1;
         let gone = drop_unseen(&mut self.rows, oldest, levels);
@@ -221,6 +229,7 @@ impl MatchTree {
             messages,
             index,
             definition: &self.definition,
+            ties: &self.ties,
             rule: self.rule,
             number,
             oldest: oldest_seen(&self.definition, number),

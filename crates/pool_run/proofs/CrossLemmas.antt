@@ -43,9 +43,11 @@ use Rattle.join_base.specs.contracts.message.Value as Value
 use Rattle.join_base.specs.contracts.message.Stamped as Stamped
 use Rattle.script_types.specs.contracts.plan.Statement as Statement
 use Rattle.script_types.specs.contracts.plan.Rule as Rule
+use Rattle.match_tree.specs.contracts.ties.Ties as Ties
 use Rattle.match_tree.specs.contracts.tree.MatchTree as MatchTree
 use Rattle.mailbox_core.specs.contracts.mailbox.Mailbox as Mailbox
-use Rattle.value_index.specs.contracts.entry.Entry as IndexEntry
+use Rattle.value_index.specs.contracts.valued.Valued as Valued
+use Rattle.value_index.specs.contracts.column.Column as Column
 use Rattle.value_index.specs.contracts.index.ValueIndex as ValueIndex
 use Rattle.actor_turn.specs.contracts.firings.Firings as Firings
 use Rattle.actor_turn.specs.contracts.outbox.Outbox as Outbox
@@ -203,9 +205,12 @@ pending-send = search (sendable, crosses, candidate-send) depth 40
 maybe-send : IsSend (Option.the_row Pending.the_row)
 maybe-send = search (sendable, crosses, pending-send) depth 40
 
+ties-send : IsSend Ties.the_row
+ties-send = search (sendable, crosses) depth 40
+
 -- the fields of a tree
 abbrev tree_parts : List Field
-tree_parts = row_field Global.the_row ∷ row_field Definition.the_row ∷ u32-field ∷ row_field (Vec.the_row Row.the_row Global.the_row ghosts) ∷ u64-field ∷ row_field (Option.the_row Pending.the_row) ∷ []
+tree_parts = row_field Global.the_row ∷ row_field Definition.the_row ∷ row_field Ties.the_row ∷ u32-field ∷ row_field (Vec.the_row Row.the_row Global.the_row ghosts) ∷ u64-field ∷ row_field (Option.the_row Pending.the_row) ∷ []
 
 tree-fields : IsSend (S.row (struct_layer [] [] [] tree_parts))
 tree-fields =
@@ -217,10 +222,13 @@ tree-fields =
       (
         as_row_send (row_field Definition.the_row) definition-send,
         (
-          number,
+          as_row_send (row_field Ties.the_row) ties-send,
           (
-            as_row_send (row_field (Vec.the_row Row.the_row Global.the_row ghosts)) rows-send,
-            (count, (as_row_send (row_field (Option.the_row Pending.the_row)) maybe-send, tt)),
+            number,
+            (
+              as_row_send (row_field (Vec.the_row Row.the_row Global.the_row ghosts)) rows-send,
+              (count, (as_row_send (row_field (Option.the_row Pending.the_row)) maybe-send, tt)),
+            ),
           ),
         ),
       ),
@@ -228,19 +236,22 @@ tree-fields =
 
 tree-send : IsSend MatchTree.the_row
 tree-send = record {
-  owned = λ d vs x. (tree-fields.owned (x.0.alloc, (x.0.definition, (x.0.rule, (x.0.rows, (x.0.count, (x.0.pending, tt)))))) vs, tt);
+  owned = λ d vs x. (tree-fields.owned (x.0.alloc, (x.0.definition, (x.0.ties, (x.0.rule, (x.0.rows, (x.0.count, (x.0.pending, tt))))))) vs, tt);
   leaving = λ k d w. tt;
 }
 
--- an index has a set of entries, which is sent whole: a search that goes down into it runs out of steps
-number-entry-send : IsSend IndexEntry.the_row
-number-entry-send = search (sendable, crosses) depth 40
+-- a column has a set of numbers with their values, which is sent whole: a search that goes down into it runs out of steps
+valued-send : IsSend Valued.the_row
+valued-send = search (sendable, crosses) depth 40
 
-set-send : (o : ord.Ghosts (IndexEntry.the_row).Denot) (e : eq.Ghosts (IndexEntry.the_row).Denot) (p : partial.Ghosts (IndexEntry.the_row).Denot) → IsSend (BTreeSet.the_field IndexEntry.the_row Global.the_row o e p ghosts).row
-set-send o e p = BTreeSet-send IndexEntry.the_row Global.the_row o e p ghosts number-entry-send heap-send frees
+set-send : (o : ord.Ghosts (Valued.the_row).Denot) (e : eq.Ghosts (Valued.the_row).Denot) (p : partial.Ghosts (Valued.the_row).Denot) → IsSend (BTreeSet.the_field Valued.the_row Global.the_row o e p ghosts).row
+set-send o e p = BTreeSet-send Valued.the_row Global.the_row o e p ghosts valued-send heap-send frees
+
+column-send : IsSend Column.the_row
+column-send = search (sendable, crosses, set-send) depth 40 fits 100000
 
 index-send : IsSend ValueIndex.the_row
-index-send = search (sendable, crosses, set-send) depth 40 fits 100000
+index-send = search (sendable, crosses, column-send) depth 40 fits 100000
 
 mailbox-send : IsSend Mailbox.the_row
 mailbox-send = search (sendable, crosses, message-send) depth 40 fits 100000

@@ -1,2 +1,4 @@
-pub mod EntryLemmas
+pub mod ValuedLemmas
 pub mod RangeLemmas
+pub mod EntryLemmas
+pub mod ColumnLemmas

@@ -1,11 +1,11 @@
 -- What an index holds: the numbers of messages by the values of their fields.
-use Rattle.std.specs.Prelude.{◌≡◌, ◌≢◌, ℕ, ℤ, ◌<◌, List, [], true, Some, slice_get}
+use Rattle.std.specs.Prelude.{◌≡◌, ◌≢◌, ℕ, List, [], true, Some, slice_get}
 use Rattle.join_base.specs.declared.message.Message.{Message}
 use Rattle.guard_eval.specs.Meaning.{recorded_message}
 use Rattle.pattern_core.specs.Matches.{is_of_kind}
 use Rattle.pattern_core.specs.Members.{IsIn}
 use Rattle.value_index.specs.declared.field.IndexedField.{IndexedField}
-use Rattle.value_index.specs.declared.entry.Entry.{Entry}
+pub use Rattle.value_index.specs.Entries.{Entry, entry}
 use Rattle.value_index.specs.Values.{value_at}
 
 -- the fields that are indexed, and the entries of numbers at them
@@ -16,16 +16,6 @@ pub record Index : Type 0 where
 -- an index of no field
 abbrev pub no_index : Index
 no_index = record { fields = []; entries = [] }
-
--- a number has the value at the field of this place
-abbrev pub entry : ℕ → ℤ → ℕ → Entry
-entry place value number = record { value = value; place = place; number = number }
-
--- of the first fields, so many, each that is of the number's kind has an entry of it
-abbrev pub HasAt : List IndexedField → List Entry → List Message → ℕ → ℕ → Type 0
-HasAt fields entries messages number count =
-    (place : ℕ) (indexed : IndexedField) → place < count → slice_get fields place ≡ Some indexed → is_of_kind (recorded_message messages number) indexed.kind ≡ true
-    → IsIn (entry place (value_at messages number indexed) number) entries
 
 -- the index has the number, with its value at each field of its kind
 abbrev pub Has : Index → List Message → ℕ → Type 0
@@ -40,12 +30,6 @@ Keeps before now = (e : Entry) → IsIn e before → IsIn e now
 -- all entries of other numbers are still there
 abbrev pub KeepsOthers : ℕ → List Entry → List Entry → Type 0
 KeepsOthers number before now = (e : Entry) → e.number ≢ number → IsIn e before → IsIn e now
-
--- of the first fields, so many, none that is of the number's kind has an entry of it
-abbrev pub LacksAt : List IndexedField → List Entry → List Message → ℕ → ℕ → Type 0
-LacksAt fields entries messages number count =
-    (place : ℕ) (indexed : IndexedField) → place < count → slice_get fields place ≡ Some indexed → is_of_kind (recorded_message messages number) indexed.kind ≡ true
-    → ¬ IsIn (entry place (value_at messages number indexed) number) entries
 
 -- the index has no entry of the number with its value at a field of its kind
 abbrev pub Lacks : Index → List Message → ℕ → Type 0

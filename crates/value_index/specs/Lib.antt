@@ -1,6 +1,8 @@
 -- The claims: the value of a field, and what an index holds.
 pub mod Values
+pub mod Entries
 pub mod Index
 pub mod ValueRange
--- What private functions speak of: the order of entries.
+-- What private functions speak of: the columns of an index, and the order in them.
+pub mod Columns
 pub mod Order

@@ -1,7 +1,7 @@
--- The numbers of entries that stand in their order, as long as they are of a span.
-use Rattle.std.specs.Prelude.{ℕ, ℤ, ◌<◌, List, [], ◌∷◌, Bool, true, ◌&&◌, ◌==◌, Option, Some, None, int_le, if◌then◌else◌}
+-- The numbers with values that stand in their order, as long as they are of a span.
+use Rattle.std.specs.Prelude.{ℕ, ℤ, ◌<◌, List, [], ◌∷◌, Bool, true, ◌&&◌, Option, Some, None, int_le, if◌then◌else◌}
 use Rattle.std.specs.List.{AllByRecursion}
-use Rattle.value_index.specs.declared.entry.Entry.{Entry}
+use Rattle.value_index.specs.declared.valued.Valued.{Valued}
 use Rattle.value_index.specs.declared.value_range.Span.{Span}
 
 -- the span of one value alone
@@ -17,13 +17,15 @@ is_up_to (Some high) value = int_le value high
 abbrev pub lies_in : Span → ℤ → Bool
 lies_in span value = int_le span.low value && is_up_to span.high value
 
--- an entry that is not before the span stands in it
-abbrev pub is_of : Span → Entry → Bool
-is_of span e = (e.place == span.place) && is_up_to span.high e.value
+-- the numbers up to the first value that is too great
+abbrev pub numbers_of : Option ℤ → List Valued → List ℕ
+numbers_of high [] = []
+numbers_of high (v ∷ left) = if is_up_to high v.value then v.number ∷ numbers_of high left else []
 
-abbrev pub numbers_of : Span → List Entry → List ℕ
-numbers_of span [] = []
-numbers_of span (e ∷ entries) = if is_of span e then e.number ∷ numbers_of span entries else []
+-- those of what is left of a column, if there is one
+abbrev pub numbers_in : Option ℤ → Option (List Valued) → List ℕ
+numbers_in high None = []
+numbers_in high (Some left) = numbers_of high left
 
 -- each number is greater than those before it
 abbrev pub Ascend : List ℕ → Type 0

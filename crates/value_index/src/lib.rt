@@ -8,21 +8,23 @@
 //! `numbers_between` goes over the numbers of a range of values (`Span`), where these ascend with the values, as they
 //! do with times in their order, and are at most 32. Else it answers that it has none.
 //!
-//! An entry takes 16 bytes. The entries of a message with two indexed fields take 32 bytes and what nodes of a
-//! `BTreeSet` have of free room, which is at most as much again and the links of the nodes.
+//! Each field has a `Column`: a set of numbers with their values, in the order of the values. A number takes 16 bytes
+//! there. Those of a message with two indexed fields take 32 bytes and what nodes of a `BTreeSet` have of free room,
+//! which is at most as much again and the links of the nodes.
 //!
 //! A contract sees an `Index`, its fields and its entries (specs/Index). `Has` and `Lacks` say of a number that each of
-//! its entries is there, or none. A `ValueRange` is seen as the list of numbers that are left.
+//! its entries is there, or none. An entry is a number with its value and the place of the field. A `ValueRange` is
+//! seen as the list of numbers that are left.
 //! Only tested: that it has no number of another value, when `numbers_between` gives one, and which fields `add_field`
 //! leaves out.
 #![tactic(auto)]
 
-mod entry;
+mod column;
 mod field;
 mod index;
 mod value_range;
+mod valued;
 
-pub use entry::Entry;
 pub use field::{IndexedField, value_at};
 pub use index::ValueIndex;
 pub use value_range::{Span, ValueRange};

@@ -1,10 +1,13 @@
 //! The numbers of a span of values, one after the other.
 ghost use Rattle.std.specs.Prelude.{◌≡◌, ◌∷◌, [], ◌≤◌, ℕ, ℤ, MatchOption, Some, true};
 ghost use Rattle.pattern_core.specs.Members.{IsIn};
-ghost use Rattle.value_index.specs.Index.{entry};
-ghost use Rattle.value_index.specs.ValueRange.{Ascend, is_of, lies_in, one_value};
+ghost use Rattle.value_index.specs.Columns.{entries_from, valued};
+ghost use Rattle.value_index.specs.Entries.{entry};
+ghost use Rattle.value_index.specs.Order.{IsFromStart};
+ghost use Rattle.value_index.specs.ValueRange.{Ascend, is_up_to, lies_in, numbers_of, one_value};
 
-use crate::entry::Entry;
+use crate::column::Column;
+use crate::valued::Valued;
 use std::collections::BTreeSet;
 use std::collections::btree_set::Range;
 use std::marker::Model;
@@ -31,26 +34,23 @@ impl Span {
             high: Some(value),
         }
     }
+}
 
-    // Whether an entry that is not before the span stands in it.
-    fn has(self, entry: Entry) -> bool
-        ensures { result ≡ is_of self entry }
-    {
-        if entry.place != self.place {
-            return false;
-        }
-        match self.high {
-            None => true,
-            Some(high) => entry.value <= high,
-        }
+// Whether a value is not above the greatest one, if there is one.
+fn is_up_to(high: Option<i64>, value: i64) -> bool
+    ensures { result ≡ is_up_to high value }
+{
+    match high {
+        None => true,
+        Some(high) => value <= high,
     }
 }
 
 /// The numbers that have a value of a span, in the order of their values. Contracts see those that are left.
 #[derive(Drop)]
 pub struct ValueRange<'a> {
-    entries: Range<'a, Entry>,
-    span: Span,
+    left: Option<Range<'a, Valued>>,
+    high: Option<i64>,
 }
 
 impl<'a> Model for ValueRange<'a> {
@@ -58,9 +58,32 @@ impl<'a> Model for ValueRange<'a> {
 
     ghost Value = { List ℕ };
 
-    ghost use Rattle.value_index.specs.ValueRange.{numbers_of};
+    ghost use Rattle.value_index.specs.ValueRange.{numbers_in};
 
-    ghost view = { λ a. numbers_of a.span a.entries };
+    ghost view = { λ a. numbers_in a.high a.left };
+}
+
+// Takes the next number, if its value is not above the greatest one.
+fn next_up_to(left: &mut Range<'_, Valued>, high: Option<i64>) -> Option<u32>
+    ensures { MatchOption result (numbers_of high left.old ≡ []) (λ number. numbers_of high left.old
+        ≡ number ∷ numbers_of high left.new) }
+{
+    match left.next() {
+        None => None,
+        Some(one) => {
+            if !is_up_to(high, one.value) {
+                return None;
+            }
+            Some(one.number)
+        }
+    }
+}
+
+// The numbers with values from the start on.
+fn left_from<'a>(column: &'a Column, low: i64, from: u32) -> Range<'a, Valued>
+    ensures { IsFromStart column.now.numbers.keys (valued low from) result }
+{
+    column.numbers.range(Valued::new(low, from)..)
 }
 
 // Whether the numbers that are left ascend, and are at most `MOST`. They are gone through up to the one that tells.
@@ -85,14 +108,20 @@ fn walk_up(left: &mut ValueRange<'_>) -> bool
 
 impl<'a> ValueRange<'a> {
     /// Those of the span's values. Of its least one only those from this number on.
-    pub(crate) fn from_start(entries: &'a BTreeSet<Entry>, span: Span, from: u32) -> ValueRange<'a>
+    pub(crate) fn from_start(columns: &'a [Column], span: Span, from: u32) -> ValueRange<'a>
         ensures ascend { span.high ≡ Some span.low → Ascend result }
         ensures has { (value : ℤ) (number : ℕ) → from ≤ number → lies_in span value ≡ true
-            → IsIn (entry span.place value number) entries.now.keys → IsIn number result }
+            → IsIn (entry span.place value number) (entries_from 0 columns.now) → IsIn number result }
     {
-        ValueRange {
-            entries: entries.range(Entry::new(span.place, span.low, from)..),
-            span,
+        match columns.get(span.place as usize) {
+            None => ValueRange {
+                left: None,
+                high: span.high,
+            },
+            Some(column) => ValueRange {
+                left: Some(left_from(column, span.low, from)),
+                high: span.high,
+            },
         }
     }
 
@@ -100,12 +129,15 @@ impl<'a> ValueRange<'a> {
     pub(crate) fn ascends(&self) -> bool
         ensures { result ≡ true → Ascend self.now }
     {
-        match self.entries.clone() {
+        let Some(left) = &self.left else {
+            return true;
+        };
+        match left.clone() {
             Err(_) => false,
-            Ok(entries) => {
+            Ok(left) => {
                 let mut walked = ValueRange {
-                    entries,
-                    span: self.span,
+                    left: Some(left),
+                    high: self.high,
                 };
                 walk_up(&mut walked)
             }
@@ -116,14 +148,9 @@ impl<'a> ValueRange<'a> {
     pub fn next(&mut self) -> Option<u32>
         ensures { MatchOption result (self.old ≡ []) (λ number. self.old ≡ number ∷ self.new) }
     {
-        match self.entries.next() {
+        match &mut self.left {
             None => None,
-            Some(entry) => {
-                if !self.span.has(*entry) {
-                    return None;
-                }
-                Some(entry.number)
-            }
+            Some(left) => next_up_to(left, self.high),
         }
     }
 }

@@ -15,6 +15,7 @@ use Rattle.match_tree.proofs.LeadLemmas.{lead_lasts}
 use Rattle.match_tree.proofs.RootLemmas.{alone_grows, open_short, root_free, root_takers, tried_empty}
 use Rattle.match_tree.proofs.PruneLemmas.{rising_open}
 use Rattle.match_tree.proofs.ReserveLemmas.{reserve_counts}
+use Rattle.match_tree.proofs.TrialLemmas.{none_outside}
 use Rattle.match_tree.proofs.reserve.visit_all.Goals.{After-visit_rows}
 use Rattle.match_tree.proofs.reserve.visit_all.Goals as goal
 
@@ -52,6 +53,9 @@ pub returns-then-len-eq0-clause-stepped : goal.returns-then-len-eq0-clause-stepp
 returns-then-len-eq0-clause-stepped g c =
     let wanted = ap (λ (ps : List ℕ). length ps) (c.of_kind-wanted.ensures ∙ tried_empty (offered c.args.offer.now)) in
     omega (arith, c.visit_path.ensures.counted)
+
+pub visit_rows-requires-clause-outside : goal.visit_rows-requires-clause-outside
+visit_rows-requires-clause-outside g c = none_outside (offered c.args.offer.now) c.new-slots.result c.all-asked.result c.all-asked.ensures.full c.of_kind-wanted.result
 
 pub visit_rows-requires-clause-free : goal.visit_rows-requires-clause-free
 visit_rows-requires-clause-free g c =

@@ -3,8 +3,12 @@ use Rattle.std.specs.List.{AllByRecursion}
 use Rattle.pattern_core.specs.Choice.{least}
 use Rattle.match_tree.specs.Offers.{matches_of, places}
 use Rattle.match_tree.specs.Offering.{offered, MayTake}
+use Rattle.match_tree.proofs.TrialLemmas.{none_outside}
 use Rattle.match_tree.proofs.VisitLemmas.{all_take}
 use Rattle.match_tree.proofs.reserve.visit_path.Goals as goal
+
+pub takers-able-requires-clause-outside : goal.takers-able-requires-clause-outside
+takers-able-requires-clause-outside g c = none_outside (offered c.args.offer.now) c.args.slots.now c.all.result c.all.ensures.full c.args.wanted.now
 
 pub best_match-requires-clause-may : goal.best_match-requires-clause-may
 best_match-requires-clause-may g c =

@@ -1,14 +1,9 @@
-use Rattle.std.proofs.Common.{◌<◌, length, arith}
-use Rattle.match_tree.proofs.LeafLemmas.{number_found, number_missing}
+use Rattle.std.proofs.Common.{◌≡◌, ◌+◌, ◌-◌, length, refl, arith}
+use Rattle.match_tree.proofs.LeafLemmas.{last_below}
 use Rattle.match_tree.proofs.row.place_of_leaf.Goals as goal
 
-pub returns-in-Ok : goal.returns-in-Ok
-returns-in-Ok c =
+pub returns-then-last-number : goal.returns-then-last-number
+returns-then-last-number c =
     let leaves = c.args.leaves.now in
-    let within : c.in-Ok.place < length leaves.items = omega (arith, c.in-Ok.ensures.bound, leaves.ok.0) in
-    (within, number_found leaves.items c.args.number c.in-Ok.place c.in-Ok.ensures.position)
-
-pub returns-in-Err : goal.returns-in-Err
-returns-in-Err c =
-    let leaves = c.args.leaves.now in
-    number_missing leaves.items c.args.number _ c.requires (omega (arith, c.in-Err.ensures.bound, leaves.ok.0)) c.in-Err.ensures.position
+    let long : length leaves.items ≡ (leaves.len - 1) + 1 = omega (arith, c.in-Some.ensures.variant.0 refl, leaves.ok.0) in
+    last_below leaves.items c.args.number (leaves.len - 1) c.in-Some.last.now c.requires long c.in-Some.ensures.lookup c.if-last-number.true

@@ -1,17 +1,10 @@
-use Rattle.std.proofs.Common.{◌<◌, length, arith, rules}
-use Rattle.std.proofs.lemmas.List.Sorted.{answers_always}
-use Rattle.match_tree.proofs.PruneLemmas.{place_found, place_missing}
+use Rattle.std.proofs.Common.{◌≡◌, ◌+◌, ◌-◌, ◌<◌, length, refl, arith}
+use Rattle.match_tree.proofs.PruneLemmas.{last_node_below}
 use Rattle.match_tree.proofs.row.place_of_node.Goals as goal
 
-pub returns-in-Ok : goal.returns-in-Ok
-returns-in-Ok c =
-    let by_key = c.in-Ok.ensures.position (λ node. node.number) (answers_always _ _ _ (λ f a r g called. search rules)) in
+pub returns-then-number : goal.returns-then-number
+returns-then-number c =
     let nodes = c.args.nodes.now in
-    let within : c.in-Ok.place < length nodes.items = omega (arith, c.in-Ok.ensures.bound, nodes.ok.0) in
-    (within, place_found nodes.items c.args.number c.in-Ok.place within by_key)
-
-pub returns-in-Err : goal.returns-in-Err
-returns-in-Err c =
-    let by_key = c.in-Err.ensures.position (λ node. node.number) (answers_always _ _ _ (λ f a r g called. search rules)) in
-    let nodes = c.args.nodes.now in
-    place_missing nodes.items c.args.number _ c.requires (omega (arith, c.in-Err.ensures.bound, nodes.ok.0)) by_key
+    let long : length nodes.items ≡ (nodes.len - 1) + 1 = omega (arith, c.in-Some.ensures.variant.0 refl, nodes.ok.0) in
+    let less : c.in-Some.last.now.number < c.args.number = omega (arith, c.number.ensures, c.if-number.true) in
+    last_node_below nodes.items c.args.number (nodes.len - 1) c.in-Some.last.now c.requires long c.in-Some.ensures.lookup less

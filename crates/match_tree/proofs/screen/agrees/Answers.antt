@@ -1,12 +1,11 @@
 use Rattle.std.proofs.Common.{◌≡◌, ◌∙◌, Some, None, ap, sym, subst}
 use Rattle.std.specs.Prelude.{slice_get}
-use Rattle.std.specs.List.{AllByRecursion}
 use Rattle.guard_eval.specs.Meaning.{Assignment}
 use Rattle.pattern_core.specs.Matches.{is_agreeable}
 use Rattle.pattern_core.specs.Suits.{SlotsSuit}
 use Rattle.match_tree.specs.Routes.{with_number}
 use Rattle.match_tree.specs.Offering.{offered}
-use Rattle.match_tree.specs.Screen.{IsDecidedAt}
+use Rattle.match_tree.specs.Trial.{AreDecided}
 use Rattle.match_tree.proofs.SlotsLemmas.{none_is_free}
 use Rattle.match_tree.proofs.ScreenLemmas.{disagrees, other_free, tests_alike, whole_suits}
 use Rattle.match_tree.proofs.screen.agrees.Goals as goal
@@ -34,7 +33,7 @@ all_hold-requires-clause-decided c =
     let whole : with_number (with_number a.slots.now a.pattern a.number) a.screen.now.other o.number ≡ c.with-whole.result =
     ap (λ (s : Assignment). with_number s a.screen.now.other o.number) (sym c.with-longer.ensures) ∙ sym c.with-whole.ensures
     in
-    let Decided : Assignment → Type 0 = λ s. AllByRecursion (IsDecidedAt o s) a.screen.now.tests in
+    let Decided : Assignment → Type 0 = λ s. AreDecided o s a.screen.now.tests in
     subst Decided whole (tests_alike o a.slots.now a.pattern o.number a.number a.screen.now.other o.number a.screen.now.tests c.requires.screen.tested.tests)
 
 pub returns : goal.returns
@@ -44,4 +43,4 @@ returns c =
     let whole : with_number (with_number a.slots.now a.pattern a.number) a.screen.now.other o.number ≡ c.with-whole.result =
     ap (λ (s : Assignment). with_number s a.screen.now.other o.number) (sym c.with-longer.ensures) ∙ sym c.with-whole.ensures
     in
-    λ no. disagrees o a.slots.now a.pattern a.number a.screen.now.other (none_is_free a.slots.now a.pattern c.requires.free) c.requires.screen.alone (ap (is_agreeable o.messages o.definition.conjuncts) whole ∙ c.all_hold.ensures no)
+    λ no. disagrees o a.slots.now a.pattern a.number a.screen.now.other (none_is_free a.slots.now a.pattern c.requires.free) c.requires.screen.alone (ap (is_agreeable o.messages o.definition.conjuncts) whole ∙ c.all_hold.ensures.fails no)

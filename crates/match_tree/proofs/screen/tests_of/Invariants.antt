@@ -1,10 +1,15 @@
 use Rattle.std.proofs.Common.{◌≡◌}
 use Rattle.match_tree.specs.Offering.{offered}
 use Rattle.match_tree.specs.Screen.{AreTests}
+use Rattle.match_tree.specs.Trial.{AreDecided}
 use Rattle.match_tree.proofs.screen.tests_of.Given as goal
 
 abbrev pub invariant-loop-place : goal.invariant-loop-place
 invariant-loop-place l = record {
   other : l.screen.other ≡ l.other;
   tests : AreTests (offered l.offer) l.whole l.pattern l.screen;
+  decided : AreDecided (offered l.offer) l.whole l.left;
 }
+
+abbrev pub decreases-loop-place : goal.decreases-loop-place
+decreases-loop-place l = l.left.bits

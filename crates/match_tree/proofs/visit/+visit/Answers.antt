@@ -8,6 +8,7 @@ use Rattle.match_tree.specs.Offers.{Offered, places, may_take, takers, growing, 
 use Rattle.match_tree.specs.Growth.{AreEarned, Grows, IsEarned, Lasts}
 use Rattle.match_tree.proofs.EarnLemmas.{all_set, earned_lead, earned_node}
 use Rattle.match_tree.specs.Begins.{AreLess}
+use Rattle.match_tree.specs.Behind.{routes_behind}
 use Rattle.match_tree.specs.Tries.{tries_behind}
 use Rattle.pattern_core.specs.Choice.{least}
 use Rattle.match_tree.specs.Order.{AreOrdered, IsSoundRow, AreSound, Rise}
@@ -30,8 +31,10 @@ use Rattle.match_tree.proofs.SkipLemmas.{Reached, Stopped, Walked, go_on, reach,
 use Rattle.match_tree.proofs.OrderLemmas.{rows_ordered_behind, rows_sound}
 use Rattle.match_tree.proofs.SlotsLemmas.{free_is_none}
 use Rattle.match_tree.proofs.TakeLemmas.{takers_further}
+use Rattle.match_tree.proofs.TrialLemmas.{free_small, outside_behind}
+use Rattle.match_tree.specs.Trial.{AllStandOutside}
 use Rattle.match_tree.proofs.visit.+visit.Goals as goal
-use Rattle.match_tree.proofs.visit.+visit.Goals.{visit_nodes-After-visit_at, visit_nodes-In_ok-found, visit_only-After-visit_at, visit_at-After-visit_leaf_at-in-Leaves, visit_rows-After-visit_each, visit_rows-In_ok-best}
+use Rattle.match_tree.proofs.visit.+visit.Goals.{visit_node-in-Some, visit_node-in_default, visit_nodes-After-visit_at, visit_nodes-In_ok-found, visit_only-After-visit_at, visit_at-After-visit_leaf_at-in-Leaves, visit_rows-After-visit_each, visit_rows-In_ok-best}
 use denote.Param.Weighed.{at_most}
 use Rattle.match_tree.specs.declared.node.Shape.{Shape}
 use Rattle.match_tree.specs.Shapes.{rows_behind, branches}
@@ -168,6 +171,12 @@ visit_only-visit_at-requires g t c =
     subst (λ (ps : List ℕ). AllByRecursion (MayTry (with_number a.slots.now a.pattern node.number)) ps) (sym c.requires.wanted)
     (tries_further o a.slots.now a.pattern node.number (takers o a.slots.now) (all_take o a.slots.now (places 0 o.definition.patterns)))
     in
+    let asked = c.naming-asked.result in
+    let Outside : Assignment → Type 0 = λ s. AllStandOutside o asked s a.wanted.now in
+    let outside : Outside (with_number a.slots.now a.pattern node.number) =
+    subst (λ (ps : List ℕ). AllStandOutside o asked (with_number a.slots.now a.pattern node.number) ps) (sym c.requires.wanted)
+    (outside_behind o a.slots.now a.pattern node.number asked at.leads.free (a.offer.now.tied a.pattern asked c.naming-asked.ensures))
+    in
     λ κs h. (
       omega (arith, c.decreases, nodes_fall a.row.now, at_most size-Node a.row.now 0 node at.before, ap size-Node at.is),
       (
@@ -175,15 +184,25 @@ visit_only-visit_at-requires g t c =
         (
           subst Can longer at.leads.can,
           (
-            subst Free longer free,
+            subst Outside longer outside,
             (
-              subst Wanted longer (ap (filter (may_take o (with_number a.slots.now a.pattern node.number))) c.requires.wanted ∙ takers_are),
-              (at.now, (at.ordered, (subst Lead longer at.leads.lead, subst (λ (s : Assignment). AreOpen s node.routes) longer (open_below a.slots.now a.pattern node at.opened)))),
+              subst Free longer free,
+              (
+                subst Wanted longer (ap (filter (may_take o (with_number a.slots.now a.pattern node.number))) c.requires.wanted ∙ takers_are),
+                (at.now, (at.ordered, (subst Lead longer at.leads.lead, subst (λ (s : Assignment). AreOpen s node.routes) longer (open_below a.slots.now a.pattern node at.opened)))),
+              ),
             ),
           ),
         ),
       ),
     )
+
+pub visit_only-naming-asked-requires : goal.visit_only-naming-asked-requires
+visit_only-naming-asked-requires g t c =
+    let a = c.args in
+    let o = offered a.offer.now in
+    let at = only_reached o a.slots.now a.pattern a.row.now a.count.now a.steps.now c.requires.one c.requires.sound c.requires.lead c.requires.free_left in
+    free_small o a.slots.now a.pattern c.requires.can at.leads.free
 
 -- what the visit of the one node leaves of its row
 only_left : (g : _) (t : _) (c : visit_only-After-visit_at g t) → Stopped (offered c.args.offer.now) c.args.slots.now c.args.pattern c.args.row.now c.visit_at.new.row c.args.count.now c.visit_at.new.count c.args.steps.now c.visit_at.new.steps
@@ -304,6 +323,13 @@ visit_nodes-with-longer-requires g t c =
     let at = reach c.requires.sound c.requires.lead c.requires.free_left c.loop-place.invariant.walked within (get_or_default c.loop-place.row c.loop-place.place (leaf 0) (node_at c.loop-place.row c.loop-place.place) within) in
     free_is_none a.slots.now a.pattern at.leads.free
 
+pub visit_nodes-naming-asked-requires : goal.visit_nodes-naming-asked-requires
+visit_nodes-naming-asked-requires g t c =
+    let a = c.args in
+    let within : c.loop-place.place < length c.loop-place.row = omega (arith, c.loop-place-test.true, c.len-end.ensures, c.loop-place.invariant.walked.long) in
+    let at = reach c.requires.sound c.requires.lead c.requires.free_left c.loop-place.invariant.walked within (get_or_default c.loop-place.row c.loop-place.place (leaf 0) (node_at c.loop-place.row c.loop-place.place) within) in
+    free_small (offered a.offer.now) a.slots.now a.pattern c.requires.can at.leads.free
+
 pub visit_nodes-visit_at-requires : goal.visit_nodes-visit_at-requires
 visit_nodes-visit_at-requires g t c =
     let a = c.args in
@@ -321,6 +347,12 @@ visit_nodes-visit_at-requires g t c =
     subst (λ (ps : List ℕ). AllByRecursion (MayTry (with_number a.slots.now a.pattern node.number)) ps) (sym c.requires.wanted)
     (tries_further o a.slots.now a.pattern node.number (takers o a.slots.now) (all_take o a.slots.now (places 0 o.definition.patterns)))
     in
+    let asked = c.naming-asked.result in
+    let Outside : Assignment → Type 0 = λ s. AllStandOutside o asked s a.wanted.now in
+    let outside : Outside (with_number a.slots.now a.pattern node.number) =
+    subst (λ (ps : List ℕ). AllStandOutside o asked (with_number a.slots.now a.pattern node.number) ps) (sym c.requires.wanted)
+    (outside_behind o a.slots.now a.pattern node.number asked at.leads.free (a.offer.now.tied a.pattern asked c.naming-asked.ensures))
+    in
     λ κs h. (
       omega (arith, c.decreases, nodes_fall a.row.now, at_most size-Node a.row.now c.loop-place.place node at.before, ap size-Node at.is),
       (
@@ -328,10 +360,13 @@ visit_nodes-visit_at-requires g t c =
         (
           subst Can longer at.leads.can,
           (
-            subst Free longer free,
+            subst Outside longer outside,
             (
-              subst Wanted longer (ap (filter (may_take o (with_number a.slots.now a.pattern node.number))) c.requires.wanted ∙ takers_are),
-              (within, (at.ordered, (subst Lead longer at.leads.lead, subst (λ (s : Assignment). AreOpen s node.routes) longer (open_below a.slots.now a.pattern node at.opened)))),
+              subst Free longer free,
+              (
+                subst Wanted longer (ap (filter (may_take o (with_number a.slots.now a.pattern node.number))) c.requires.wanted ∙ takers_are),
+                (within, (at.ordered, (subst Lead longer at.leads.lead, subst (λ (s : Assignment). AreOpen s node.routes) longer (open_below a.slots.now a.pattern node at.opened)))),
+              ),
             ),
           ),
         ),
@@ -387,10 +422,13 @@ visit_at-visit_node-requires g t c =
         (
           c.requires.can,
           (
-            c.requires.free,
+            c.requires.outside,
             (
-              c.requires.wanted,
-              (at (λ x. AreOrdered ([] ∷ x.routes)) c.requires.ordered, (at (λ x. LeadOn o a.slots.now x.routes) c.requires.lead, at (λ x. AreOpen a.slots.now x.routes) c.requires.free_left)),
+              c.requires.free,
+              (
+                c.requires.wanted,
+                (at (λ x. AreOrdered ([] ∷ x.routes)) c.requires.ordered, (at (λ x. LeadOn o a.slots.now x.routes) c.requires.lead, at (λ x. AreOpen a.slots.now x.routes) c.requires.free_left)),
+              ),
             ),
           ),
         ),
@@ -418,14 +456,17 @@ visit_node-visit_rows-requires g t c =
         (
           c.requires.can,
           (
-            c.requires.free,
+            c.requires.outside,
             (
-              c.requires.wanted,
+              c.requires.free,
               (
-                at (λ xs. length xs ≤ 8) (omega arith),
+                c.requires.wanted,
                 (
-                  at (λ xs. AreSound xs) (rows_sound 0 rows (subst AreOrdered (sym routes_are) c.requires.ordered.1)),
-                  (at (λ xs. Lead (rows_routes 0 xs)) (subst Lead (sym routes_are) c.requires.lead), at (λ xs. AreOpen a.slots.now (rows_routes 0 xs)) (subst (AreOpen a.slots.now) (sym routes_are) c.requires.free_left)),
+                  at (λ xs. length xs ≤ 8) (omega arith),
+                  (
+                    at (λ xs. AreSound xs) (rows_sound 0 rows (subst AreOrdered (sym routes_are) c.requires.ordered.1)),
+                    (at (λ xs. Lead (rows_routes 0 xs)) (subst Lead (sym routes_are) c.requires.lead), at (λ xs. AreOpen a.slots.now (rows_routes 0 xs)) (subst (AreOpen a.slots.now) (sym routes_are) c.requires.free_left)),
+                  ),
                 ),
               ),
             ),
@@ -891,3 +932,23 @@ visit_rows-returns g t c =
       counted = omega (arith, v.counted, b.counted);
       stepped = v.stepped;
     }
+
+pub visit_node-returns-after-rows-clause-grows : goal.visit_node-returns-after-rows-clause-grows
+visit_node-returns-after-rows-clause-grows g t c =
+    let a = c.args in
+    let o = offered a.offer.now in
+    let empty : rows_routes 0 (rows_behind c.node.inside.shape) ≡ [] = ap (λ (shape : Shape). rows_routes 0 (rows_behind shape)) c.in-Leaf.is in
+    let view : rows_routes 0 (rows_behind c.node.inside.shape) ≡ a.node.now.routes = ap (λ (x : Branch). x.routes) c.node.view_is in
+    let now : routes_behind c.in_ok-best-in-Leaf.field-0.rows ≡ c.match-rows.node.routes = elim c.match-rows.branch [
+      | visit_node-in-Some w ↦
+          let is = ap (λ (x : Branch). x.routes) w.node-is in
+          let put = ap (λ (x : Branch). x.routes) w.put_behind.ensures in
+          ap routes_behind w.in-Some.is ∙ sym (is ∙ put)
+      | visit_node-in_default w ↦
+          let is = ap (λ (x : Branch). x.routes) w.node-is in
+          let same : c.match-rows.node.routes ≡ [] = cc in
+          ap routes_behind w.in_default.is ∙ sym same
+    ] in
+    λ none.
+    subst (λ (rs : List Route). Grows o a.slots.now (growing o a.slots.now) rs c.match-rows.node.routes) (sym empty ∙ view)
+    (subst (λ (rs : List Route). Grows o a.slots.now (growing o a.slots.now) [] rs) now (c.in_ok-best-in-Leaf.ensures.grows none))

@@ -1,4 +1,4 @@
-use Rattle.std.proofs.Common.{◌≡◌, ◌∙◌, ◌+◌, ◌-◌, ◌++◌, ℕ, List, Some, length, take, drop, map, ap, sym, subst, arith}
+use Rattle.std.proofs.Common.{◌≡◌, ◌∙◌, ◌+◌, ◌-◌, ◌++◌, ℕ, List, Some, length, take, drop, map, not, ap, sym, subst, arith}
 use Rattle.std.specs.Prelude.{MatchOption}
 use Rattle.std.specs.List.{filter}
 use Rattle.std.proofs.lemmas.List.{take_at}
@@ -9,7 +9,7 @@ use Rattle.match_tree.specs.Pruned.{seen_nodes}
 use Rattle.match_tree.specs.Tree.{Tree, empty_of}
 use Rattle.match_tree.specs.Kept.{IsKept}
 use Rattle.match_tree.proofs.KeptLemmas.{kept_short}
-use Rattle.match_tree.proofs.ExpireLemmas.{open_seen, pending_at, sees_at, expired_kept, expired_at}
+use Rattle.match_tree.proofs.ExpireLemmas.{all_seen, no_window, open_seen, pending_at, sees_at, expired_kept, expired_at}
 use Rattle.match_tree.proofs.tree.MatchTree.expire.Goals as goal
 
 pub drop_unseen-gone-requires-clause-few : goal.drop_unseen-gone-requires-clause-few
@@ -50,7 +50,7 @@ invariant_of-self c =
     let same : length after ≡ length s.rows.items = same_length in
     let count : s.count - c.drop_unseen-gone.result ≡ 1 + length (rows_routes 0 after) = omega (arith, c.self.invariant.counted, c.drop_unseen-gone.ensures.gone) in
     let kept = expired_kept d s.rows.items after s.count (s.count - c.drop_unseen-gone.result) s.pending x c.self.invariant is sees same routes count in
-    subst (λ (xs : List (List Branch)). IsKept d xs (s.count - c.drop_unseen-gone.result) s.pending) (sym same_rows) kept
+    subst (λ (xs : List (List Branch)). IsKept d s.ties xs (s.count - c.drop_unseen-gone.result) s.pending) (sym same_rows) kept
 
 pub returns : goal.returns
 returns c =
@@ -73,3 +73,15 @@ returns c =
     in
     let finally = ap (λ (xs : List (List Branch)). rows_routes 0 xs) same_rows ∙ routes in
     expired_at d s.rule s.pending x old (rows_routes 0 (take s.rows.len (after ++ drop (length after) s.rows.items))) c.args.self.now n c.self.view_is is numbered c.self.invariant.free_left c.self.invariant.seen sees finally
+
+pub returns-then-is_none : goal.returns-then-is_none
+returns-then-is_none c =
+    let s = c.self.inside in
+    let n : ℕ = c.args.number in
+    let d = s.definition in
+    let old : List Route = rows_routes 0 s.rows.items in
+    let found = pending_at d s.pending old n (subst (λ (t : Tree). MatchOption t.reserve ⊥ (λ r. r.number ≡ n)) (sym c.self.view_is) c.requires.reserved) in
+    let x : Pending = found.0 in
+    let sees = sees_at d s.rule s.pending x old c.args.self.now n c.self.view_is found.1.1 c.requires.sees in
+    let none = no_window d.window (c.is_none.ensures ∙ ap not c.if-is_none.true) in
+    sym c.self.view_is ∙ expired_at d s.rule s.pending x old old c.args.self.now n c.self.view_is found.1.0 found.1.1 c.self.invariant.free_left c.self.invariant.seen sees (all_seen d old x.number c.self.invariant.sees_all none)

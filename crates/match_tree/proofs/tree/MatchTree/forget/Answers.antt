@@ -40,8 +40,8 @@ invariant_of-self-then-pending-gt0 c =
     let count = ap (λ (rs : List Route). length rs) routes in
     let same_length : length after ≡ length s.rows.items = omega (arith, c.prune_rows.auto.rows, c.deref_mut.ensures.len, ap (λ (xs : List (List Branch)). length xs) c.deref_mut.ensures.value) in
     let same : length after ≡ length s.rows.items = same_length in
-    subst (λ (q : Option Pending). IsKept s.definition (take s.rows.len (after ++ drop (length after) s.rows.items)) (s.count - x.aside) q) (sym c.take.ensures.after)
-    (subst (λ (xs : List (List Branch)). IsKept s.definition xs (s.count - x.aside) None) (sym is)
+    subst (λ (q : Option Pending). IsKept s.definition s.ties (take s.rows.len (after ++ drop (length after) s.rows.items)) (s.count - x.aside) q) (sym c.take.ensures.after)
+    (subst (λ (xs : List (List Branch)). IsKept s.definition s.ties xs (s.count - x.aside) None) (sym is)
     (kept_fewer s.definition s.rows.items after s.count (s.count - x.aside) s.pending (lacks (x.number ∷ [])) c.self.invariant same routes (omega arith)))
 
 pub returns-then-pending-gt0 : goal.returns-then-pending-gt0

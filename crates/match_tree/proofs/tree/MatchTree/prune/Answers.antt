@@ -68,8 +68,8 @@ invariant_of-self c =
     let same : length after ≡ length s.rows.items = same_length in
     let count : s.count - c.prune_values-gone.result ≡ 1 + length (rows_routes 0 after) = omega (arith, c.self.invariant.counted, c.prune_values-gone.ensures.gone) in
     let kept = kept_fewer s.definition s.rows.items after s.count (s.count - c.prune_values-gone.result) s.pending (lacks numbers) c.self.invariant same routes count in
-    subst (λ (q : Option Pending). IsKept s.definition (take s.rows.len (after ++ drop (length after) s.rows.items)) (s.count - c.prune_values-gone.result) q) (sym none)
-    (subst (λ (xs : List (List Branch)). IsKept s.definition xs (s.count - c.prune_values-gone.result) None) (sym is) kept)
+    subst (λ (q : Option Pending). IsKept s.definition s.ties (take s.rows.len (after ++ drop (length after) s.rows.items)) (s.count - c.prune_values-gone.result) q) (sym none)
+    (subst (λ (xs : List (List Branch)). IsKept s.definition s.ties xs (s.count - c.prune_values-gone.result) None) (sym is) kept)
 
 pub returns : goal.returns
 returns c =

@@ -41,7 +41,10 @@ invariant_of-self-2 g c =
     let s = c.self.inside in
     let o : Offered = record { messages = c.args.messages.now; index = c.args.index.now; definition = s.definition; rule = s.rule; number = c.args.number; oldest = c.oldest_seen.result } in
     let seen = reserve_seen o (rows_routes 0 s.rows.items) (rows_routes 0 c.visit_all.new.rows.items) c.in_ok-best.best (c.visit_all.new.count - s.count) c.oldest_seen.ensures c.visit_all.ensures.lasting c.in_ok-best.ensures.found c.in_ok-best.ensures.grows in
-    reserve_kept s.definition s.rows.items c.visit_all.new.rows.items s.count c.visit_all.new.count c.args.number c.in_ok-best.best s.pending c.self.invariant (omega (arith, c.visit_all.ensures.few)) c.visit_all.ensures.sound c.visit_all.ensures.free_left c.visit_all.ensures.lasting seen c.in_ok-best.ensures.counted
+    let before : List Route = rows_routes 0 s.rows.items in
+    let same : bare o ≡ offer_to (tree_of s.definition s.rule None before) c.args.messages.now c.args.number = λ i. record { messages = c.args.messages.now; index = no_index; definition = s.definition; rule = s.rule; number = c.args.number; oldest = c.oldest_seen.ensures i } in
+    let can = (reserve_lead s.definition s.rule s.pending before c.args.self.now c.args.messages.now c.args.number o c.self.view_is c.requires.settled same c.self.invariant.free_left c.requires.can c.requires.indexed).0 in
+    reserve_kept s.definition s.rows.items c.visit_all.new.rows.items s.count c.visit_all.new.count c.args.number c.in_ok-best.best s.pending c.self.invariant can.recorded.0 (omega (arith, c.visit_all.ensures.few)) c.visit_all.ensures.sound c.visit_all.ensures.free_left c.visit_all.ensures.lasting seen c.in_ok-best.ensures.counted
 
 pub returns-clause-reserved : goal.returns-clause-reserved
 returns-clause-reserved g c =

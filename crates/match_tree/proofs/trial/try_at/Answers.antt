@@ -1,0 +1,30 @@
+use Rattle.std.proofs.Common.{None, arith, ap, sym, subst, slice_index, ◌≡◌, ◌∙◌, true}
+use Rattle.std.proofs.lemmas.Option.{slice_get_within, get_or_from_slice_get}
+use Rattle.guard_eval.specs.Meaning.{recorded_message}
+use Rattle.pattern_core.specs.Matches.{is_of_kind}
+use Rattle.pattern_core.specs.Suits.{SlotsSuit}
+use Rattle.pattern_core.proofs.SuitsLemmas.{length-SlotsSuit, suits_further}
+use Rattle.match_tree.specs.Offering.{offered}
+use Rattle.match_tree.specs.Trial.{StandOutside}
+use Rattle.match_tree.proofs.SlotsLemmas.{below_apart}
+use Rattle.match_tree.proofs.trial.try_at.Goals as goal
+
+pub at-kind-requires : goal.at-kind-requires
+at-kind-requires g c = record {
+  within = omega (arith, slice_get_within c.args.slots.now c.args.pattern None c.requires.free, length-SlotsSuit c.args.offer.now.messages.now c.args.offer.now.definition.now.patterns c.args.slots.now c.requires.can.suits);
+}
+
+pub all_stand-requires-clause-suits : goal.all_stand-requires-clause-suits
+all_stand-requires-clause-suits g c =
+    let a = c.args in
+    let messages = a.offer.now.messages.now in
+    let kinds = a.offer.now.definition.now.patterns in
+    let kind = get_or_from_slice_get kinds a.pattern c.at-kind.result.now 0 c.at-kind.ensures.item in
+    let of_kind : is_of_kind (recorded_message messages a.offer.now.number) (slice_index kinds a.pattern) ≡ true =
+    ap (is_of_kind (recorded_message messages a.offer.now.number)) kind ∙ sym c.has_kind.ensures ∙ c.if-not-has_kind.false
+    in
+    subst (SlotsSuit messages kinds) (sym c.with-longer.ensures)
+    (suits_further messages kinds a.slots.now a.pattern a.offer.now.number c.requires.can.suits c.requires.free c.requires.can.recorded of_kind (below_apart a.slots.now a.offer.now.number c.requires.can.below))
+
+pub all_stand-requires-clause-outside : goal.all_stand-requires-clause-outside
+all_stand-requires-clause-outside g c = subst (StandOutside (offered c.args.offer.now) c.args.asked) (sym c.with-longer.ensures) c.requires.outside
