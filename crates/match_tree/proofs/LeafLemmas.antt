@@ -1,5 +1,5 @@
 -- Rows of leaves alone, which are no more than their numbers.
-use Rattle.std.proofs.Common.{◌≡◌, inl, inr, ◌∙◌, ℕ, zero, suc, ◌+◌, ◌<◌, ◌≤◌, ◌≢◌, List, [], ◌∷◌, ◌++◌, map, length, get_or, Option, None, Some, refl, sym, ap, subst, arith}
+use Rattle.std.proofs.Common.{◌≡◌, inl, inr, ◌∙◌, ℕ, zero, suc, ◌+◌, ◌<◌, ◌≤◌, ◌≢◌, List, [], ◌∷◌, ◌++◌, map, length, get_or, Option, None, Some, refl, sym, ap, subst, arith, option_to_list, length-append}
 use Rattle.std.specs.Prelude.{MatchOption}
 use Rattle.std.specs.List.{AllByRecursion, remove}
 use Rattle.std.specs.List.Sorted.{IsNonDecreasingBy, IsPartitionPoint}
@@ -45,6 +45,17 @@ leaves_remove [] zero = refl
 leaves_remove [] (suc i) = refl
 leaves_remove (n ∷ ns) zero = refl
 leaves_remove (n ∷ ns) (suc i) = ap (λ (row : List Branch). leaf n ∷ row) (leaves_remove ns i)
+
+removed_last : (ns : List ℕ) (n : ℕ) → remove (ns ++ n ∷ []) (length ns) ≡ ns
+removed_last [] n = refl
+removed_last (m ∷ ns) n = ap (λ (xs : List ℕ). m ∷ xs) (removed_last ns n)
+
+-- what a `pop_back` leaves is without the last
+pub last_removed : (before left : List ℕ) (last : Option ℕ) (place m n : ℕ) → before ≡ left ++ option_to_list last → MatchOption last ((m ≡ 0) × (n ≡ 0)) (λ _. n + 1 ≡ m) → m ≡ length before → place + 1 ≡ length before → left ≡ remove before place
+last_removed before left None place m n is cases long at = absurd (omega (arith, cases.0, long, at))
+last_removed before left (Some x) place m n is cases long at =
+    let there : length left ≡ place = omega (arith, at, ap (λ (xs : List ℕ). length xs) is, length-append left (x ∷ [])) in
+    sym (removed_last left x) ∙ ap (remove (left ++ x ∷ [])) there ∙ ap (λ (xs : List ℕ). remove xs place) (sym is)
 
 pub leaves_push : (ns : List ℕ) (n : ℕ) → map leaf (ns ++ n ∷ []) ≡ map leaf ns ++ leaf n ∷ []
 leaves_push [] n = refl

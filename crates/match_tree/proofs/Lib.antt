@@ -21,6 +21,8 @@
 -- - a conjunct without a field of a pattern stands beside a number there as without (`stands_beside`): TieLemmas, which
 --   also has the sets of the table of ties (`tied_more`, `all_before_more`)
 -- - a path is agreeable where the conjuncts with a field of the new pattern are (`set_stands`): TrialLemmas
+-- - a screen asks each conjunct that ties the two patterns (`asked_more`), so that behind a number that passes none is left
+--   to ask (`screen_asked`, `outside_asked`): AskLemmas
 -- - sets of places, bit by bit: PlaceSetLemmas
 -- - which conjuncts are decided is the same for all numbers of a row (`tests_alike`): ScreenLemmas
 -- - a number that an index has not under a look-up's value is not worth a visit (`key_looks`, `text_looks`), and those that
@@ -49,6 +51,7 @@ pub mod ScreenLemmas
 pub mod PlaceSetLemmas
 pub mod TieLemmas
 pub mod TrialLemmas
+pub mod AskLemmas
 pub mod WalkLemmas
 pub mod RowsLemmas
 pub mod PruneLemmas

@@ -1,9 +1,8 @@
 -- What fails a screen may be left out: no wanted pattern may take the number behind it.
-use Rattle.std.proofs.Common.{◌≡◌, ◌⊎◌, ◌∙◌, inl, inr, ℕ, zero, suc, ◌+◌, ◌<◌, List, [], ◌∷◌, ◌++◌, map, length, get_or, Bool, true, false, cond, not, ◌&&◌, ◌||◌, Option, Some, None, slice_get, refl, sym, ap, subst, arith}
-use Rattle.std.specs.Prelude.{nat_le, slice_index, ◌==◌, IfSome}
+use Rattle.std.proofs.Common.{◌≡◌, ◌⊎◌, ◌∙◌, inl, inr, ℕ, zero, suc, ◌+◌, ◌<◌, List, [], ◌∷◌, map, length, get_or, Bool, true, false, cond, not, ◌&&◌, ◌||◌, Option, Some, None, slice_get, refl, sym, ap, subst, arith}
+use Rattle.std.specs.Prelude.{nat_le, slice_index, ◌==◌, IfSome, IsSomeAnd}
 use Rattle.std.specs.List.{filter, list_all, AllByRecursion}
 use Rattle.std.proofs.lemmas.Bool.{cases_lt}
-use Rattle.std.proofs.lemmas.Option.{IfSome_then}
 use Rattle.join_base.specs.declared.message.Message.{Message}
 use Rattle.guard_eval.specs.Condition.{Condition}
 use Rattle.guard_eval.specs.Meaning.{Assignment, Need, recorded_message, number_at, needs_of, has_some, is_slot_filled, is_filled, is_decided, is_true}
@@ -24,7 +23,7 @@ use Rattle.guard_bound.specs.Same.{SaysSame, is_same}
 use Rattle.guard_bound.proofs.SameLemmas.{same_said}
 use Rattle.guard_bound.specs.declared.same.Same.{Same}
 use Rattle.match_tree.specs.Rows.{node_at}
-use Rattle.match_tree.specs.Screen.{AreTests, AreWorthless, IsBound, IsOther, IsSaid, IsWorthless, Screens, as_bound, key_of, passes}
+use Rattle.match_tree.specs.Screen.{AreTests, AreWorthless, IsAdded, IsBound, IsOther, IsSaid, IsWorthless, Screens, as_bound, key_of, passes}
 use Rattle.match_tree.specs.Trial.{AreDecided}
 use Rattle.match_tree.specs.declared.place_set.PlaceSet.{PlaceSet}
 use Rattle.match_tree.specs.declared.screen.Screen.{Screen}
@@ -158,7 +157,7 @@ filled_alike (slot ∷ slots) (suc q) m k zero n (suc x) = filled_set slots q m 
 filled_alike (slot ∷ slots) (suc q) m k (suc p) n zero = refl
 filled_alike (slot ∷ slots) (suc q) m k (suc p) n (suc x) = filled_alike slots q m k p n x
 
-all_alike : (slots : Assignment) (q m k p n : ℕ) (needs : List Need) → list_all (is_filled (with_number (with_number slots q m) p n)) needs ≡ list_all (is_filled (with_number (with_number slots q k) p n)) needs
+pub all_alike : (slots : Assignment) (q m k p n : ℕ) (needs : List Need) → list_all (is_filled (with_number (with_number slots q m) p n)) needs ≡ list_all (is_filled (with_number (with_number slots q k) p n)) needs
 all_alike slots q m k p n [] = refl
 all_alike slots q m k p n (need ∷ needs) = λ i. filled_alike slots q m k p n need.0.pattern i && all_alike slots q m k p n needs i
 
@@ -178,10 +177,10 @@ not_agreeable o slots c true e is_in decided fails =
 -- ---- a number that fails a bound
 
 module _ (o : Offered) (slots : Assignment) (q m p : ℕ) (free : is_free slots q ≡ true) (other : Other o slots q p) where
-  abbrev both : ℕ → Assignment
+  abbrev pub both : ℕ → Assignment
   both n = with_number (with_number slots q n) p o.number
 
-  beside : IsPair o.number q p m (both m)
+  pub beside : IsPair o.number q p m (both m)
   beside =
       let left : is_free (with_number slots q m) p ≡ true = free_further slots q m p ∙ and_of (is_free slots p) (not (p == q)) other.free other.apart in
       let first : number_at (with_number slots q m) q ≡ Some m = number_set slots q m free in
@@ -233,24 +232,23 @@ module _ (o : Offered) (slots : Assignment) (q m p : ℕ) (free : is_free slots 
 
 -- ---- a screen with a test more
 
-key_is : (P : Bound → Type 0) (key : Option Key) (bound : Bound) → P bound → IfSome key (λ k. as_bound k ≡ bound) → IfSome key (λ k. P (as_bound k))
+key_is : (P : Bound → Type 0) (key : Option Key) (bound : Bound) → P bound → IsSomeAnd key (λ k. as_bound k ≡ bound) → IfSome key (λ k. P (as_bound k))
 key_is P None bound p h = tt
 key_is P (Some k) bound p h = subst P (sym h) p
 
 pub bound_more : (o : Offered) (whole : Assignment) (pattern : ℕ) (before now : Screen) (bound : Bound) → AreTests o whole pattern before → IsBound o whole pattern before.other bound
-    → now.other ≡ before.other → now.same ≡ before.same → now.tests ≡ before.tests → (now.bounds ≡ before.bounds) ⊎ (now.bounds ≡ before.bounds ++ bound ∷ []) → (now.key ≡ before.key) ⊎ IfSome now.key (λ k. as_bound k ≡ bound)
-    → AreTests o whole pattern now
-bound_more o whole pattern before now bound h is other same tests bounds key =
+    → now.other ≡ before.other → now.same ≡ before.same → now.tests ≡ before.tests → IsAdded before now bound → AreTests o whole pattern now
+bound_more o whole pattern before now bound h is other same tests added =
     let P : ℕ → Bound → Type 0 = λ n b. IsBound o whole pattern n b in
     let Keyed : Option Key → Type 0 = λ k. IfSome k (λ x. P before.other (as_bound x)) in
     let All : List Bound → Type 0 = λ bs. AllByRecursion (P before.other) bs in
-    let keyed : Keyed now.key = elim key [
-      | inl e ↦ subst Keyed (sym e) h.key
-      | inr e ↦ key_is (P before.other) now.key bound is e
+    let keyed : Keyed now.key = elim added [
+      | inl e ↦ subst Keyed (sym e.0) h.key
+      | inr e ↦ key_is (P before.other) now.key bound is e.1.1
     ] in
-    let all : All now.bounds = elim bounds [
-      | inl e ↦ subst All (sym e) h.bounds
-      | inr e ↦ subst All (sym e) (each_last (P before.other) before.bounds bound h.bounds is)
+    let all : All now.bounds = elim added [
+      | inl e ↦ subst All (sym e.1) (each_last (P before.other) before.bounds bound h.bounds is)
+      | inr e ↦ subst All (sym e.1.0) h.bounds
     ] in
     record {
       key = subst (λ (n : ℕ). IfSome now.key (λ k. P n (as_bound k))) (sym other) keyed;
@@ -259,10 +257,14 @@ bound_more o whole pattern before now bound h is other same tests bounds key =
       tests = subst (λ (ts : PlaceSet). AreDecided o whole ts) (sym tests) h.tests;
     }
 
+some_then : {X : Type 0} (P Q : X → Type 0) (x : Option X) → IsSomeAnd x P → ((y : X) → P y → Q y) → IfSome x Q
+some_then P Q None h f = tt
+some_then P Q (Some y) h f = f y h
+
 pub same_more : (o : Offered) (whole : Assignment) (pattern : ℕ) (before now : Screen) (c : Condition) → AreTests o whole pattern before → IsIn c o.definition.conjuncts → is_decided whole c ≡ true
-    → now.other ≡ before.other → now.key ≡ before.key → now.bounds ≡ before.bounds → now.tests ≡ before.tests → IfSome now.same (SaysSame pattern before.other c) → AreTests o whole pattern now
+    → now.other ≡ before.other → now.key ≡ before.key → now.bounds ≡ before.bounds → now.tests ≡ before.tests → IsSomeAnd now.same (SaysSame pattern before.other c) → AreTests o whole pattern now
 same_more o whole pattern before now c h member decided other key bounds tests said =
-    let said_all : IfSome now.same (IsSaid o whole pattern before.other) = IfSome_then now.same said (λ (s : Same) says. record { conjunct = c; is_in = member; decided = decided; says = says }) in
+    let said_all : IfSome now.same (IsSaid o whole pattern before.other) = some_then (SaysSame pattern before.other c) (IsSaid o whole pattern before.other) now.same said (λ s says. record { conjunct = c; is_in = member; decided = decided; says = says }) in
     let keyed : IfSome now.key (λ k. IsBound o whole pattern before.other (as_bound k)) = subst (λ (x : Option Key). IfSome x (λ k. IsBound o whole pattern before.other (as_bound k))) (sym key) h.key in
     let all : AllByRecursion (IsBound o whole pattern before.other) now.bounds = subst (λ (bs : List Bound). AllByRecursion (IsBound o whole pattern before.other) bs) (sym bounds) h.bounds in
     record {

@@ -16,7 +16,7 @@ use Rattle.match_tree.specs.PlaceSet.{has}
 use Rattle.pattern_core.proofs.SuitsLemmas.{length-SlotsSuit}
 use Rattle.match_tree.specs.Routes.{with_number}
 use Rattle.match_tree.specs.Ties.{AreNaming, names, needs_at, needs_in}
-use Rattle.match_tree.specs.Trial.{AllStand, AllStandOutside, AreDecided, IsDecidedAt, StandOutside, stands_at, stands_in}
+use Rattle.match_tree.specs.Trial.{AllStand, AllStandOutside, AreDecided, AsksNone, IsDecidedAt, StandOutside, stands_at, stands_in}
 use Rattle.match_tree.specs.declared.place_set.PlaceSet.{PlaceSet}
 use Rattle.guard_bound.specs.declared.bound.Bound.{Bound}
 use Rattle.guard_bound.specs.declared.same.Same.{Same}
@@ -80,6 +80,33 @@ set_stands o slots p n asked those free before few told outside stand = all_agre
     each : (k : ℕ) → stands_in o.messages longer (slice_get conjuncts k) ≡ true
     each k = elim (cases_lt k (length conjuncts)) [
       | inl within ↦ by k (omega (arith, within, few)) (has those k) refl (has asked k) refl
+      | inr past ↦ ap (stands_in o.messages longer) (slice_get_past conjuncts k past)
+    ]
+
+not_asked : (n a l : Bool) → a ≡ true → (n && a) ≡ false → (n && l) ≡ false
+not_asked true a l e h = absurd (let bad = sym e ∙ h in cc)
+not_asked false a l e h = refl
+
+-- where none of the set has a field of the pattern, and those outside it stand
+pub none_stands : (o : Offered) (slots : Assignment) (p : ℕ) (asked : PlaceSet) → is_free slots p ≡ true → is_agreeable o.messages o.definition.conjuncts slots ≡ true → AsksNone o p asked
+    → StandOutside o asked (with_number slots p o.number) → is_agreeable o.messages o.definition.conjuncts (with_number slots p o.number) ≡ true
+none_stands o slots p asked free before none outside = all_agree o.messages (with_number slots p o.number) conjuncts each
+  where
+    conjuncts : List Condition
+    conjuncts = o.definition.conjuncts
+
+    longer : Assignment
+    longer = with_number slots p o.number
+
+    by : (k : ℕ) → k < 64 → (d : Bool) → has asked k ≡ d → stands_in o.messages longer (slice_get conjuncts k) ≡ true
+    by k small false f = outside k small f
+    by k small true f =
+        stands_on o.messages slots p o.number (slice_get conjuncts k) free (each_agrees o.messages slots conjuncts k before)
+        (not_asked (names p (needs_at conjuncts k)) (has asked k) (list_all (is_filled longer) (needs_at conjuncts k)) f (none.none k small))
+
+    each : (k : ℕ) → stands_in o.messages longer (slice_get conjuncts k) ≡ true
+    each k = elim (cases_lt k (length conjuncts)) [
+      | inl within ↦ by k (omega (arith, within, none.few)) (has asked k) refl
       | inr past ↦ ap (stands_in o.messages longer) (slice_get_past conjuncts k past)
     ]
 
@@ -175,24 +202,27 @@ apart : (p q : ℕ) → not (p == q) ≡ true → (p == q) ≡ false
 apart p q e = grind (arith, nat_tests)
 
 -- a conjunct without a field of the pattern stands there beside a number of it as without
-beside_in : (messages : List Message) (slots : Assignment) (q m : ℕ) (o : Option Condition) → is_free slots q ≡ true → names q (needs_in o) ≡ false → stands_in messages slots o ≡ true → stands_in messages (with_number slots q m) o ≡ true
+pub beside_in : (messages : List Message) (slots : Assignment) (q m : ℕ) (o : Option Condition) → is_free slots q ≡ true → names q (needs_in o) ≡ false → stands_in messages slots o ≡ true → stands_in messages (with_number slots q m) o ≡ true
 beside_in messages slots q m None free none stands = refl
 beside_in messages slots q m (Some c) free none stands = stands_beside messages slots q m c free none stands
+
+-- where another pattern may take the number, a conjunct without a field of the one stands behind a number there too
+pub stands_behind : (o : Offered) (slots : Assignment) (q m p k : ℕ) → is_free slots q ≡ true → IsOther o slots q p → names q (needs_at o.definition.conjuncts k) ≡ false → stands_at o (with_number (with_number slots q m) p o.number) k ≡ true
+stands_behind o slots q m p k free is unnamed =
+    let kind : Bool = is_of_kind (recorded_message o.messages o.number) (slice_index o.definition.patterns p) in
+    let agreeable : Bool = is_agreeable o.messages o.definition.conjuncts (with_number slots p o.number) in
+    let parts = both_true (is_free slots p) (kind && agreeable) is.may in
+    let stands = each_agrees o.messages (with_number slots p o.number) o.definition.conjuncts k (both_true kind agreeable parts.1).1 in
+    let still : is_free (with_number slots p o.number) q ≡ true = free_further slots p o.number q ∙ and_of (is_free slots q) (not (q == p)) free (other_way p q is.apart) in
+    subst (λ (s : Assignment). stands_at o s k ≡ true) (swapped slots q m p o.number (apart p q is.apart))
+    (beside_in o.messages (with_number slots p o.number) q m (slice_get o.definition.conjuncts k) still unnamed stands)
 
 -- where another pattern may take the number, conjuncts without a field of the one stand behind a number there too
 pub outside_behind : (o : Offered) (slots : Assignment) (q m : ℕ) (those : PlaceSet) → is_free slots q ≡ true → AreNaming o.definition.conjuncts q those → AllStandOutside o those (with_number slots q m) (others o slots q)
 outside_behind o slots q m those free naming = go (others o slots q) (all_others o slots q)
   where
     one : (p : ℕ) → IsOther o slots q p → StandOutside o those (with_number (with_number slots q m) p o.number)
-    one p is k small out =
-        let kind : Bool = is_of_kind (recorded_message o.messages o.number) (slice_index o.definition.patterns p) in
-        let agreeable : Bool = is_agreeable o.messages o.definition.conjuncts (with_number slots p o.number) in
-        let parts = both_true (is_free slots p) (kind && agreeable) is.may in
-        let stands = each_agrees o.messages (with_number slots p o.number) o.definition.conjuncts k (both_true kind agreeable parts.1).1 in
-        let still : is_free (with_number slots p o.number) q ≡ true = free_further slots p o.number q ∙ and_of (is_free slots q) (not (q == p)) free (other_way p q is.apart) in
-        let unnamed : names q (needs_at o.definition.conjuncts k) ≡ false = sym (naming k small) ∙ out in
-        subst (λ (s : Assignment). stands_at o s k ≡ true) (swapped slots q m p o.number (apart p q is.apart))
-        (beside_in o.messages (with_number slots p o.number) q m (slice_get o.definition.conjuncts k) still unnamed stands)
+    one p is k small out = stands_behind o slots q m p k free is (sym (naming k small) ∙ out)
 
     go : (ps : List ℕ) → AllByRecursion (IsOther o slots q) ps → AllByRecursion (λ p. StandOutside o those (with_number (with_number slots q m) p o.number)) ps
     go [] h = tt

@@ -1,5 +1,5 @@
 -- Whether the conjuncts of a definition stand at a path: those that are decided have to be true. And how many of its patterns are free.
-use Rattle.std.specs.Prelude.{◌≡◌, ℕ, ◌+◌, ◌<◌, List, [], ◌∷◌, Bool, true, false, not, ◌||◌, Option, Some, None, slice_get}
+use Rattle.std.specs.Prelude.{◌≡◌, ℕ, ◌+◌, ◌<◌, ◌≤◌, List, [], ◌∷◌, length, Bool, true, false, not, ◌&&◌, ◌||◌, Option, Some, None, slice_get}
 use Rattle.std.specs.List.{AllByRecursion}
 use Rattle.join_base.specs.declared.message.Message.{Message}
 use Rattle.guard_eval.specs.Condition.{Condition}
@@ -7,6 +7,7 @@ use Rattle.guard_eval.specs.Meaning.{Assignment, is_decided, is_true}
 use Rattle.match_tree.specs.Offers.{Offered}
 use Rattle.match_tree.specs.PlaceSet.{has}
 use Rattle.match_tree.specs.Routes.{with_number}
+use Rattle.match_tree.specs.Ties.{names, needs_at}
 use Rattle.match_tree.specs.declared.place_set.PlaceSet.{PlaceSet}
 
 abbrev pub stands_in : List Message → Assignment → Option Condition → Bool
@@ -38,6 +39,15 @@ StandOutside o places slots = (k : ℕ) → k < 64 → has places k ≡ false �
 -- they do wherever one of the patterns has the offered number too
 abbrev pub AllStandOutside : Offered → PlaceSet → Assignment → List ℕ → Type 0
 AllStandOutside o places slots patterns = AllByRecursion (λ p. StandOutside o places (with_number slots p o.number)) patterns
+
+-- of at most 64 conjuncts none of the set has a field of the pattern
+pub record AsksNone (o : Offered) (pattern : ℕ) (asked : PlaceSet) : Type 0 where
+  pub few : length o.definition.conjuncts ≤ 64
+  pub none : (k : ℕ) → k < 64 → (names pattern (needs_at o.definition.conjuncts k) && has asked k) ≡ false
+
+-- each of the first 64 conjuncts stands wherever one of the patterns has the offered number too
+abbrev pub AllStandWith : Offered → Assignment → List ℕ → Type 0
+AllStandWith o slots patterns = AllByRecursion (λ p. (k : ℕ) → k < 64 → stands_at o (with_number slots p o.number) k ≡ true) patterns
 
 abbrev pub free_of : Option ℕ → ℕ
 free_of None = 1

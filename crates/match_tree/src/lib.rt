@@ -15,7 +15,8 @@
 //! no try can succeed, so that the tries are fewer and what is found and added is the same.
 //! Most rows behind a node have no node or one, and these need no screen.
 //! A try evaluates the decided conjuncts that have a field of its pattern alone: the others are as before it. Which these
-//! are is found by sets of conjuncts (`ties`).
+//! are is found by sets of conjuncts (`ties`). Behind a number that passed a screen a try evaluates none, since the screen
+//! asks all of them.
 //!
 //! `reserve_for` gets an index of the messages' values, which has the numbers of the paths. Where it knows the field of
 //! an equality, a row of at least 8 numbers is looked up there (`look`): the numbers of the value, each then found in
@@ -32,6 +33,7 @@
 mod at_leaf;
 mod by_value;
 mod expire;
+mod find;
 mod look;
 mod node;
 mod offer;

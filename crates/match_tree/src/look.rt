@@ -12,7 +12,7 @@ ghost use Rattle.match_tree.specs.RowNumbers.{numbers_in};
 ghost use Rattle.match_tree.specs.Rows.{node_at};
 ghost use Rattle.match_tree.specs.Look.{FindsAt, HasLeft, LooksUp, LooksUpAt, may_meet};
 ghost use Rattle.match_tree.specs.Routes.{with_number};
-ghost use Rattle.match_tree.specs.Screen.{AreOffered, AreTests, AreWorthless, IsWorthless, Screens};
+ghost use Rattle.match_tree.specs.Screen.{AreAsked, AreOffered, AreTests, AreWorthless, IsWorthless, Screens};
 
 use crate::offer::Offer;
 use crate::range::by_range;
@@ -385,6 +385,7 @@ fn looks_worth<L: Ledger>(
     requires screen { IfSome screen.now (Screens (offered offer.now) slots.now pattern (filter (λ p. not (p == pattern))
         (takers (offered offer.now) slots.now))) }
     ensures seen { result ≡ true → nat_le offer.now.oldest number ≡ true }
+    ensures asked { result ≡ true → AreAsked (offered offer.now) slots.now pattern screen.now number }
     ensures left_out { result ≡ false → IsWorthless (offered offer.now) slots.now pattern number }
     ensures counted { result ≡ false → steps.new ≡ steps.old + 1 }
     ensures uncounted { result ≡ true → steps.new ≡ steps.old }
@@ -418,6 +419,8 @@ pub fn next_looked<L: Ledger>(
     ensures from { from ≤ result }
     ensures within { result ≤ length row.now }
     ensures seen { result < length row.now → nat_le offer.now.oldest (node_at row.now result).number ≡ true }
+    ensures asked { result < length row.now → AreAsked (offered offer.now) slots.now pattern screen.now
+        (node_at row.now result).number }
     ensures skipped { AreWorthless (offered offer.now) slots.now pattern row.now from result }
     ensures left { result < length row.now → HasLeft (offered offer.now) slots.now pattern row.now
         (result + 1) left.new }

@@ -55,6 +55,13 @@ impl PlaceSet {
         }
     }
 
+    #[inline]
+    pub fn is_empty(self) -> bool
+        ensures { result ≡ true → (k : ℕ) → has self k ≡ false }
+    {
+        self.bits == 0
+    }
+
     /// The least place.
     #[inline]
     pub fn first(self) -> Option<u32>

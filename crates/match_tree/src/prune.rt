@@ -88,6 +88,18 @@ fn remove_node(nodes: &mut VecDeque<Node>, place: usize, levels: usize) -> u64
     1 + count_node(&node, levels - 1)
 }
 
+// Takes the number at a place out of leaves. Mostly it is the last, where none moves.
+fn remove_leaf(leaves: &mut VecDeque<u32>, place: usize)
+    requires within { place < length leaves.old.items }
+    ensures { leaves.new.items ≡ remove leaves.old.items place }
+{
+    if place + 1 == leaves.len() {
+        let _ = leaves.pop_back();
+        return;
+    }
+    let _ = leaves.remove(place);
+}
+
 /// Takes the node at a place out of a row. The answer is how many routes went with it.
 pub fn remove_at(row: &mut Row, place: usize, levels: usize) -> u64
     requires within { place < length row.old }
@@ -104,7 +116,7 @@ pub fn remove_at(row: &mut Row, place: usize, levels: usize) -> u64
             1
         }
         Nodes::Leaves(leaves) => {
-            let _ = leaves.remove(place);
+            remove_leaf(leaves, place);
             1
         }
         Nodes::Mixed(nodes) => remove_node(nodes, place, levels),

@@ -1,7 +1,8 @@
 //! Tests of the numbers of a row that are cheaper than a try. Which conjuncts tie the row's pattern to the wanted one
 //! and are decided is found once for the row, and only these are looked at. Where such a conjunct compares one field of
-//! the row with what is known, it is enough to read that field, and an equality is looked at first.
-ghost use Rattle.std.specs.Prelude.{◌≡◌, ◌⊎◌, ◌+◌, ◌<◌, ◌≤◌, ◌++◌, ◌∷◌, [], ◌||◌, ℕ, length, map, slice_get, Some, None, true, false, not, ◌==◌, nat_le, IfSome};
+//! the row with what is known, it is enough to read that field, and an equality is looked at first. Behind a number that
+//! passes no conjunct is left to ask.
+ghost use Rattle.std.specs.Prelude.{◌≡◌, ◌⊎◌, ◌+◌, ◌<◌, ◌≤◌, ◌++◌, ◌∷◌, [], ◌||◌, ℕ, length, map, slice_get, Some, None, true, false, not, ◌==◌, nat_le, IfSome, IsSomeAnd, MatchOption};
 ghost use Rattle.std.specs.List.{filter};
 ghost use Rattle.guard_bound.specs.Same.{SaysSame};
 ghost use Rattle.guard_eval.specs.Shape.{conjunct_condition};
@@ -14,20 +15,19 @@ ghost use Rattle.match_tree.specs.Rows.{node_at};
 ghost use Rattle.match_tree.specs.Order.{Rise};
 ghost use Rattle.match_tree.specs.Look.{HasLeft};
 ghost use Rattle.match_tree.specs.PlaceSet.{has};
-ghost use Rattle.match_tree.specs.Screen.{AreLacking, AreOffered, AreTests, AreWorthless, IsWith, Screens, as_bound, key_of, passes};
-ghost use Rattle.match_tree.specs.Trial.{IsDecidedAt};
+ghost use Rattle.match_tree.specs.Screen.{AreAsked, AreLacking, AreOffered, AreTests, AreWorthless, AsksAll, IsAdded, IsAsked, IsWith, Screens, as_bound, key_of, passes};
+ghost use Rattle.match_tree.specs.Trial.{AllStand, IsDecidedAt};
 
+use crate::find::{has_value, with_key};
 use crate::look::next_looked;
-use crate::node::Node;
 use crate::offer::Offer;
 use crate::place_set::PlaceSet;
 use crate::row::Row;
 use crate::row_numbers::RowNumbers;
 use crate::trial::{all_hold, filled_among};
-use guard_bound::{Bound, Bounds, Same, bound_of, int_at, is_same, meets_all, same_of};
+use guard_bound::{Bound, Bounds, Same, bound_of, is_same, meets_all, same_of};
 use guard_eval::Conjunct;
 use join_base::{Message, Numbers, Relation, Slots, Steps};
-use std::collections::VecDeque;
 use std::sync::ledger::Ledger;
 use value_index::ValueRange;
 
@@ -80,22 +80,33 @@ fn as_key(bound: Bound) -> Option<Key>
     }
 }
 
+// Adds a bound where there is no key: an equality becomes the key.
+fn add_first(screen: &mut Screen, bound: Bound)
+    requires few { length screen.old.bounds < 4 }
+    requires first { screen.old.key ≡ None }
+    ensures other { screen.new.other ≡ screen.old.other }
+    ensures same { screen.new.same ≡ screen.old.same }
+    ensures tests { screen.new.tests ≡ screen.old.tests }
+    ensures added { IsAdded screen.old screen.new bound }
+{
+    match as_key(bound) {
+        Some(key) => screen.key = Some(key),
+        None => screen.bounds.push(bound),
+    }
+}
+
 // Adds a bound that a decided conjunct gives. The first equality is the key.
 fn add_bound(screen: &mut Screen, bound: Bound)
     requires few { length screen.old.bounds < 4 }
     ensures other { screen.new.other ≡ screen.old.other }
     ensures same { screen.new.same ≡ screen.old.same }
     ensures tests { screen.new.tests ≡ screen.old.tests }
-    ensures bounds { (screen.new.bounds ≡ screen.old.bounds) ⊎ (screen.new.bounds ≡ screen.old.bounds ++ bound ∷ []) }
-    ensures key { (screen.new.key ≡ screen.old.key) ⊎ IfSome screen.new.key (λ key. as_bound key ≡ bound) }
+    ensures added { IsAdded screen.old screen.new bound }
 {
-    if screen.key.is_none() {
-        screen.key = as_key(bound);
-        if screen.key.is_some() {
-            return;
-        }
+    match screen.key {
+        None => add_first(screen, bound),
+        Some(_) => screen.bounds.push(bound),
     }
-    screen.bounds.push(bound);
 }
 
 // Adds the texts that a decided conjunct says are equal, where it does, and no others are compared.
@@ -105,18 +116,19 @@ fn add_same(screen: &mut Screen, pattern: u32, conjunct: &Conjunct) -> bool
     ensures key { screen.new.key ≡ screen.old.key }
     ensures bounds { screen.new.bounds ≡ screen.old.bounds }
     ensures tests { screen.new.tests ≡ screen.old.tests }
-    ensures said { result ≡ true → IfSome screen.new.same (SaysSame pattern screen.old.other
+    ensures first { result ≡ true → screen.old.same ≡ None }
+    ensures said { result ≡ true → IsSomeAnd screen.new.same (SaysSame pattern screen.old.other
         (conjunct_condition conjunct.now)) }
 {
-    if screen.same.is_some() {
-        return false;
-    }
-    match same_of(pattern, screen.other, conjunct) {
-        None => false,
-        Some(same) => {
-            screen.same = Some(same);
-            true
-        }
+    match screen.same {
+        Some(_) => false,
+        None => match same_of(pattern, screen.other, conjunct) {
+            None => false,
+            Some(same) => {
+                screen.same = Some(same);
+                true
+            }
+        },
     }
 }
 
@@ -139,6 +151,9 @@ fn add_test(offer: &Offer<'_>, whole: &Slots, pattern: u32, place: u32, screen: 
     requires before { AreTests (offered offer.now) whole.now pattern screen.old }
     ensures other { screen.new.other ≡ screen.old.other }
     ensures after { AreTests (offered offer.now) whole.now pattern screen.new }
+    ensures asked { IsAsked (offered offer.now) pattern screen.new place }
+    ensures keeps { (k : ℕ) → IsAsked (offered offer.now) pattern screen.old k
+        → IsAsked (offered offer.now) pattern screen.new k }
 {
     let conjunct = offer.definition.conjuncts.at(place as usize);
     if screen.bounds.len() < 4 {
@@ -167,6 +182,7 @@ fn tests_of(offer: &Offer<'_>, pattern: u32, other: u32, whole: &Slots) -> Scree
     requires other_within { other < length whole.now }
     ensures other { result.other ≡ other }
     ensures tests { AreTests (offered offer.now) whole.now pattern result }
+    ensures asks { AsksAll (offered offer.now) whole.now pattern result }
 {
     let mut screen = Screen {
         other,
@@ -208,6 +224,20 @@ pub fn screen_of(
     Some(tests_of(offer, pattern, *other, &whole))
 }
 
+/// The conjuncts that a try behind a number of the row has to ask: those with a field of the row's pattern, and none
+/// where the row has a screen, which has asked them.
+#[inline]
+pub fn left_to_ask(offer: &Offer<'_>, pattern: u32, screen: &Option<Screen>) -> PlaceSet
+    requires { pattern < 8 }
+    ensures { MatchOption screen.now (slice_get offer.now.ties.now.cells pattern ≡ Some result)
+        (λ s. (k : ℕ) → has result k ≡ false) }
+{
+    match screen {
+        None => offer.ties.naming(pattern),
+        Some(_) => PlaceSet::new(),
+    }
+}
+
 // The screen's key.
 fn key_of(screen: &Option<Screen>) -> Option<Key>
     ensures { result ≡ key_of screen.now }
@@ -224,7 +254,9 @@ fn agrees(offer: &Offer<'_>, slots: &Slots, pattern: u32, screen: &Screen, numbe
     requires free { slice_get slots.now pattern ≡ Some None }
     requires screen { Screens (offered offer.now) slots.now pattern (filter (λ p. not (p == pattern))
         (takers (offered offer.now) slots.now)) screen.now }
-    ensures { result ≡ false → takers (offered offer.now) (with_number slots.now pattern number) ≡ [] }
+    ensures fails { result ≡ false → takers (offered offer.now) (with_number slots.now pattern number) ≡ [] }
+    ensures stand { result ≡ true → AllStand (offered offer.now) (with_number (with_number slots.now pattern number)
+        screen.now.other offer.now.number) screen.now.tests }
 {
     if screen.tests.first().is_none() {
         return true;
@@ -250,6 +282,8 @@ pub fn is_worth(
     ensures seen { result ≡ true → nat_le offer.now.oldest number ≡ true }
     ensures left_out { result ≡ false → (nat_le offer.now.oldest number ≡ false)
         ⊎ (takers (offered offer.now) (with_number slots.now pattern number) ≡ []) }
+    ensures asked { result ≡ true → passes offer.now.messages.now (key_of screen.now) number ≡ true
+        → AreAsked (offered offer.now) slots.now pattern screen.now number }
 {
     if number < offer.oldest {
         return false;
@@ -268,14 +302,6 @@ pub fn is_worth(
     }
 }
 
-// Whether the number has the key's value. It stands in the loops over waiting messages.
-#[inline(always)]
-fn has_value(messages: &[Message], key: Key, number: u32) -> bool
-    ensures { result ≡ passes messages.now (Some key) number }
-{
-    int_at(messages, number, key.field) == key.value
-}
-
 // Whether the number has the key's value, where there is a key.
 fn has_key(messages: &[Message], key: Option<Key>, number: u32) -> bool
     ensures { result ≡ passes messages.now key number }
@@ -286,7 +312,8 @@ fn has_key(messages: &[Message], key: Option<Key>, number: u32) -> bool
     }
 }
 
-/// The same for a number that may lack the key's value.
+/// The same for a number that may lack the key's value. It stands in the loop over a row.
+#[inline(always)]
 pub fn passes_screen(
     offer: &Offer<'_>,
     slots: &Slots,
@@ -301,124 +328,12 @@ pub fn passes_screen(
     ensures seen { result ≡ true → nat_le offer.now.oldest number ≡ true }
     ensures left_out { result ≡ false → (nat_le offer.now.oldest number ≡ false)
         ⊎ (takers (offered offer.now) (with_number slots.now pattern number) ≡ []) }
+    ensures asked { result ≡ true → AreAsked (offered offer.now) slots.now pattern screen.now number }
 {
     if !has_key(offer.messages, key_of(screen), number) {
         return false;
     }
     is_worth(offer, slots, pattern, screen, number)
-}
-
-// The first place from this one on whose number has the key's value, or the end. Each number that is passed over
-// counts.
-fn find_in<L: Ledger>(
-    messages: &[Message],
-    key: Key,
-    leaves: &[u32],
-    from: usize,
-    steps: &mut Steps<L>,
-) -> usize
-    requires { from ≤ length leaves.now }
-    ensures from { from ≤ result }
-    ensures within { result ≤ length leaves.now }
-    ensures lacking { AreLacking messages.now (Some key) leaves.now from result }
-    ensures counted { steps.new + from ≡ steps.old + result }
-{
-    for place in from..leaves.len() {
-        if has_value(messages, key, leaves[place]) {
-            return place;
-        }
-        steps.tick();
-    }
-    leaves.len()
-}
-
-// The same in two slices, one behind the other: this is the loop over waiting messages, and one slice is read faster.
-fn find_leaf<L: Ledger>(
-    messages: &[Message],
-    key: Key,
-    front: &[u32],
-    back: &[u32],
-    from: usize,
-    steps: &mut Steps<L>,
-) -> usize
-    requires { from ≤ length (front.now ++ back.now) }
-    ensures from { from ≤ result }
-    ensures within { result ≤ length (front.now ++ back.now) }
-    ensures lacking { AreLacking messages.now (Some key) (front.now ++ back.now) from result }
-    ensures counted { steps.new + from ≡ steps.old + result }
-{
-    if from >= front.len() {
-        return front.len() + find_in(messages, key, back, from - front.len(), steps);
-    }
-    let place = find_in(messages, key, front, from, steps);
-    if place < front.len() {
-        return place;
-    }
-    front.len() + find_in(messages, key, back, 0, steps)
-}
-
-// The same among nodes.
-fn find_node<L: Ledger>(
-    messages: &[Message],
-    key: Key,
-    nodes: &VecDeque<Node>,
-    from: usize,
-    steps: &mut Steps<L>,
-) -> usize
-    requires { from ≤ length nodes.now.items }
-    ensures from { from ≤ result }
-    ensures within { result ≤ length nodes.now.items }
-    ensures lacking { AreLacking messages.now (Some key) (map (λ node. node.number) nodes.now.items) from result }
-    ensures counted { steps.new + from ≡ steps.old + result }
-{
-    for place in from..nodes.len() {
-        if has_value(messages, key, nodes[place].number()) {
-            return place;
-        }
-        steps.tick();
-    }
-    nodes.len()
-}
-
-// The same among the numbers of a row, where there is a key. Without one each place will do, and a call would cost more
-// than the test at it.
-#[inline(always)]
-fn with_key<L: Ledger>(
-    messages: &[Message],
-    key: Option<Key>,
-    numbers: &RowNumbers<'_>,
-    from: usize,
-    steps: &mut Steps<L>,
-) -> usize
-    requires { from ≤ length (numbers_in numbers.now) }
-    ensures from { from ≤ result }
-    ensures within { result ≤ length (numbers_in numbers.now) }
-    ensures lacking { AreLacking messages.now key (numbers_in numbers.now) from result }
-    ensures counted { steps.new + from ≡ steps.old + result }
-{
-    match key {
-        None => from,
-        Some(key) => find_key(messages, key, numbers, from, steps),
-    }
-}
-
-fn find_key<L: Ledger>(
-    messages: &[Message],
-    key: Key,
-    numbers: &RowNumbers<'_>,
-    from: usize,
-    steps: &mut Steps<L>,
-) -> usize
-    requires { from ≤ length (numbers_in numbers.now) }
-    ensures from { from ≤ result }
-    ensures within { result ≤ length (numbers_in numbers.now) }
-    ensures lacking { AreLacking messages.now (Some key) (numbers_in numbers.now) from result }
-    ensures counted { steps.new + from ≡ steps.old + result }
-{
-    match numbers {
-        RowNumbers::Leaves(front, back) => find_leaf(messages, key, front, back, from, steps),
-        RowNumbers::Nodes(nodes) => find_node(messages, key, nodes, from, steps),
-    }
 }
 
 // The first place from this one on whose number is worth a visit, or the row's end, where all are gone through. Each
@@ -439,6 +354,8 @@ fn next_scanned<L: Ledger>(
     ensures from { from ≤ result }
     ensures within { result ≤ length row.now }
     ensures seen { result < length row.now → nat_le offer.now.oldest (node_at row.now result).number ≡ true }
+    ensures asked { result < length row.now → AreAsked (offered offer.now) slots.now pattern screen.now
+        (node_at row.now result).number }
     ensures skipped { AreWorthless (offered offer.now) slots.now pattern row.now from result }
     ensures counted { steps.new + from ≡ steps.old + result }
 {
@@ -447,7 +364,7 @@ fn next_scanned<L: Ledger>(
     let key = key_of(screen);
     let mut place = with_key(offer.messages, key, &numbers, from, steps);
     while place < end {
-        if is_worth(offer, slots, pattern, screen, numbers.at(place)) {
+        if passes_screen(offer, slots, pattern, screen, numbers.at(place)) {
             return place;
         }
         steps.tick();
@@ -478,6 +395,8 @@ pub fn next_place<L: Ledger>(
     ensures from { from ≤ result }
     ensures within { result ≤ length row.now }
     ensures seen { result < length row.now → nat_le offer.now.oldest (node_at row.now result).number ≡ true }
+    ensures asked { result < length row.now → AreAsked (offered offer.now) slots.now pattern screen.now
+        (node_at row.now result).number }
     ensures skipped { AreWorthless (offered offer.now) slots.now pattern row.now from result }
     ensures left { result < length row.now → IfSome left.new (HasLeft (offered offer.now) slots.now pattern row.now
         (result + 1)) }

@@ -11,7 +11,7 @@ ghost use Rattle.match_tree.specs.Offers.{is_free, may_take, matches_of, leaves_
 ghost use Rattle.match_tree.specs.Offering.{offered, CanOffer, MayTry, MayTake};
 ghost use Rattle.match_tree.specs.PlaceSet.{has};
 ghost use Rattle.match_tree.specs.Ties.{AreFilledAmong, names, needs_at};
-ghost use Rattle.match_tree.specs.Trial.{AllStand, AllStandOutside, AreDecided, IsDecidedAt, StandOutside, free_count, free_of, stands_at};
+ghost use Rattle.match_tree.specs.Trial.{AllStand, AllStandOutside, AreDecided, AsksNone, IsDecidedAt, StandOutside, free_count, free_of, stands_at};
 
 use crate::offer::Offer;
 use crate::place_set::PlaceSet;
@@ -135,6 +135,18 @@ fn all_stand(
     all_hold(offer, longer, those)
 }
 
+// Whether no conjunct of the set has a field of the pattern, where there are at most 64.
+#[inline]
+fn asks_none(offer: &Offer<'_>, pattern: u32, asked: PlaceSet) -> bool
+    requires { pattern < 8 }
+    ensures { result ≡ true → AsksNone (offered offer.now) pattern asked }
+{
+    if offer.definition.conjuncts.len() > 64 {
+        return false;
+    }
+    offer.ties.naming(pattern).both(asked).is_empty()
+}
+
 // Whether the pattern may take the number beside the others: it has the kind, and every conjunct that is then decided
 // is true. Conjuncts outside the set stand. It counts a step.
 fn try_at<L: Ledger>(
@@ -158,6 +170,9 @@ fn try_at<L: Ledger>(
     let kind = *offer.definition.patterns.at(pattern as usize);
     if !has_kind(offer.messages, offer.number, kind) {
         return false;
+    }
+    if asks_none(offer, pattern, asked) {
+        return true;
     }
     let longer = slots.with(pattern, offer.number);
     all_stand(offer, slots, &longer, pattern, asked)
@@ -260,15 +275,12 @@ fn match_at(offer: &Offer<'_>, slots: &Slots, pattern: u32) -> Option<Candidate>
     Some(candidate(offer, &longer))
 }
 
-/// The least match that the number completes at one of the patterns, which may take it.
-pub fn best_match(offer: &Offer<'_>, slots: &Slots, patterns: &Numbers) -> Option<Candidate>
+// The least match that the number completes at one of the patterns.
+fn match_among(offer: &Offer<'_>, slots: &Slots, patterns: &Numbers) -> Option<Candidate>
     requires can { CanOffer (offered offer.now) slots.now }
     requires may { AllByRecursion (MayTake (offered offer.now) slots.now) patterns.now }
     ensures { result ≡ least (matches_of (offered offer.now) slots.now patterns.now) }
 {
-    if leave_one_free(offer, slots) {
-        return None;
-    }
     if let [pattern] = patterns.as_slice() {
         return match_at(offer, slots, *pattern);
     }
@@ -277,6 +289,20 @@ pub fn best_match(offer: &Offer<'_>, slots: &Slots, patterns: &Numbers) -> Optio
         best = better(best, match_at(offer, slots, *pattern));
     }
     best
+}
+
+/// The least match that the number completes at one of the patterns, which may take it. Mostly another pattern is left
+/// free, which the visit of a path sees without a call.
+#[inline(always)]
+pub fn best_match(offer: &Offer<'_>, slots: &Slots, patterns: &Numbers) -> Option<Candidate>
+    requires can { CanOffer (offered offer.now) slots.now }
+    requires may { AllByRecursion (MayTake (offered offer.now) slots.now) patterns.now }
+    ensures { result ≡ least (matches_of (offered offer.now) slots.now patterns.now) }
+{
+    if leave_one_free(offer, slots) {
+        return None;
+    }
+    match_among(offer, slots, patterns)
 }
 
 /// Whether the pattern is one of these.

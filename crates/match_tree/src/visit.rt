@@ -19,7 +19,7 @@ use crate::node::{Node, Shape};
 use crate::offer::Offer;
 use crate::place_set::PlaceSet;
 use crate::row::{Nodes, Row};
-use crate::screen::{next_place, screen_of};
+use crate::screen::{left_to_ask, next_place, screen_of};
 use crate::trial::{best_match, takers, without};
 use join_base::{NoMemory, Numbers, Slots, Steps};
 use pattern_core::{Candidate, better};
@@ -264,7 +264,7 @@ fn visit_nodes<L: Ledger>(
     let mut place = next_place(offer, slots, pattern, &screen, &mut left, row, 0, steps);
     while place < end {
         let longer = slots.with(pattern, row.number_at(place));
-        let asked = offer.ties.naming(pattern);
+        let asked = left_to_ask(offer, pattern, &screen);
         let found = visit_at(
             alloc, offer, &longer, asked, wanted, row, place, count, steps,
         )?;
@@ -287,6 +287,7 @@ fn visit_nodes<L: Ledger>(
 
 // Offers the number to the path that ends at a node of a row, and to all that go on from it.
 #[cycle(visit)]
+#[inline(always)]
 fn visit_at<L: Ledger>(
     alloc: Global,
     offer: &Offer<'_>,

@@ -2,7 +2,7 @@ use Rattle.std.proofs.Common.{◌≡◌, ◌<◌, ◌≤◌, inr, ℕ, true, nat
 use Rattle.value_index.specs.ValueRange.{Ascend}
 use Rattle.match_tree.specs.Rows.{node_at}
 use Rattle.match_tree.specs.Offering.{offered}
-use Rattle.match_tree.specs.Screen.{AreWorthless, IsOffered, IsWorthless}
+use Rattle.match_tree.specs.Screen.{AreAsked, AreWorthless, IsOffered, IsWorthless}
 use Rattle.match_tree.proofs.SlotsLemmas.{free_is_none}
 use Rattle.match_tree.proofs.ScreenLemmas.{worthless_on}
 use Rattle.match_tree.proofs.LookLemmas.{fails_meet, left_before, left_behind, left_more, left_none, worthless_both}
@@ -103,6 +103,7 @@ returns-then-place-end g c =
       from = omega (arith, c.requires.within, c.len-end.ensures);
       within = omega (arith, c.len-end.ensures);
       seen = λ l. absurd (omega (arith, l, c.len-end.ensures));
+      asked = λ l. absurd (omega (arith, l, c.len-end.ensures));
       skipped = λ i l m. all i l (omega (arith, m, c.if-place-end.true));
       left = λ l. absurd (omega (arith, l, c.len-end.ensures));
       counted = omega (arith, before.counted, before.order, before.within, c.fails_early.ensures.uncounted c.if-fails_early.false, c.len-end.ensures);
@@ -117,6 +118,7 @@ returns-then-looks_worth g c =
       from = omega (arith, before.from, before.order, e.from);
       within = e.within;
       seen = λ l. subst (λ (n : ℕ). nat_le a.offer.now.oldest n ≡ true) c.number_at-there.ensures (c.looks_worth.ensures.seen c.if-looks_worth.true);
+      asked = λ l. subst (AreAsked (offered a.offer.now) a.slots.now a.pattern a.screen.now) c.number_at-there.ensures (c.looks_worth.ensures.asked c.if-looks_worth.true);
       skipped = passed g (goal.at.returns-then-looks_worth g c).After-place_in-place;
       left = λ l. record {
         ascend = (subst Ascend c.in-Some.ensures before.ascend).1;
@@ -136,6 +138,7 @@ returns g c =
       from = omega (arith, c.requires.within, c.len-end.ensures);
       within = omega (arith, c.len-end.ensures);
       seen = λ l. absurd (omega (arith, l, c.len-end.ensures));
+      asked = λ l. absurd (omega (arith, l, c.len-end.ensures));
       skipped = λ i l m. all i l (omega (arith, m, c.len-end.ensures));
       left = λ l. absurd (omega (arith, l, c.len-end.ensures));
       counted = omega (arith, before.counted, before.order, before.within, c.len-end.ensures);

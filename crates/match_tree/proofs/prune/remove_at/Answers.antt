@@ -1,7 +1,6 @@
-use Rattle.std.proofs.Common.{◌≡◌, ◌∙◌, ◌<◌, List, ℕ, length, map, deque_len, sym, ap, subst, arith}
+use Rattle.std.proofs.Common.{◌≡◌, ◌∙◌, List, ℕ, length, map, sym, ap, arith}
 use Rattle.std.specs.declared.collections.VecDeque.{VecDeque}
 use Rattle.std.specs.declared.alloc.Global.{Global}
-use Rattle.std.specs.Prelude.{OnSome}
 use Rattle.std.specs.List.{remove}
 use Rattle.std.proofs.lemmas.List.{length-map, get_or_default}
 use Rattle.match_tree.specs.Rows.{leaf, node_at}
@@ -18,9 +17,7 @@ returns-in-Leaves-clause-left c =
     let is : map leaf leaves.items ≡ c.args.row.now = sym (ap branches c.in-Leaves.is) ∙ c.row.view_is in
     let same : c.deref_mut.result.now.items ≡ leaves.items = ap (λ (v : VecDeque ℕ Global). v.items) c.deref_mut.ensures.value in
     let long = ap (λ (xs : List Branch). length xs) is in
-    let within : place < deque_len c.deref_mut.result.now = omega (arith, c.requires.within, length-map leaves.items leaf, ap deque_len c.deref_mut.ensures.value, leaves.ok.0) in
-    let left = subst (λ r. OnSome r (c.remove.new.self.items ≡ remove c.deref_mut.result.now.items place)) (c.remove.ensures.succeeds 0 within) c.remove.ensures.items in
-    ap (map leaf) (left ∙ ap (λ (ns : List ℕ). remove ns place) same) ∙ leaves_remove leaves.items place ∙ ap (λ (xs : List Branch). remove xs place) is
+    ap (map leaf) (c.remove_leaf.ensures ∙ ap (λ (ns : List ℕ). remove ns place) same) ∙ leaves_remove leaves.items place ∙ ap (λ (xs : List Branch). remove xs place) is
 
 pub returns-in-Leaves-clause-gone : goal.returns-in-Leaves-clause-gone
 returns-in-Leaves-clause-gone c =
@@ -33,3 +30,10 @@ returns-in-Leaves-clause-gone c =
     let count = count_without row place node c.requires.within (get_or_default row place (leaf 0) node c.requires.within) in
     let left = ap (λ (xs : List Branch). length (row_routes 0 xs)) (returns-in-Leaves-clause-left c) in
     omega (arith, ap (λ (rs : List Route). length rs) none)
+
+pub remove_leaf-requires : goal.remove_leaf-requires
+remove_leaf-requires c =
+    let leaves = c.in-Leaves.leaves.value in
+    let is : map leaf leaves.items ≡ c.args.row.now = sym (ap branches c.in-Leaves.is) ∙ c.row.view_is in
+    let same : c.deref_mut.result.now.items ≡ leaves.items = ap (λ (v : VecDeque ℕ Global). v.items) c.deref_mut.ensures.value in
+    omega (arith, c.requires.within, length-map leaves.items leaf, ap (λ (xs : List Branch). length xs) is, ap (λ (ns : List ℕ). length ns) same)

@@ -1,13 +1,14 @@
-use Rattle.std.proofs.Common.{◌≡◌, ◌∙◌, Some, None, ap, sym, subst}
+use Rattle.std.proofs.Common.{◌≡◌, ◌∙◌, Some, None, not, ap, sym, subst}
 use Rattle.std.specs.Prelude.{slice_get}
 use Rattle.guard_eval.specs.Meaning.{Assignment}
 use Rattle.pattern_core.specs.Matches.{is_agreeable}
 use Rattle.pattern_core.specs.Suits.{SlotsSuit}
 use Rattle.match_tree.specs.Routes.{with_number}
 use Rattle.match_tree.specs.Offering.{offered}
-use Rattle.match_tree.specs.Trial.{AreDecided}
+use Rattle.match_tree.specs.Trial.{AllStand, AreDecided}
 use Rattle.match_tree.proofs.SlotsLemmas.{none_is_free}
 use Rattle.match_tree.proofs.ScreenLemmas.{disagrees, other_free, tests_alike, whole_suits}
+use Rattle.match_tree.proofs.TrialLemmas.{nothing_first}
 use Rattle.match_tree.proofs.screen.agrees.Goals as goal
 
 pub with-whole-requires : goal.with-whole-requires
@@ -43,4 +44,13 @@ returns c =
     let whole : with_number (with_number a.slots.now a.pattern a.number) a.screen.now.other o.number ≡ c.with-whole.result =
     ap (λ (s : Assignment). with_number s a.screen.now.other o.number) (sym c.with-longer.ensures) ∙ sym c.with-whole.ensures
     in
-    λ no. disagrees o a.slots.now a.pattern a.number a.screen.now.other (none_is_free a.slots.now a.pattern c.requires.free) c.requires.screen.alone (ap (is_agreeable o.messages o.definition.conjuncts) whole ∙ c.all_hold.ensures.fails no)
+    record {
+      fails = λ no. disagrees o a.slots.now a.pattern a.number a.screen.now.other (none_is_free a.slots.now a.pattern c.requires.free) c.requires.screen.alone (ap (is_agreeable o.messages o.definition.conjuncts) whole ∙ c.all_hold.ensures.fails no);
+      stand = λ yes. subst (λ (s : Assignment). AllStand o s a.screen.now.tests) (sym whole) (c.all_hold.ensures.stand yes);
+    }
+
+pub returns-then-is_none-clause-stand : goal.returns-then-is_none-clause-stand
+returns-then-is_none-clause-stand c =
+    let tests = c.args.screen.now.tests in
+    let none = nothing_first tests c.first.result c.first.ensures (c.is_none.ensures ∙ ap not c.if-is_none.true) in
+    λ yes k small member. absurd (let bad = sym (none k) ∙ member in cc)

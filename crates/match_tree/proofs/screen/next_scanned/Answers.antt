@@ -4,7 +4,7 @@ use Rattle.match_tree.specs.Routes.{Branch}
 use Rattle.match_tree.specs.RowNumbers.{numbers_in}
 use Rattle.match_tree.specs.Rows.{node_at}
 use Rattle.match_tree.specs.Offering.{offered}
-use Rattle.match_tree.specs.Screen.{AreLacking, IsOffered, IsWorthless}
+use Rattle.match_tree.specs.Screen.{AreAsked, AreLacking, IsOffered, IsWorthless}
 use Rattle.match_tree.specs.declared.screen.Key.{Key}
 use Rattle.match_tree.proofs.SlotsLemmas.{free_is_none}
 use Rattle.match_tree.proofs.ScreenLemmas.{worthless_on}
@@ -39,11 +39,11 @@ offered_there g c =
     let within : place < length a.row.now = omega (arith, c.loop-place-test.true, c.len-end.ensures, ap (λ (ns : List ℕ). length ns) c.of-numbers.ensures, length-map a.row.now (λ (node : Branch). node.number)) in
     subst (IsOffered (offered a.offer.now) a.slots.now a.pattern) number (c.requires.offered place c.loop-place.invariant.from within)
 
-pub is_worth-requires-clause-can : goal.is_worth-requires-clause-can
-is_worth-requires-clause-can g c = (offered_there g c).can
+pub passes_screen-requires-clause-can : goal.passes_screen-requires-clause-can
+passes_screen-requires-clause-can g c = (offered_there g c).can
 
-pub is_worth-requires-clause-free : goal.is_worth-requires-clause-free
-is_worth-requires-clause-free g c = free_is_none c.args.slots.now c.args.pattern (offered_there g c).free
+pub passes_screen-requires-clause-free : goal.passes_screen-requires-clause-free
+passes_screen-requires-clause-free g c = free_is_none c.args.slots.now c.args.pattern (offered_there g c).free
 
 pub loop-place-preserved : goal.loop-place-preserved
 loop-place-preserved g c =
@@ -53,7 +53,7 @@ loop-place-preserved g c =
     let place : ℕ = c.loop-place.place in
     let to : ℕ = c.with_key-place-in-loop-place.result in
     let number : c.at.result ≡ (node_at a.row.now place).number = c.at.ensures ∙ number_there a.row.now (numbers_in c.of-numbers.result) place c.of-numbers.ensures in
-    let here = subst (IsWorthless o a.slots.now a.pattern) number (c.is_worth.ensures.left_out c.if-is_worth.false) in
+    let here = subst (IsWorthless o a.slots.now a.pattern) number (c.passes_screen.ensures.left_out c.if-passes_screen.false) in
     let before = worthless_on o a.slots.now a.pattern a.row.now a.from place c.loop-place.invariant.worthless here in
     let lacking = subst (λ (k : Option Key). AreLacking o.messages k (numbers_in c.of-numbers.result) (place + 1) to) c.key_of-key.ensures e.lacking in
     let within : to ≤ length a.row.now = omega (arith, e.within, c.len-end.ensures, ap (λ (ns : List ℕ). length ns) c.of-numbers.ensures, length-map a.row.now (λ (node : Branch). node.number)) in
@@ -63,3 +63,9 @@ loop-place-preserved g c =
       worthless = lacking_on o a.slots.now a.pattern a.row.now (numbers_in c.of-numbers.result) a.screen.now a.from (place + 1) to c.of-numbers.ensures c.requires.offered c.requires.screen (omega (arith, c.loop-place.invariant.from)) within before lacking;
       counted = omega (arith, c.loop-place.invariant.counted, c.tick.ensures, e.counted);
     }
+
+pub returns-then-passes_screen-clause-asked : goal.returns-then-passes_screen-clause-asked
+returns-then-passes_screen-clause-asked g c =
+    let a = c.args in
+    let number : c.at.result ≡ (node_at a.row.now c.loop-place.place).number = c.at.ensures ∙ number_there a.row.now (numbers_in c.of-numbers.result) c.loop-place.place c.of-numbers.ensures in
+    λ l. subst (AreAsked (offered a.offer.now) a.slots.now a.pattern a.screen.now) number (c.passes_screen.ensures.asked c.if-passes_screen.true)

@@ -1,5 +1,7 @@
-use Rattle.std.proofs.Common.{◌∙◌, inr, sym}
+use Rattle.std.proofs.Common.{◌∙◌, inr, Option, ap, sym}
 use Rattle.match_tree.specs.Offering.{offered}
+use Rattle.match_tree.specs.declared.screen.Key.{Key}
+use Rattle.match_tree.specs.Screen.{passes}
 use Rattle.match_tree.proofs.SlotsLemmas.{none_is_free}
 use Rattle.match_tree.proofs.ScreenLemmas.{lacks_screen}
 use Rattle.match_tree.proofs.screen.passes_screen.Goals as goal
@@ -11,3 +13,9 @@ returns-then-not-has_key-clause-left_out c =
     let free = none_is_free a.slots.now a.pattern c.requires.free in
     let fails = sym c.has_key.ensures ∙ c.if-not-has_key.true in
     λ no. inr (lacks_screen o a.slots.now a.pattern a.number a.screen.now c.key_of.result free c.requires.screen c.key_of.ensures fails)
+
+pub returns-clause-asked : goal.returns-clause-asked
+returns-clause-asked c =
+    let a = c.args in
+    let messages = a.offer.now.messages.now in
+    λ yes. c.is_worth.ensures.asked yes (ap (λ (k : Option Key). passes messages k a.number) (sym c.key_of.ensures) ∙ sym c.has_key.ensures ∙ c.if-not-has_key.false)

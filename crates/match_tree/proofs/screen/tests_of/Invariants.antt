@@ -2,6 +2,7 @@ use Rattle.std.proofs.Common.{◌≡◌}
 use Rattle.match_tree.specs.Offering.{offered}
 use Rattle.match_tree.specs.Screen.{AreTests}
 use Rattle.match_tree.specs.Trial.{AreDecided}
+use Rattle.match_tree.proofs.AskLemmas.{HaveAsked}
 use Rattle.match_tree.proofs.screen.tests_of.Given as goal
 
 abbrev pub invariant-loop-place : goal.invariant-loop-place
@@ -9,6 +10,7 @@ invariant-loop-place l = record {
   other : l.screen.other ≡ l.other;
   tests : AreTests (offered l.offer) l.whole l.pattern l.screen;
   decided : AreDecided (offered l.offer) l.whole l.left;
+  asked : HaveAsked (offered l.offer) l.pattern l.screen l.initial.left l.left;
 }
 
 abbrev pub decreases-loop-place : goal.decreases-loop-place

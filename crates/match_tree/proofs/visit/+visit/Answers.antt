@@ -1,5 +1,5 @@
 use Rattle.std.specs.declared.collections.VecDeque.{VecDeque}
-use Rattle.std.proofs.Common.{Vec, inl, true, false, length-append, ◌≡◌, ◌≢◌, ◌∙◌, ◌<◌, ◌≤◌, ◌+◌, ap, sym, subst, arith, ℕ, List, None, refl, zero-add, take, drop, get_or, set, length, map}
+use Rattle.std.proofs.Common.{Vec, inl, true, false, length-append, ◌≡◌, ◌≢◌, ◌∙◌, ◌<◌, ◌≤◌, ◌+◌, ap, sym, subst, arith, ℕ, List, None, refl, zero-add, take, drop, get_or, set, length, map, slice_get}
 use Rattle.std.specs.Prelude.{IfOk, IfSome, nat_le, ◌==◌, not, [], ◌∷◌, ◌++◌}
 use Rattle.std.specs.List.{filter, AllByRecursion}
 use Rattle.std.specs.declared.alloc.Global.{Global}
@@ -32,6 +32,7 @@ use Rattle.match_tree.proofs.OrderLemmas.{rows_ordered_behind, rows_sound}
 use Rattle.match_tree.proofs.SlotsLemmas.{free_is_none}
 use Rattle.match_tree.proofs.TakeLemmas.{takers_further}
 use Rattle.match_tree.proofs.TrialLemmas.{free_small, outside_behind}
+use Rattle.match_tree.proofs.AskLemmas.{outside_asked}
 use Rattle.match_tree.specs.Trial.{AllStandOutside}
 use Rattle.match_tree.proofs.visit.+visit.Goals as goal
 use Rattle.match_tree.proofs.visit.+visit.Goals.{visit_node-in-Some, visit_node-in_default, visit_nodes-After-visit_at, visit_nodes-In_ok-found, visit_only-After-visit_at, visit_at-After-visit_leaf_at-in-Leaves, visit_rows-After-visit_each, visit_rows-In_ok-best}
@@ -311,6 +312,7 @@ visit_nodes-loop-place-init g t c =
     record {
       walked = walk_to o a.slots.now a.pattern row row a.count.now a.count.now a.steps.now c.requires.sound c.requires.lead c.requires.free_left wanted a.steps.now steps 0 c.next_place-place.result e.from e.within e.counted e.skipped (walk_first o a.slots.now a.pattern row a.count.now a.steps.now);
       seen = e.seen;
+      asked = e.asked;
       numbers = refl;
       left = e.left;
       earned = earned_lead o a.slots.now (row_routes a.pattern row) c.requires.lead;
@@ -323,8 +325,8 @@ visit_nodes-with-longer-requires g t c =
     let at = reach c.requires.sound c.requires.lead c.requires.free_left c.loop-place.invariant.walked within (get_or_default c.loop-place.row c.loop-place.place (leaf 0) (node_at c.loop-place.row c.loop-place.place) within) in
     free_is_none a.slots.now a.pattern at.leads.free
 
-pub visit_nodes-naming-asked-requires : goal.visit_nodes-naming-asked-requires
-visit_nodes-naming-asked-requires g t c =
+pub visit_nodes-left_to_ask-asked-requires : goal.visit_nodes-left_to_ask-asked-requires
+visit_nodes-left_to_ask-asked-requires g t c =
     let a = c.args in
     let within : c.loop-place.place < length c.loop-place.row = omega (arith, c.loop-place-test.true, c.len-end.ensures, c.loop-place.invariant.walked.long) in
     let at = reach c.requires.sound c.requires.lead c.requires.free_left c.loop-place.invariant.walked within (get_or_default c.loop-place.row c.loop-place.place (leaf 0) (node_at c.loop-place.row c.loop-place.place) within) in
@@ -347,11 +349,11 @@ visit_nodes-visit_at-requires g t c =
     subst (λ (ps : List ℕ). AllByRecursion (MayTry (with_number a.slots.now a.pattern node.number)) ps) (sym c.requires.wanted)
     (tries_further o a.slots.now a.pattern node.number (takers o a.slots.now) (all_take o a.slots.now (places 0 o.definition.patterns)))
     in
-    let asked = c.naming-asked.result in
+    let asked = c.left_to_ask-asked.result in
     let Outside : Assignment → Type 0 = λ s. AllStandOutside o asked s a.wanted.now in
     let outside : Outside (with_number a.slots.now a.pattern node.number) =
     subst (λ (ps : List ℕ). AllStandOutside o asked (with_number a.slots.now a.pattern node.number) ps) (sym c.requires.wanted)
-    (outside_behind o a.slots.now a.pattern node.number asked at.leads.free (a.offer.now.tied a.pattern asked c.naming-asked.ensures))
+    (outside_asked o a.slots.now a.pattern node.number c.screen_of-screen.result (slice_get a.offer.now.ties.now.cells a.pattern) asked at.leads.free (a.offer.now.tied a.pattern) c.left_to_ask-asked.ensures (c.loop-place.invariant.asked within))
     in
     λ κs h. (
       omega (arith, c.decreases, nodes_fall a.row.now, at_most size-Node a.row.now c.loop-place.place node at.before, ap size-Node at.is),
@@ -609,6 +611,7 @@ visit_nodes-loop-place-preserved g t c =
     record {
       walked = walk_to o a.slots.now a.pattern a.row.now c.visit_at.new.row a.count.now c.visit_at.new.count a.steps.now c.requires.sound c.requires.lead c.requires.free_left wanted c.visit_at.new.steps steps (i + 1) c.next_place-place-in-loop-place.result p.from (omega (arith, p.within, on.long)) p.counted p.skipped on;
       seen = p.seen;
+      asked = p.asked;
       numbers = numbers_now g t (goal.at.visit_nodes-loop-place-preserved g t c).After-visit_at;
       left = p.left;
       earned = earned_now g t (goal.at.visit_nodes-loop-place-preserved g t c).In_ok-found;

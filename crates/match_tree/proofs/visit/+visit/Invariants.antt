@@ -11,6 +11,7 @@ use Rattle.match_tree.specs.Offering.{offered}
 use Rattle.match_tree.specs.Order.{AreSound}
 use Rattle.match_tree.specs.Growth.{AreEarned, Lasts, Grows}
 use Rattle.match_tree.specs.Begins.{AreLess}
+use Rattle.match_tree.specs.Screen.{AreAsked}
 use Rattle.match_tree.specs.Tries.{tries_behind}
 use Rattle.match_tree.proofs.SkipLemmas.{Walked}
 use Rattle.match_tree.proofs.visit.+visit.Given as goal
@@ -38,12 +39,13 @@ decreases-visit_at g l = 4 * size-Node (node_at l.row.now l.place) + 1
 abbrev pub decreases-visit_node : goal.decreases-visit_node
 decreases-visit_node g l = 4 * goal.size-visit_node g l
 
--- the nodes so far were passed without a match, the others are as they were, and the definition sees the next; what is left of a
--- look-up has the numbers behind that
+-- the nodes so far were passed without a match, the others are as they were, and the definition sees the next, behind which no
+-- conjunct is left to ask where there is a screen; what is left of a look-up has the numbers behind that
 abbrev pub invariant-visit_nodes-loop-place : goal.invariant-visit_nodes-loop-place
 invariant-visit_nodes-loop-place g l = record {
   walked : Walked (offered l.offer) l.slots l.pattern l.initial.row l.row l.initial.count l.count l.fn.steps l.steps l.place;
   seen : l.place < length l.row → nat_le l.offer.oldest (node_at l.row l.place).number ≡ true;
+  asked : l.place < length l.row → AreAsked (offered l.offer) l.slots l.pattern l.screen (node_at l.row l.place).number;
   numbers : map (λ node. node.number) l.row ≡ map (λ node. node.number) l.initial.row;
   left : l.place < length l.row → IfSome l.left (HasLeft (offered l.offer) l.slots l.pattern l.row (l.place + 1));
   earned : AreEarned (offered l.offer) l.slots (row_routes l.pattern l.row);

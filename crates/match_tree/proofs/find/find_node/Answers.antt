@@ -6,7 +6,7 @@ use Rattle.match_tree.specs.Routes.{Branch}
 use Rattle.match_tree.specs.Rows.{leaf, node_at}
 use Rattle.match_tree.specs.Screen.{passes}
 use Rattle.match_tree.proofs.KeyLemmas.{number_there}
-use Rattle.match_tree.proofs.screen.find_node.Goals as goal
+use Rattle.match_tree.proofs.find.find_node.Goals as goal
 
 pub loop-place-preserved : goal.loop-place-preserved
 loop-place-preserved g c =

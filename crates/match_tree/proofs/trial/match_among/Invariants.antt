@@ -3,7 +3,7 @@ use Rattle.std.specs.List.{AllByRecursion}
 use Rattle.pattern_core.specs.Choice.{least}
 use Rattle.match_tree.specs.Offers.{matches_of}
 use Rattle.match_tree.specs.Offering.{offered, MayTake}
-use Rattle.match_tree.proofs.trial.best_match.Given as goal
+use Rattle.match_tree.proofs.trial.match_among.Given as goal
 
 abbrev pub invariant-loop-pattern : goal.invariant-loop-pattern
 invariant-loop-pattern l = record {
