@@ -8,4 +8,3 @@ pub mod ReplyLemmas
 pub mod RunLemmas
 pub mod TopLemmas
 pub mod VerdictLemmas
-pub mod WriteLemmas

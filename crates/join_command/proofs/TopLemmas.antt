@@ -16,7 +16,7 @@ use Rattle.join_command.specs.Command.{command_of}
 use Rattle.join_command.specs.Verdict.{Words, asks_nothing, replay_asks_nothing, MayAskBy, OfWords, OneVerdict, Usage, Verdict}
 use Rattle.join_command.specs.Loading.{Tells, refused_as}
 use Rattle.join_command.specs.Replying.{Replies, verdict_of}
-use Rattle.join_command.specs.Writing.{Writes}
+use Rattle.counted_sink.specs.Writing.{Writes}
 use Rattle.join_command.specs.Output.{IsOutput}
 use Rattle.join_command.specs.Answer.{Decides, IsAnswer}
 use Rattle.join_command.specs.Top.{AnswersWhereTold, CompletesWhereTold, DecidesOutput, IsAnswered, Prepares, PreparesCommand, PreparesOutput}

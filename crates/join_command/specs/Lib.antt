@@ -11,4 +11,3 @@ pub mod Numbers
 -- what the private functions compute
 pub mod Loading
 pub mod Replying
-pub mod Writing

@@ -1,21 +1,17 @@
 //! What is written, and how it is written.
 ghost use Rattle.std.specs.Prelude.{◌≡◌, ◌<◌, ◌≤◌, IfOk, codes, length};
 ghost use Rattle.std.specs.List.{list_any};
-ghost use Rattle.join_base.specs.Outside.{WriteCause};
 ghost use Rattle.command_words.specs.Ranges.{AreInRange};
 ghost use Rattle.plan_text.specs.PlanText.{plan_text};
 ghost use Rattle.script_types.specs.Typed.{IsTyped};
-ghost use Rattle.join_command.specs.Counting.{StopsAtFault, WritesFew, WritesFewWhereTold, fault_count};
 ghost use Rattle.join_command.specs.LintText.{lint_text};
 ghost use Rattle.join_command.specs.Loading.{refused_as};
 ghost use Rattle.join_command.specs.Output.{IsLog, IsOutput, IsSettled, IsSummary, accepted_line, cause_name, feed_line, line, log_cause_name, log_line, met_limit, row_cause_name, run_status, script_line, too_long_line};
 ghost use Rattle.join_command.specs.Replying.{AreRunParts, IsRunnable, verdict_of};
 ghost use Rattle.join_command.specs.Verdict.{limits_of};
-ghost use Rattle.join_command.specs.Writing.{Writes};
 
 use crate::ask::ask_output;
 use crate::count::write_count;
-use crate::counted::CountingSink;
 use crate::lint_text::print_findings;
 use crate::reply::Reply;
 use crate::run::run_feeds;
@@ -27,7 +23,7 @@ use arrival_log::print_log;
 use building_load::{load_feeds, load_plan, summary};
 use command_words::RunOptions;
 use fair_semantics::{ActorRun, Ending, Run};
-use join_base::{Bytes, Failed, FeedList, NoMemory};
+use join_base::{Bytes, FeedList, NoMemory};
 use plan_text::print_plan;
 use script_reader::ScriptCause;
 use script_types::Plan;
@@ -312,26 +308,4 @@ pub fn output_of<R: Threads + Wait + Sync, G: Gate, V: View<R> + Sync>(
         Reply::Load { rows } => load_output(rt, alloc, rows, gate),
         Reply::Accepted(arrivals) => Ok((Status::Done, accepted_line(alloc, arrivals)?)),
     }
-}
-
-/// Writes the bytes to the sink, as many at a time as it takes, in at most one write for each byte. A write that fails
-/// is the last one.
-pub fn write_all<S: CountingSink>(out: &mut S, bytes: &[u8]) -> Result<(), Failed>
-    ensures told { Writes (S.taken out.old) (S.taken out.new) bytes.now result }
-    ensures cause { WriteCause (S.faults out.old) (S.faults out.new) result }
-    // At most one write for each byte, and where the sink tells, for each byte that it took and one that failed.
-    ensures few { WritesFew (S.writes out.old) (S.writes out.new) (length bytes.now) }
-    ensures taken { WritesFewWhereTold (S.taken out.old) (S.taken out.new) (S.writes out.old) (S.writes out.new)
-        (fault_count result) }
-    ensures stops { StopsAtFault (S.writes out.old) (S.writes out.new) result }
-{
-    let mut done = 0;
-    'pieces: while done < bytes.len() {
-        let (_, rest) = bytes.split_at(done);
-        match out.write(rest) {
-            Ok(count) => done += count,
-            Err(failed) => return Err(failed),
-        }
-    }
-    Ok(())
 }

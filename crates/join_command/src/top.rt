@@ -9,14 +9,14 @@ ghost use Rattle.join_command.specs.Output.{IsSettled};
 ghost use Rattle.join_command.specs.Top.{AnswersWhereTold, CompletesWhereTold, CountsFault, FetchesInOrder, IsAnswered, PrepareCause, Prepares, PreparesCommand, RefusesWords, TestsWords};
 
 use crate::command::command_of;
-use crate::counted::CountingSink;
 use crate::law::one_verdict;
-use crate::output::{output_of, refused_output, usage_line, write_all};
+use crate::output::{output_of, refused_output, usage_line};
 use crate::reply::reply_of;
 use crate::status::Status;
 use crate::stop::Stop;
 use actor_pool::Gate;
 use command_words::Request;
+use counted_sink::{CountingSink, write_all};
 use join_base::{Bytes, Inputs, NoMemory, WordList};
 use std::alloc::Global;
 use std::sync::Wait;

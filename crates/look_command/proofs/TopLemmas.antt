@@ -15,7 +15,7 @@ use Rattle.join_command.specs.Output as usual_output
 use Rattle.join_command.specs.Top.{IsAnswered}
 use Rattle.join_command.specs.Verdict as usual
 use Rattle.join_command.specs.Verdict.{Words, replay_asks_nothing}
-use Rattle.join_command.specs.Writing.{Writes}
+use Rattle.counted_sink.specs.Writing.{Writes}
 use Rattle.look_command.specs.declared.reply.Reply.{Reply}
 use Rattle.look_command.specs.Answer.{AnswersWhereTold, CompletesWhereTold, Decides, IsAnswer}
 use Rattle.look_command.specs.Output.{IsOutput}

@@ -2,9 +2,9 @@ use Rattle.std.proofs.Common.{◌∙◌, ◌≡◌, ◌+◌, ◌≤◌, ℕ, Lis
 use Rattle.std.proofs.lemmas.List.{take-append-drop, length-drop, length-take-le}
 use Rattle.join_base.specs.declared.outside.Failed.{Failed}
 use Rattle.join_base.specs.Memory.{one_more}
-use Rattle.join_command.specs.Counting.{WriteCount}
-use Rattle.join_command.proofs.WriteLemmas.{Took, few_where_told, front_more, took_more, took_some, took_still}
-use Rattle.join_command.proofs.output.write_all.Goals as goal
+use Rattle.counted_sink.specs.Counting.{WriteCount}
+use Rattle.counted_sink.proofs.WriteLemmas.{Took, few_where_told, front_more, took_more, took_some, took_still}
+use Rattle.counted_sink.proofs.write.write_all.Goals as goal
 
 pub returns-in-Err-clause-told : goal.returns-in-Err-clause-told
 returns-in-Err-clause-told g c =

@@ -1,7 +1,7 @@
 //! Output whose writes are counted.
 ghost use Rattle.std.specs.Prelude.{◌≡◌, ◌<◌, ℕ, List, Option, length, IfOk};
 ghost use Rattle.join_base.specs.Outside.{IsCount, WriteCause, WriteTells};
-ghost use Rattle.join_command.specs.Counting.{WriteCount, with_write};
+ghost use Rattle.counted_sink.specs.Counting.{WriteCount, with_write};
 
 use join_base::{Failed, Sink};
 

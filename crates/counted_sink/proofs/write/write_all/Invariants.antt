@@ -1,6 +1,6 @@
 use Rattle.std.proofs.Common.{◌≡◌, ◌+◌, ◌-◌, ◌≤◌, length, take}
-use Rattle.join_command.proofs.WriteLemmas.{Took}
-use Rattle.join_command.proofs.output.write_all.Given as goal
+use Rattle.counted_sink.proofs.WriteLemmas.{Took}
+use Rattle.counted_sink.proofs.write.write_all.Given as goal
 
 abbrev pub invariant-pieces : goal.invariant-pieces
 invariant-pieces g l = record {

@@ -4,8 +4,8 @@ use Rattle.std.proofs.lemmas.List.{append-nil}
 use Rattle.std.proofs.Math.Seq.{take-add}
 use Rattle.std.specs.Prelude.{Ok, Err}
 use Rattle.join_base.specs.Outside.{WriteTells}
-use Rattle.join_command.specs.Counting.{WriteCount, WritesFewWhereTold}
-use Rattle.join_command.specs.Writing.{Writes}
+use Rattle.counted_sink.specs.Counting.{WriteCount, WritesFewWhereTold}
+use Rattle.counted_sink.specs.Writing.{Writes}
 
 -- a sink that tells took these bytes
 abbrev pub Took : Option (List ℕ) → Option (List ℕ) → List ℕ → Type 0

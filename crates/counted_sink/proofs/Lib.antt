@@ -1,0 +1,3 @@
+-- The lemmas by topic:
+-- - what a sink took, and how many writes that made: WriteLemmas
+pub mod WriteLemmas
