@@ -7,12 +7,14 @@ use Rattle.script_types.specs.declared.plan.Plan.{Plan}
 use Rattle.command_words.specs.Command.{Command, RunWords, Run, Ask, Watch, Check, Replay, Load, Lint}
 use Rattle.join_command.specs.declared.reply.Reply.{Reply}
 use Rattle.join_command.specs.declared.reply.Reply.TheVariants as reply
-use Rattle.join_command.specs.declared.stop.Stop.{Stop}
-use Rattle.join_command.specs.declared.stop.Stop.TheVariants as stop
+use Rattle.script_files.specs.declared.stop.Stop.{Stop}
+use Rattle.script_files.specs.declared.stop.Stop.TheVariants as stop
 use Rattle.script_types.specs.Typed.{IsTyped}
-use Rattle.join_command.specs.Files.{file_of, log_of}
-use Rattle.join_command.specs.Verdict.{Feeds, FeedsAnswer, Given, IsBeginning, MayAsk, MayAskRun, OfCommand, OfRun, Outcome, Asks, Runs, Watches, Refused, ScriptGives, Verdict, asks_feeds, asks_nothing, asks_script, replay_asks_nothing, replay_asks_script, replay_asks_log, fetched, feeds_answer, limits_of, run_of}
-use Rattle.join_command.specs.Loading.{LoadsFeeds, LoadsLog, LoadsScript, ReadsFeeds, ReadsLog, StopsFeeds, StopsScript, Tells, stopped_by}
+use Rattle.script_files.specs.Files.{file_of, log_of}
+use Rattle.script_files.specs.Verdict.{Feeds, FeedsAnswer, Given, IsBeginning, Asks, Runs, Watches, Refused, ScriptGives, Verdict, fetched, feeds_answer}
+use Rattle.join_command.specs.Verdict.{MayAsk, MayAskRun, OfCommand, OfRun, Outcome, asks_feeds, asks_nothing, asks_script, replay_asks_nothing, replay_asks_script, replay_asks_log, limits_of, run_of}
+use Rattle.script_files.specs.Loading.{LoadsFeeds, LoadsScript, ReadsFeeds, StopsFeeds, StopsScript, Tells, stopped_by}
+use Rattle.join_command.specs.Loading.{LoadsLog, ReadsLog}
 use Rattle.join_command.specs.Replying.{OfStop, Replies, replied_with, verdict_of}
 
 asked_none : (before : Told) → before ≡ record { files = before.files; asked = before.asked ++ [] }

@@ -11,7 +11,7 @@ use Rattle.run_order_law.specs.Order.{IsScheduled}
 use Rattle.schedule_law.specs.Reached.{FeedsFit, ValuesFit}
 use Rattle.command_words.specs.Command.{usual_options}
 use Rattle.command_words.specs.Ranges.{AreInRange}
-use Rattle.join_command.specs.Verdict.{Feeds}
+use Rattle.script_files.specs.Verdict.{Feeds}
 use Rattle.join_command.specs.Output.{load_limits}
 use Rattle.join_command.specs.Replying.{AreRunParts}
 use Rattle.building_load.specs.Building.{load_plan}

@@ -8,13 +8,14 @@ use Rattle.command_words.specs.Command.{Command, Run, Check, Replay, Load, Watch
 use Rattle.join_command.specs.declared.status.Status.{Status}
 use Rattle.join_command.specs.declared.status.Status.TheVariants as status
 use Rattle.join_command.specs.declared.reply.Reply.{Reply}
-use Rattle.join_command.specs.declared.stop.Refusal.{Refusal}
-use Rattle.join_command.specs.declared.stop.Stop.{Stop}
-use Rattle.join_command.specs.declared.stop.Stop.TheVariants as stop
+use Rattle.script_files.specs.declared.stop.Refusal.{Refusal}
+use Rattle.script_files.specs.declared.stop.Stop.{Stop}
+use Rattle.script_files.specs.declared.stop.Stop.TheVariants as stop
 use Rattle.join_command.specs.declared.top.Unanswered.{Unanswered}
 use Rattle.join_command.specs.Command.{command_of}
-use Rattle.join_command.specs.Verdict.{Words, asks_nothing, replay_asks_nothing, MayAskBy, OfWords, OneVerdict, Usage, Verdict}
-use Rattle.join_command.specs.Loading.{Tells, refused_as}
+use Rattle.script_files.specs.Verdict.{Usage, Verdict}
+use Rattle.join_command.specs.Verdict.{Words, asks_nothing, replay_asks_nothing, MayAskBy, OfWords, OneVerdict}
+use Rattle.script_files.specs.Loading.{Tells, refused_as}
 use Rattle.join_command.specs.Replying.{Replies, verdict_of}
 use Rattle.counted_sink.specs.Writing.{Writes}
 use Rattle.join_command.specs.Output.{IsOutput}

@@ -11,12 +11,13 @@ use Rattle.log_replay.specs.Check.{Checks as LogChecks, arrival_count}
 use Rattle.log_replay.specs.Fault.{IsFirstInFault, IsRight}
 use Rattle.log_replay.specs.declared.refusal.LogRefusal.{LogRefusal}
 use Rattle.log_replay.specs.declared.refusal.LogRefusal.TheVariants as refusal
-use Rattle.join_command.specs.declared.stop.LogCause.TheVariants as log_cause
+use Rattle.script_files.specs.declared.stop.LogCause.TheVariants as log_cause
 use Rattle.script_check.specs.Script.{NoPlanAndFault, OneScriptFault, OneScriptPlan}
 use Rattle.command_words.specs.Command.{Command, RunWords, Run, Check, Replay, Load, Watch, Lint, Ask}
 use Rattle.join_command.specs.Command.{command_of}
-use Rattle.join_command.specs.Files.{File, Absent, Long, Holds, file_of, log_of}
-use Rattle.join_command.specs.Verdict.{Verdict, Accepts, Checks, Lints, LogRefused, OfLog, checked_as, ScriptRefused, OfCommand, OfRun, Outcome, Runs, Asks, Watches, OfScript, OfWords, OneVerdict, ScriptGives, ScriptStops, feeds_answer, limits_of, run_of}
+use Rattle.script_files.specs.Files.{File, Absent, Long, Holds, file_of, log_of}
+use Rattle.script_files.specs.Verdict.{Verdict, Accepts, Checks, Lints, LogRefused, ScriptRefused, Runs, Asks, Watches, OfScript, ScriptGives, ScriptStops, feeds_answer}
+use Rattle.join_command.specs.Verdict.{OfLog, checked_as, OfCommand, OfRun, Outcome, OfWords, OneVerdict, limits_of, run_of}
 
 -- a script has one plan or one fault, and a log is that of one run or has one line at fault
 pub record HaveOneAnswer : Type 0 where

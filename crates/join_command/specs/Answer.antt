@@ -3,7 +3,8 @@ use Rattle.std.specs.Prelude.{◌≡◌, ℕ, List, [], ◌++◌, Option, Some}
 use Rattle.join_base.specs.Outside.{Files, Told}
 use Rattle.join_command.specs.declared.status.Status.{Status}
 use Rattle.join_command.specs.declared.status.Status.TheVariants as status
-use Rattle.join_command.specs.Verdict.{Words, Verdict, IsVerdict, AreAsked}
+use Rattle.script_files.specs.Verdict.{Verdict}
+use Rattle.join_command.specs.Verdict.{Words, IsVerdict, AreAsked}
 use Rattle.join_command.specs.Output.{IsOutput}
 
 -- the verdict of the words and the files has this status and this output

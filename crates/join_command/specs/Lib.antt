@@ -1,6 +1,5 @@
 -- what `join_main` claims
 pub mod Command
-pub mod Files
 pub mod Verdict
 pub mod LintText
 pub mod Output

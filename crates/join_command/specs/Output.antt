@@ -18,8 +18,8 @@ use Rattle.script_grammar.specs.declared.fault.ScriptCause.TheVariants as cause
 use Rattle.sensor_feed.specs.declared.fault.FeedCause.{FeedCause}
 use Rattle.sensor_feed.specs.declared.fault.FeedCause.TheVariants as row_cause
 use Rattle.command_words.specs.Command.{usual_options}
-use Rattle.join_command.specs.declared.stop.LogCause.{LogCause}
-use Rattle.join_command.specs.declared.stop.LogCause.TheVariants as log_cause
+use Rattle.script_files.specs.declared.stop.LogCause.{LogCause}
+use Rattle.script_files.specs.declared.stop.LogCause.TheVariants as log_cause
 use Rattle.building_load.specs.Building.{load_plan}
 use Rattle.building_load.specs.Rows.{load_feeds}
 use Rattle.building_load.specs.Summary.{summary_text}
@@ -27,7 +27,8 @@ use Rattle.plan_text.specs.PlanText.{plan_text}
 use Rattle.join_command.specs.declared.status.Status.{Status}
 use Rattle.join_command.specs.declared.status.Status.TheVariants as status
 use Rattle.join_command.specs.LintText.{lint_text}
-use Rattle.join_command.specs.Verdict.{Feeds, limits_of, Verdict, Usage, TooLong, ScriptRefused, FeedRefused, Checks, Lints, Runs, Asks, Watches, Loads, Accepts, LogRefused}
+use Rattle.script_files.specs.Verdict.{Feeds, Verdict, Usage, TooLong, ScriptRefused, FeedRefused, Checks, Lints, Runs, Asks, Watches, Loads, Accepts, LogRefused}
+use Rattle.join_command.specs.Verdict.{limits_of}
 
 abbrev pub line : List ℕ → List ℕ
 line text = text ++ 10 ∷ []

@@ -10,9 +10,10 @@ use Rattle.command_words.specs.Command.{Command}
 use Rattle.command_words.specs.Ranges.{AreInRange}
 use Rattle.join_command.specs.declared.reply.Reply.{Reply}
 use Rattle.join_command.specs.declared.reply.Reply.TheVariants as reply
-use Rattle.join_command.specs.declared.stop.Stop.{Stop}
-use Rattle.join_command.specs.Loading.{stopped_by}
-use Rattle.join_command.specs.Verdict.{Feeds, Verdict, Accepts, Checks, Lints, Loads, Asks, Runs, Watches, MayAsk, OfCommand, limits_of}
+use Rattle.script_files.specs.declared.stop.Stop.{Stop}
+use Rattle.script_files.specs.Loading.{stopped_by}
+use Rattle.script_files.specs.Verdict.{Feeds, Verdict, Accepts, Checks, Lints, Loads, Asks, Runs, Watches}
+use Rattle.join_command.specs.Verdict.{MayAsk, OfCommand, limits_of}
 
 -- a well typed plan, limits in their range, and 1 to 16 feeds whose posts fit the plan
 pub record AreRunParts (plan : Plan) (limits : Limits) (feeds : Feeds) : Type 0 where

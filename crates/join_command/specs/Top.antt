@@ -7,7 +7,8 @@ use Rattle.join_command.specs.declared.status.Status.TheVariants as status
 use Rattle.join_command.specs.declared.top.Unanswered.{Unanswered}
 use Rattle.join_command.specs.declared.top.Unanswered.TheVariants as unanswered
 use Rattle.join_command.specs.Command.{command_of}
-use Rattle.join_command.specs.Verdict.{Words, AreAsked, IsVerdict, MayAsk, OfCommand, Verdict}
+use Rattle.script_files.specs.Verdict.{Verdict}
+use Rattle.join_command.specs.Verdict.{Words, AreAsked, IsVerdict, MayAsk, OfCommand}
 use Rattle.join_command.specs.Output.{HasStatus, IsOutput, IsSettled}
 use Rattle.join_command.specs.Answer.{Answers, Decides}
 

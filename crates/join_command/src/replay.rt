@@ -1,12 +1,12 @@
 //! Checking a log against the plan of its script.
 ghost use Rattle.std.specs.Prelude.{◌≡◌, ◌≢◌, ◌<◌, Err};
 ghost use Rattle.script_types.specs.Typed.{IsTyped};
-ghost use Rattle.join_command.specs.Loading.{LoadCause, LoadsLog, ReadsLogBytes, Tells, log_answer};
+ghost use Rattle.script_files.specs.Loading.{LoadCause, Tells};
+ghost use Rattle.join_command.specs.Loading.{LoadsLog, ReadsLogBytes, log_answer};
 
-use crate::load::fetch_stop;
-use crate::stop::{LogCause, Refusal, Stop};
 use join_base::{Inputs, Steps, Word};
 use log_replay::{LogRefusal, check_log};
+use script_files::{LogCause, Refusal, Stop, fetch_stop};
 use script_types::Plan;
 use std::alloc::Global;
 use std::marker::Brand;

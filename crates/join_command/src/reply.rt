@@ -4,14 +4,13 @@ ghost use Rattle.fair_semantics.specs.Fits.{IsFrom1To};
 ghost use Rattle.command_words.specs.Command.{Ask, Check, Lint, Replay, Run, Watch};
 ghost use Rattle.command_words.specs.Ranges.{IsInRange, RunIsInRange};
 ghost use Rattle.command_words.specs.Views.{command_in, run_in};
-ghost use Rattle.join_command.specs.Loading.{LoadCause, Tells};
+ghost use Rattle.script_files.specs.Loading.{LoadCause, Tells};
 ghost use Rattle.join_command.specs.Replying.{IsRunnable, Replies};
 
-use crate::load::{load_feeds, load_script};
 use crate::replay::load_log;
-use crate::stop::Stop;
 use command_words::{Request, RunOptions, RunWords};
 use join_base::{FeedList, Inputs, Word};
+use script_files::{Stop, load_feeds, load_script};
 use script_types::Plan;
 use std::alloc::Global;
 

@@ -17,45 +17,47 @@ use Rattle.log_audit.specs.declared.refusal.AuditRefusal.{AuditRefusal}
 use Rattle.log_audit.specs.declared.refusal.AuditRefusal.TheVariants as refusal
 use Rattle.log_audit.specs.declared.refusal.Difference.{Difference}
 use Rattle.difference_text.specs.Text.{difference_text}
-use Rattle.join_command.specs.Files.{File, Absent, Long, Holds, file_of, log_of}
+use Rattle.script_files.specs.Files.{File, Absent, Long, Holds, file_of, log_of}
 use Rattle.join_command.specs.Verdict as usual
-use Rattle.join_command.specs.Verdict.{Feeds, FeedsAnswer, Given, Refused, Missing, OfCheck, OfReplay, ScriptGives, ScriptStops, feeds_answer}
-use Rattle.join_command.specs.declared.stop.LogCause.{LogCause}
-use Rattle.join_command.specs.declared.stop.LogCause.TheVariants as log_cause
+use Rattle.script_files.specs.Verdict as common
+use Rattle.script_files.specs.Verdict.{Feeds, FeedsAnswer, Given, Refused, Missing, ScriptGives, ScriptStops, feeds_answer}
+use Rattle.join_command.specs.Verdict.{OfCheck, OfReplay}
+use Rattle.script_files.specs.declared.stop.LogCause.{LogCause}
+use Rattle.script_files.specs.declared.stop.LogCause.TheVariants as log_cause
 use Rattle.look_command.specs.Request.{Request, Audit, Reactions, Why, request_of}
 use Rattle.look_command.specs.Verdict.{Verdict, Usual, OtherFeeds, OtherRow, IsReadRun, LogStops, OfFeeds, OfLog, OfReactions, OfRequest, OfRun, OfScript, OfWhy, OfWords, OneVerdict, RunStops, audited_as}
 
 -- the verdicts of `check` and `replay` of `join_command` say what a script and a log come to
 module _ (one : usual.OneVerdict) (files : Files) where
-  check_once : (script : List ℕ) (v w : usual.Verdict) → OfCheck files script v → OfCheck files script w → v ≡ w
+  check_once : (script : List ℕ) (v w : common.Verdict) → OfCheck files script v → OfCheck files script w → v ≡ w
   check_once script v w a b = one (codes "check" ∷ codes "--" ∷ script ∷ []) files v w a b
 
-  replay_once : (script log : List ℕ) (v w : usual.Verdict) → OfReplay files script log v → OfReplay files script log w → v ≡ w
+  replay_once : (script log : List ℕ) (v w : common.Verdict) → OfReplay files script log v → OfReplay files script log w → v ≡ w
   replay_once script log v w a b = one (codes "replay" ∷ codes "--" ∷ script ∷ log ∷ []) files v w a b
 
   -- ---- the script
 
   module _ (script : List ℕ) where
-    stop_once : (v w : usual.Verdict) → ScriptStops (file_of files script) v → ScriptStops (file_of files script) w → v ≡ w
+    stop_once : (v w : common.Verdict) → ScriptStops (file_of files script) v → ScriptStops (file_of files script) w → v ≡ w
     stop_once v w a b = check_once script v w (inl a) (inl b)
 
-    same_plan : (plan other : Plan) → usual.Checks plan ≡ usual.Checks other → plan ≡ other
+    same_plan : (plan other : Plan) → common.Checks plan ≡ common.Checks other → plan ≡ other
     same_plan plan other is = cc
 
     plan_once : (plan other : Plan) → ScriptGives (file_of files script) plan → ScriptGives (file_of files script) other → plan ≡ other
-    plan_once plan other a b = same_plan plan other (check_once script (usual.Checks plan) (usual.Checks other) (inr (plan, a, refl)) (inr (other, b, refl)))
+    plan_once plan other a b = same_plan plan other (check_once script (common.Checks plan) (common.Checks other) (inr (plan, a, refl)) (inr (other, b, refl)))
 
-    no_stop : (file : File) (plan : Plan) (v : usual.Verdict) → ScriptStops file v → usual.Checks plan ≡ v → ⊥
+    no_stop : (file : File) (plan : Plan) (v : common.Verdict) → ScriptStops file v → common.Checks plan ≡ v → ⊥
     no_stop Absent plan v stops is = stops
-    no_stop Long plan v stops is = let e : usual.Checks plan ≡ usual.TooLong 1 = is ∙ stops in absurd cc
-    no_stop (Holds bytes) plan v (place, cause, fault, told) is = let e : usual.Checks plan ≡ usual.ScriptRefused place cause = is ∙ told in absurd cc
+    no_stop Long plan v stops is = let e : common.Checks plan ≡ common.TooLong 1 = is ∙ stops in absurd cc
+    no_stop (Holds bytes) plan v (place, cause, fault, told) is = let e : common.Checks plan ≡ common.ScriptRefused place cause = is ∙ told in absurd cc
 
-    no_plan : (plan : Plan) (v : usual.Verdict) → ScriptGives (file_of files script) plan → ScriptStops (file_of files script) v → ⊥
-    no_plan plan v gives stops = no_stop (file_of files script) plan v stops (check_once script (usual.Checks plan) v (inr (plan, gives, refl)) (inl stops))
+    no_plan : (plan : Plan) (v : common.Verdict) → ScriptGives (file_of files script) plan → ScriptStops (file_of files script) v → ⊥
+    no_plan plan v gives stops = no_stop (file_of files script) plan v stops (check_once script (common.Checks plan) v (inr (plan, gives, refl)) (inl stops))
 
     script_once : (of_plan : Plan → Verdict → Type 0) → ((plan : Plan) (v w : Verdict) → ScriptGives (file_of files script) plan → of_plan plan v → of_plan plan w → v ≡ w)
         → (v w : Verdict) → OfScript (file_of files script) of_plan v → OfScript (file_of files script) of_plan w → v ≡ w
-    script_once of_plan once v w (inl (s, stops, is)) (inl (t, stopped, same)) = is ∙ ap (λ (u : usual.Verdict). Usual u) (stop_once s t stops stopped) ∙ sym same
+    script_once of_plan once v w (inl (s, stops, is)) (inl (t, stopped, same)) = is ∙ ap (λ (u : common.Verdict). Usual u) (stop_once s t stops stopped) ∙ sym same
     script_once of_plan once v w (inl (s, stops, is)) (inr (plan, gives, comes)) = absurd (no_plan plan s gives stops)
     script_once of_plan once v w (inr (plan, gives, comes)) (inl (s, stops, is)) = absurd (no_plan plan s gives stops)
     script_once of_plan once v w (inr (plan, gives, comes)) (inr (other, given, also)) =
@@ -66,17 +68,17 @@ module _ (one : usual.OneVerdict) (files : Files) where
 
   module _ (script log : List ℕ) (plan : Plan) (gives : ScriptGives (file_of files script) plan) (typed : IsTyped plan) where
     -- what stops a log stops its replay
-    of_stop : (bytes : List ℕ) (line : ℕ) (cause : LogCause) → LogStops plan bytes line cause → usual.OfLogBytes plan bytes (usual.LogRefused line cause)
+    of_stop : (bytes : List ℕ) (line : ℕ) (cause : LogCause) → LogStops plan bytes line cause → usual.OfLogBytes plan bytes (common.LogRefused line cause)
     of_stop bytes line log_cause.Bad stops = (Err (log_refusal.Bad line), stops, refl)
     of_stop bytes line log_cause.Differs stops = (Err (log_refusal.Differs line), stops, refl)
 
-    replays : (file : File) (v : usual.Verdict) → log_of files log ≡ file → usual.OfLog plan file v → OfReplay files script log v
+    replays : (file : File) (v : common.Verdict) → log_of files log ≡ file → usual.OfLog plan file v → OfReplay files script log v
     replays file v held comes = let P : File → Type 0 = λ (f : File). usual.OfLog plan f v in inr (plan, gives, (typed, subst P (sym held) comes))
 
-    refused_once : (bytes : List ℕ) → log_of files log ≡ Holds bytes → (line line' : ℕ) (cause cause' : LogCause) → LogStops plan bytes line cause → LogStops plan bytes line' cause' → usual.LogRefused line cause ≡ usual.LogRefused line' cause'
+    refused_once : (bytes : List ℕ) → log_of files log ≡ Holds bytes → (line line' : ℕ) (cause cause' : LogCause) → LogStops plan bytes line cause → LogStops plan bytes line' cause' → common.LogRefused line cause ≡ common.LogRefused line' cause'
     refused_once bytes held line line' cause cause' a b =
-        replay_once script log (usual.LogRefused line cause) (usual.LogRefused line' cause')
-        (replays (Holds bytes) (usual.LogRefused line cause) held (of_stop bytes line cause a)) (replays (Holds bytes) (usual.LogRefused line' cause') held (of_stop bytes line' cause' b))
+        replay_once script log (common.LogRefused line cause) (common.LogRefused line' cause')
+        (replays (Holds bytes) (common.LogRefused line cause) held (of_stop bytes line cause a)) (replays (Holds bytes) (common.LogRefused line' cause') held (of_stop bytes line' cause' b))
 
     not_refused : (bytes : List ℕ) (run : Run) (line : ℕ) (cause : LogCause) → IsLogOf plan bytes run → IsAccepted plan run → LogStops plan bytes line cause → ⊥
     not_refused bytes run line log_cause.Bad is accepted stops = stops.0 run is
@@ -86,12 +88,12 @@ module _ (one : usual.OneVerdict) (files : Files) where
 
     -- ---- a run
 
-    stopped_once : (file : File) → log_of files log ≡ file → (s t : usual.Verdict) → RunStops plan file s → RunStops plan file t → s ≡ t
+    stopped_once : (file : File) → log_of files log ≡ file → (s t : common.Verdict) → RunStops plan file s → RunStops plan file t → s ≡ t
     stopped_once Absent held s t a b = absurd a
     stopped_once Long held s t a b = a ∙ sym b
     stopped_once (Holds bytes) held s t (line, cause, stops, is) (line', cause', stopped, same) = is ∙ refused_once bytes held line line' cause cause' stops stopped ∙ sym same
 
-    not_both : (file : File) (run : Run) (s : usual.Verdict) → IsReadRun plan file run → RunStops plan file s → ⊥
+    not_both : (file : File) (run : Run) (s : common.Verdict) → IsReadRun plan file run → RunStops plan file s → ⊥
     not_both Absent run s reads stops = reads
     not_both Long run s reads stops = reads
     not_both (Holds bytes) run s reads (line, cause, stops, is) = not_refused bytes run line cause reads.0 reads.1 stops
@@ -103,7 +105,7 @@ module _ (one : usual.OneVerdict) (files : Files) where
 
     run_once : (of_run : Run → Verdict → Type 0) → ((run : Run) (v w : Verdict) → of_run run v → of_run run w → v ≡ w) → (v w : Verdict)
         → OfRun plan (log_of files log) of_run v → OfRun plan (log_of files log) of_run w → v ≡ w
-    run_once of_run once v w (inl (s, stops, is)) (inl (t, stopped, same)) = is ∙ ap (λ (u : usual.Verdict). Usual u) (stopped_once (log_of files log) refl s t stops stopped) ∙ sym same
+    run_once of_run once v w (inl (s, stops, is)) (inl (t, stopped, same)) = is ∙ ap (λ (u : common.Verdict). Usual u) (stopped_once (log_of files log) refl s t stops stopped) ∙ sym same
     run_once of_run once v w (inl (s, stops, is)) (inr (run, reads, comes)) = absurd (not_both (log_of files log) run s reads stops)
     run_once of_run once v w (inr (run, reads, comes)) (inl (s, stops, is)) = absurd (not_both (log_of files log) run s reads stops)
     run_once of_run once v w (inr (run, reads, comes)) (inr (other, read, also)) =
@@ -115,7 +117,7 @@ module _ (one : usual.OneVerdict) (files : Files) where
     -- what an accepted log comes to by feeds
     abbrev OfAccepted : List ℕ → Feeds → Run → Verdict → Type 0
     OfAccepted bytes feeds run verdict =
-        (IsLinked plan run.limits feeds run × (verdict ≡ Usual (usual.Accepts (arrival_count run))))
+        (IsLinked plan run.limits feeds run × (verdict ≡ Usual (common.Accepts (arrival_count run))))
         ⊎ (((run.feeds ≡ length feeds → ⊥) × (verdict ≡ OtherFeeds run.feeds))
         ⊎ ((difference : Difference) × (run.feeds ≡ length feeds) × (IsLinked plan run.limits feeds run → ⊥) × (first_difference plan feeds run ≡ Some difference) × (verdict ≡ OtherRow difference (difference_text plan bytes feeds difference))))
 
@@ -137,11 +139,11 @@ module _ (one : usual.OneVerdict) (files : Files) where
     -- a log that is refused by itself, or an accepted one
     abbrev OfBytes : List ℕ → Feeds → Verdict → Type 0
     OfBytes bytes feeds verdict =
-        ((line : ℕ) × (cause : LogCause) × LogStops plan bytes line cause × (verdict ≡ Usual (usual.LogRefused line cause)))
+        ((line : ℕ) × (cause : LogCause) × LogStops plan bytes line cause × (verdict ≡ Usual (common.LogRefused line cause)))
         ⊎ ((run : Run) × IsLogOf plan bytes run × IsAccepted plan run × OfAccepted bytes feeds run verdict)
 
     bytes_once : (bytes : List ℕ) → log_of files log ≡ Holds bytes → (feeds : Feeds) (v w : Verdict) → OfBytes bytes feeds v → OfBytes bytes feeds w → v ≡ w
-    bytes_once bytes held feeds v w (inl (line, cause, stops, is)) (inl (line', cause', stopped, same)) = is ∙ ap (λ (u : usual.Verdict). Usual u) (refused_once bytes held line line' cause cause' stops stopped) ∙ sym same
+    bytes_once bytes held feeds v w (inl (line, cause, stops, is)) (inl (line', cause', stopped, same)) = is ∙ ap (λ (u : common.Verdict). Usual u) (refused_once bytes held line line' cause cause' stops stopped) ∙ sym same
     bytes_once bytes held feeds v w (inl (line, cause, stops, is)) (inr (run, reads, accepted, comes)) = absurd (not_refused bytes run line cause reads accepted stops)
     bytes_once bytes held feeds v w (inr (run, reads, accepted, comes)) (inl (line, cause, stops, is)) = absurd (not_refused bytes run line cause reads accepted stops)
     bytes_once bytes held feeds v w (inr (run, reads, accepted, comes)) (inr (other, read, also, came)) =
@@ -156,9 +158,9 @@ module _ (one : usual.OneVerdict) (files : Files) where
 
     by_answer : (bytes : List ℕ) (feeds : Feeds) (result : Result ℕ AuditRefusal) (v : Verdict) → Audits plan bytes feeds result → audited_as plan bytes feeds result ≡ Some v → OfBytes bytes feeds v
     by_answer bytes feeds (Ok count) v audits is =
-        inr (audits.run, audits.log, audits.accepted, inl (audits.linked, same_verdict (Usual (usual.Accepts count)) v is ∙ ap (λ (n : ℕ). Usual (usual.Accepts n)) audits.counted))
-    by_answer bytes feeds (Err (refusal.Log (log_refusal.Bad line))) v audits is = inl (line, log_cause.Bad, audits, same_verdict (Usual (usual.LogRefused line log_cause.Bad)) v is)
-    by_answer bytes feeds (Err (refusal.Log (log_refusal.Differs line))) v audits is = inl (line, log_cause.Differs, audits, same_verdict (Usual (usual.LogRefused line log_cause.Differs)) v is)
+        inr (audits.run, audits.log, audits.accepted, inl (audits.linked, same_verdict (Usual (common.Accepts count)) v is ∙ ap (λ (n : ℕ). Usual (common.Accepts n)) audits.counted))
+    by_answer bytes feeds (Err (refusal.Log (log_refusal.Bad line))) v audits is = inl (line, log_cause.Bad, audits, same_verdict (Usual (common.LogRefused line log_cause.Bad)) v is)
+    by_answer bytes feeds (Err (refusal.Log (log_refusal.Differs line))) v audits is = inl (line, log_cause.Differs, audits, same_verdict (Usual (common.LogRefused line log_cause.Differs)) v is)
     by_answer bytes feeds (Err (refusal.Log log_refusal.NoMemory)) v audits is = absurd (no_verdict v is)
     by_answer bytes feeds (Err (refusal.Feeds count)) v audits is =
         inr (audits.run, audits.others.log, audits.others.accepted, inr (inl ((λ same. audits.apart (audits.counted ∙ same)), same_verdict (OtherFeeds count) v is ∙ ap (λ (n : ℕ). OtherFeeds n) audits.counted)))

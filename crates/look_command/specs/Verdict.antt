@@ -17,11 +17,13 @@ use Rattle.log_audit.specs.declared.refusal.AuditRefusal.{AuditRefusal}
 use Rattle.log_audit.specs.declared.refusal.AuditRefusal.TheVariants as refusal
 use Rattle.log_audit.specs.declared.refusal.Difference.{Difference}
 use Rattle.difference_text.specs.Text.{difference_text}
-use Rattle.join_command.specs.Files.{File, Absent, Long, Holds, file_of, log_of}
+use Rattle.script_files.specs.Files.{File, Absent, Long, Holds, file_of, log_of}
 use Rattle.join_command.specs.Verdict as usual
-use Rattle.join_command.specs.Verdict.{Feeds, FeedsAnswer, Given, Refused, Missing, IsBeginning, ScriptGives, ScriptStops, Words, feeds_answer, fetched}
-use Rattle.join_command.specs.declared.stop.LogCause.{LogCause}
-use Rattle.join_command.specs.declared.stop.LogCause.TheVariants as log_cause
+use Rattle.script_files.specs.Verdict as common
+use Rattle.script_files.specs.Verdict.{Feeds, FeedsAnswer, Given, Refused, Missing, IsBeginning, ScriptGives, ScriptStops, feeds_answer, fetched}
+use Rattle.join_command.specs.Verdict.{Words}
+use Rattle.script_files.specs.declared.stop.LogCause.{LogCause}
+use Rattle.script_files.specs.declared.stop.LogCause.TheVariants as log_cause
 use Rattle.look_command.specs.Request.{Request, Audit, Reactions, Why, request_of}
 
 -- A verdict that `join_command` has too, as a refusal of a file or a log that is accepted; a log of another number of
@@ -29,7 +31,7 @@ use Rattle.look_command.specs.Request.{Request, Audit, Reactions, Why, request_o
 -- whose reactions are shown, of one actor or of all; or one of which it is said why the messages of an actor wait, or why
 -- one does. The script is the first file, the log the second, and feed K is the file K + 2.
 pub data Verdict : Type 0 where
-  Usual : (verdict : usual.Verdict) → Verdict
+  Usual : (verdict : common.Verdict) → Verdict
   OtherFeeds : (count : ℕ) → Verdict
   OtherRow : (difference : Difference) (shown : List ℕ) → Verdict
   UnknownActor : Verdict
@@ -40,14 +42,14 @@ pub data Verdict : Type 0 where
 
 -- what a script comes to, where its plan comes to this
 abbrev pub OfScript : File → (Plan → Verdict → Type 0) → Verdict → Type 0
-OfScript script of_plan verdict = ((stop : usual.Verdict) × ScriptStops script stop × (verdict ≡ Usual stop)) ⊎ ((plan : Plan) × ScriptGives script plan × of_plan plan verdict)
+OfScript script of_plan verdict = ((stop : common.Verdict) × ScriptStops script stop × (verdict ≡ Usual stop)) ⊎ ((plan : Plan) × ScriptGives script plan × of_plan plan verdict)
 
 -- ---- an audit
 
 abbrev pub audited_as : Plan → List ℕ → Feeds → Result ℕ AuditRefusal → Option Verdict
-audited_as plan bytes feeds (Ok arrivals) = Some (Usual (usual.Accepts arrivals))
-audited_as plan bytes feeds (Err (refusal.Log (log_refusal.Bad line))) = Some (Usual (usual.LogRefused line log_cause.Bad))
-audited_as plan bytes feeds (Err (refusal.Log (log_refusal.Differs line))) = Some (Usual (usual.LogRefused line log_cause.Differs))
+audited_as plan bytes feeds (Ok arrivals) = Some (Usual (common.Accepts arrivals))
+audited_as plan bytes feeds (Err (refusal.Log (log_refusal.Bad line))) = Some (Usual (common.LogRefused line log_cause.Bad))
+audited_as plan bytes feeds (Err (refusal.Log (log_refusal.Differs line))) = Some (Usual (common.LogRefused line log_cause.Differs))
 audited_as plan bytes feeds (Err (refusal.Log log_refusal.NoMemory)) = None
 audited_as plan bytes feeds (Err (refusal.Feeds count)) = Some (OtherFeeds count)
 audited_as plan bytes feeds (Err (refusal.Row difference)) = Some (OtherRow difference (difference_text plan bytes feeds difference))
@@ -57,8 +59,8 @@ abbrev pub OfAudit : Plan → List ℕ → Feeds → Verdict → Type 0
 OfAudit plan bytes feeds verdict = (result : Result ℕ AuditRefusal) × Audits plan bytes feeds result × (audited_as plan bytes feeds result ≡ Some verdict)
 
 -- a refusal of feeds, where a log stands in front of them: a file that is too long is one file later
-abbrev pub behind_log : usual.Verdict → usual.Verdict
-behind_log (usual.TooLong file) = usual.TooLong (min (file + 1) (2 ^ 32 - 1))
+abbrev pub behind_log : common.Verdict → common.Verdict
+behind_log (common.TooLong file) = common.TooLong (min (file + 1) (2 ^ 32 - 1))
 behind_log verdict = verdict
 
 -- what the bytes of a log come to by what the feeds come to
@@ -70,7 +72,7 @@ OfFeeds plan bytes Missing verdict = ⊥
 -- what a log comes to
 abbrev pub OfLog : Plan → File → FeedsAnswer → Verdict → Type 0
 OfLog plan Absent given verdict = ⊥
-OfLog plan Long given verdict = verdict ≡ Usual (usual.TooLong 2)
+OfLog plan Long given verdict = verdict ≡ Usual (common.TooLong 2)
 OfLog plan (Holds bytes) given verdict = OfFeeds plan bytes given verdict
 
 -- ---- a run
@@ -80,10 +82,10 @@ abbrev pub LogStops : Plan → List ℕ → ℕ → LogCause → Type 0
 LogStops plan bytes line log_cause.Bad = replaying.Checks plan bytes (Err (log_refusal.Bad line))
 LogStops plan bytes line log_cause.Differs = replaying.Checks plan bytes (Err (log_refusal.Differs line))
 
-abbrev pub RunStops : Plan → File → usual.Verdict → Type 0
+abbrev pub RunStops : Plan → File → common.Verdict → Type 0
 RunStops plan Absent stop = ⊥
-RunStops plan Long stop = stop ≡ usual.TooLong 2
-RunStops plan (Holds bytes) stop = (line : ℕ) × (cause : LogCause) × LogStops plan bytes line cause × (stop ≡ usual.LogRefused line cause)
+RunStops plan Long stop = stop ≡ common.TooLong 2
+RunStops plan (Holds bytes) stop = (line : ℕ) × (cause : LogCause) × LogStops plan bytes line cause × (stop ≡ common.LogRefused line cause)
 
 -- the file is the log of the run, no line of which is in fault
 abbrev pub IsReadRun : Plan → File → Run → Type 0
@@ -93,7 +95,7 @@ IsReadRun plan (Holds bytes) run = IsLogOf plan bytes run × IsAccepted plan run
 
 -- what a log comes to, where its run comes to this
 abbrev pub OfRun : Plan → File → (Run → Verdict → Type 0) → Verdict → Type 0
-OfRun plan file of_run verdict = ((stop : usual.Verdict) × RunStops plan file stop × (verdict ≡ Usual stop)) ⊎ ((run : Run) × IsReadRun plan file run × of_run run verdict)
+OfRun plan file of_run verdict = ((stop : common.Verdict) × RunStops plan file stop × (verdict ≡ Usual stop)) ⊎ ((run : Run) × IsReadRun plan file run × of_run run verdict)
 
 -- the number of the actor of a name
 abbrev pub actor_named : Plan → List ℕ → Option ℕ
@@ -125,7 +127,7 @@ OfRequest files (Reactions script log actor) verdict = OfScript (file_of files s
 OfRequest files (Why script log actor number) verdict = OfScript (file_of files script) (λ plan verdict. IsTyped plan × OfRun plan (log_of files log) (OfWhy actor number plan) verdict) verdict
 
 abbrev pub OfWords : Files → Option Request → Verdict → Type 0
-OfWords files None verdict = verdict ≡ Usual usual.Usage
+OfWords files None verdict = verdict ≡ Usual common.Usage
 OfWords files (Some request) verdict = OfRequest files request verdict
 
 -- the verdict of the words and the files; there is none where a file that is wanted is not held

@@ -2,8 +2,8 @@
 ghost use Rattle.std.specs.Prelude.{◌≡◌, ◌≢◌, ◌<◌, ◌≤◌, length, Err, IfOk};
 ghost use Rattle.script_types.specs.Typed.{IsTyped};
 ghost use Rattle.command_words.specs.Views.{words_in};
-ghost use Rattle.join_command.specs.Loading.{LoadCause, Tells};
-ghost use Rattle.join_command.specs.Verdict.{Given};
+ghost use Rattle.script_files.specs.Loading.{LoadCause, Tells};
+ghost use Rattle.script_files.specs.Verdict.{Given};
 ghost use Rattle.look_command.specs.Replying.{AuditsFeeds, IsReplied, IsShowable, LoadsBytes, ReadsFeeds, Replies, replied_with, stop_behind};
 ghost use Rattle.look_command.specs.Request.{audit_in};
 ghost use Rattle.look_command.specs.Verdict.{audited_as};

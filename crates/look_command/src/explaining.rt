@@ -2,7 +2,7 @@
 ghost use Rattle.std.specs.Prelude.{◌≡◌, IfOk};
 ghost use Rattle.script_types.specs.Typed.{IsTyped};
 ghost use Rattle.fair_semantics.specs.Fits.{RunFits};
-ghost use Rattle.join_command.specs.Loading.{LoadCause, Tells};
+ghost use Rattle.script_files.specs.Loading.{LoadCause, Tells};
 ghost use Rattle.look_command.specs.Replying.{IsShowable, Replies, verdict_of};
 ghost use Rattle.look_command.specs.Request.{why_in};
 ghost use Rattle.look_command.specs.Verdict.{OfWhy, explains_of};

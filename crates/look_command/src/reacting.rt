@@ -7,7 +7,7 @@ ghost use Rattle.script_types.specs.declared.plan.ActorPlan.{ActorPlan};
 ghost use Rattle.script_types.specs.Typed.{IsTyped};
 ghost use Rattle.fair_semantics.specs.Fits.{RunFits};
 ghost use Rattle.command_words.specs.Views.{bytes_of};
-ghost use Rattle.join_command.specs.Loading.{LoadCause, Tells};
+ghost use Rattle.script_files.specs.Loading.{LoadCause, Tells};
 ghost use Rattle.look_command.specs.Replying.{IsShowable, Replies, verdict_of};
 ghost use Rattle.look_command.specs.Request.{reactions_in};
 ghost use Rattle.look_command.specs.Verdict.{OfReactions, actor_named, reacts_of};

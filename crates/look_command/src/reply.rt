@@ -1,6 +1,6 @@
 //! What a request and its files come to.
 ghost use Rattle.std.specs.Prelude.{IfOk};
-ghost use Rattle.join_command.specs.Loading.{LoadCause, Tells};
+ghost use Rattle.script_files.specs.Loading.{LoadCause, Tells};
 ghost use Rattle.look_command.specs.Replying.{IsShowable, Replies};
 ghost use Rattle.look_command.specs.Request.{HasFewFeeds, request_in};
 

@@ -2,7 +2,7 @@
 ghost use Rattle.std.specs.Prelude.{◌≡◌, ◌≢◌, ◌<◌, Err, IfOk};
 ghost use Rattle.script_types.specs.Typed.{IsTyped};
 ghost use Rattle.fair_semantics.specs.Fits.{RunFits};
-ghost use Rattle.join_command.specs.Loading.{LoadCause, Tells};
+ghost use Rattle.script_files.specs.Loading.{LoadCause, Tells};
 ghost use Rattle.look_command.specs.Replying.{IsAcceptedBytes, LoadsRun, ReadsRun};
 
 use fair_semantics::Run;

@@ -1,7 +1,7 @@
 //! The top call.
 ghost use Rattle.std.specs.Prelude.{◌≡◌, ◌≢◌, ◌⊎◌, None, Err, IfOk};
 ghost use Rattle.join_command.specs.Counting.{EndsAtFault, MakesFewWrites};
-ghost use Rattle.join_command.specs.Loading.{Tells};
+ghost use Rattle.script_files.specs.Loading.{Tells};
 ghost use Rattle.join_command.specs.Output.{IsSettled};
 ghost use Rattle.join_command.specs.Top.{CountsFault, IsAnswered, PrepareCause};
 ghost use Rattle.look_command.specs.Answer.{AnswersWhereTold, CompletesWhereTold, FetchesInOrder, RefusesWords};

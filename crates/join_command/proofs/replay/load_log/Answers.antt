@@ -1,4 +1,5 @@
-use Rattle.join_command.proofs.LoadLemmas.{log_loaded, log_unfetched, quiet_cause}
+use Rattle.script_files.proofs.LoadLemmas.{quiet_cause}
+use Rattle.join_command.proofs.LoadLemmas.{log_loaded, log_unfetched}
 use Rattle.join_command.proofs.replay.load_log.Goals as goal
 
 pub returns-in-Ok-clause-told : goal.returns-in-Ok-clause-told

@@ -1,7 +1,7 @@
 use Rattle.command_words.specs.Views.{words_in}
-use Rattle.join_command.specs.Verdict.{Feeds}
+use Rattle.script_files.specs.Verdict.{Feeds}
 use Rattle.look_command.specs.declared.reply.Reply.{Reply}
-use Rattle.join_command.proofs.LoadLemmas.{quiet_cause}
+use Rattle.script_files.proofs.LoadLemmas.{quiet_cause}
 use Rattle.look_command.proofs.ReplyLemmas.{cause_behind, feeds_audited, feeds_stopped}
 use Rattle.look_command.proofs.auditing.audit_feeds.Goals as goal
 

@@ -1,4 +1,4 @@
-use Rattle.join_command.proofs.LoadLemmas.{quiet_cause}
+use Rattle.script_files.proofs.LoadLemmas.{quiet_cause}
 use Rattle.look_command.proofs.RunLemmas.{run_loaded, run_unfetched}
 use Rattle.look_command.proofs.runs.load_run.Goals as goal
 

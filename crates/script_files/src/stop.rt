@@ -47,7 +47,7 @@ pub enum Stop {
 
 impl From<NoMemory> for Stop {
     ghost use Rattle.std.specs.Prelude.{◌≡◌};
-    ghost use Rattle.join_command.specs.declared.stop.Stop.TheVariants.{NoMemory};
+    ghost use Rattle.script_files.specs.declared.stop.Stop.TheVariants.{NoMemory};
 
     ghost from_gives = { λ _ e. e ≡ NoMemory };
 
@@ -58,7 +58,7 @@ impl From<NoMemory> for Stop {
 
 impl From<ScriptFault> for Stop {
     ghost use Rattle.std.specs.Prelude.{◌≡◌};
-    ghost use Rattle.join_command.specs.Loading.{script_stop};
+    ghost use Rattle.script_files.specs.Loading.{script_stop};
 
     ghost from_gives = { λ fault e. e ≡ script_stop fault };
 

@@ -2,9 +2,9 @@ use Rattle.std.proofs.Common.{◌≡◌, ◌+◌, length, drop}
 use Rattle.std.specs.List.{AllByRecursion}
 use Rattle.fair_semantics.specs.Fits.{PostFits}
 use Rattle.command_words.specs.Views.{words_in}
-use Rattle.join_command.specs.Loading.{Tells}
-use Rattle.join_command.proofs.FeedsLemmas.{FeedsSoFar}
-use Rattle.join_command.proofs.load.load_feeds.Given as goal
+use Rattle.script_files.specs.Loading.{Tells}
+use Rattle.script_files.proofs.FeedsLemmas.{FeedsSoFar}
+use Rattle.script_files.proofs.load.load_feeds.Given as goal
 
 abbrev pub invariant-loop-name : goal.invariant-loop-name
 invariant-loop-name g l = record {

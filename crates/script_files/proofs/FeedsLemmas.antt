@@ -9,11 +9,11 @@ use Rattle.sensor_feed.specs.Feed.{feed_of}
 use Rattle.sensor_feed.specs.declared.fault.FeedFault.{FeedFault}
 use Rattle.sensor_feed.specs.declared.fault.FeedFault.TheVariants as fault
 use Rattle.command_words.specs.Views.{words_in}
-use Rattle.join_command.specs.declared.stop.Stop.{Stop}
-use Rattle.join_command.specs.declared.stop.Stop.TheVariants as stop
-use Rattle.join_command.specs.Files.{File, Absent, Long, Holds, file_of}
-use Rattle.join_command.specs.Verdict.{Feeds, FeedsAnswer, Given, Missing, Refused, Verdict, and_then, behind, feed_answer, feeds_answer, fetched, in_front, posts_or}
-use Rattle.join_command.specs.Loading.{LoadsFeed, LoadsFeeds, StopsFeeds, Tells, stopped_by}
+use Rattle.script_files.specs.declared.stop.Stop.{Stop}
+use Rattle.script_files.specs.declared.stop.Stop.TheVariants as stop
+use Rattle.script_files.specs.Files.{File, Absent, Long, Holds, file_of}
+use Rattle.script_files.specs.Verdict.{Feeds, FeedsAnswer, Given, Missing, Refused, Verdict, and_then, behind, feed_answer, feeds_answer, fetched, in_front, posts_or}
+use Rattle.script_files.specs.Loading.{LoadsFeed, LoadsFeeds, StopsFeeds, Tells, stopped_by}
 
 -- the names asked so far, and the posts of the feeds in front of those that are left, of which the first has this
 -- number

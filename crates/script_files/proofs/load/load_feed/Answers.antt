@@ -1,5 +1,5 @@
-use Rattle.join_command.proofs.LoadLemmas.{feed_loaded, feed_unfetched, quiet_cause}
-use Rattle.join_command.proofs.load.load_feed.Goals as goal
+use Rattle.script_files.proofs.LoadLemmas.{feed_loaded, feed_unfetched, quiet_cause}
+use Rattle.script_files.proofs.load.load_feed.Goals as goal
 
 pub returns-in-Ok-clause-told : goal.returns-in-Ok-clause-told
 returns-in-Ok-clause-told g c =

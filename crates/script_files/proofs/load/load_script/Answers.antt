@@ -1,5 +1,5 @@
-use Rattle.join_command.proofs.LoadLemmas.{script_loaded, script_unfetched}
-use Rattle.join_command.proofs.load.load_script.Goals as goal
+use Rattle.script_files.proofs.LoadLemmas.{script_loaded, script_unfetched}
+use Rattle.script_files.proofs.load.load_script.Goals as goal
 
 pub returns-in-Ok-clause-told : goal.returns-in-Ok-clause-told
 returns-in-Ok-clause-told g c =

@@ -1,9 +1,9 @@
 use Rattle.std.proofs.Common.{rules, ◌≡◌, ◌+◌, ◌∷◌, [], ◌++◌, length, drop, refl}
 use Rattle.std.specs.Prelude.{Err}
 use Rattle.command_words.specs.Views.{words_in}
-use Rattle.join_command.specs.declared.stop.Stop.TheVariants.{NoMemory}
-use Rattle.join_command.proofs.FeedsLemmas.{feed_more, feed_stopped, feeds_cut, none_so_far}
-use Rattle.join_command.proofs.load.load_feeds.Goals as goal
+use Rattle.script_files.specs.declared.stop.Stop.TheVariants.{NoMemory}
+use Rattle.script_files.proofs.FeedsLemmas.{feed_more, feed_stopped, feeds_cut, none_so_far}
+use Rattle.script_files.proofs.load.load_feeds.Goals as goal
 
 pub loop-name-init : goal.loop-name-init
 loop-name-init g c = rw c.new-feeds.ensures.empty (record {

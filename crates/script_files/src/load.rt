@@ -5,8 +5,8 @@ ghost use Rattle.script_types.specs.Typed.{IsTyped};
 ghost use Rattle.fair_semantics.specs.Fits.{PostFits};
 ghost use Rattle.sensor_feed.specs.Feed.{feed_of};
 ghost use Rattle.command_words.specs.Views.{words_in};
-ghost use Rattle.join_command.specs.Loading.{LoadCause, LoadsFeed, LoadsFeeds, LoadsScript, ReadsFeed, ReadsPlan, Tells, fetch_stop};
-ghost use Rattle.join_command.specs.Verdict.{posts_or};
+ghost use Rattle.script_files.specs.Loading.{LoadCause, LoadsFeed, LoadsFeeds, LoadsScript, ReadsFeed, ReadsPlan, Tells, fetch_stop};
+ghost use Rattle.script_files.specs.Verdict.{posts_or};
 
 use crate::stop::{Refusal, Stop};
 use join_base::{FeedList, FetchFault, Inputs, Posts, Word};
