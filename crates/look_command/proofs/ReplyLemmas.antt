@@ -11,7 +11,7 @@ use Rattle.log_audit.specs.Audit.{Audits}
 use Rattle.log_audit.specs.declared.refusal.AuditRefusal.{AuditRefusal}
 use Rattle.script_files.specs.Files.{File, Long, Holds, file_of, file_within, log_of, max_log}
 use Rattle.script_files.specs.Loading.{LoadCause, LoadsFeeds, LoadsScript, StopsFeeds, StopsScript, Tells, fetch_stop, refused_as, stopped_by}
-use Rattle.script_files.specs.Verdict as common
+use Rattle.script_files.specs.Verdict as usual
 use Rattle.script_files.specs.Verdict.{Feeds, FeedsAnswer, Given, Refused, ScriptGives, feeds_answer}
 use Rattle.script_files.specs.declared.stop.Refusal.{Refusal}
 use Rattle.script_files.specs.declared.stop.Refusal.TheVariants as refusal
@@ -60,14 +60,14 @@ cause_behind X Y before now stop.ReadFault cause = cause
 cause_behind X Y before now stop.NoMemory cause = cause
 
 module _ (plan : Plan) (bytes : List ℕ) where
-  refused_feeds : (given : FeedsAnswer) (verdict : common.Verdict) → given ≡ Refused verdict → OfFeeds plan bytes given (Usual (behind_log verdict))
+  refused_feeds : (given : FeedsAnswer) (verdict : usual.Verdict) → given ≡ Refused verdict → OfFeeds plan bytes given (Usual (behind_log verdict))
   refused_feeds given verdict is = subst (λ (g : FeedsAnswer). OfFeeds plan bytes g (Usual (behind_log verdict))) (sym is) refl
 
   stops_feeds : (given : FeedsAnswer) (why : Stop) → StopsFeeds given (stopped_by why) → ReadsFeeds plan bytes given (usually (stopped_by (stop_behind why)))
-  stops_feeds given (stop.Refused (refusal.TooLong file)) is = refused_feeds given (common.TooLong file) is
-  stops_feeds given (stop.Refused (refusal.Script place why)) is = refused_feeds given (common.ScriptRefused place why) is
-  stops_feeds given (stop.Refused (refusal.Feed number row why)) is = refused_feeds given (common.FeedRefused number row why) is
-  stops_feeds given (stop.Refused (refusal.Log line why)) is = refused_feeds given (common.LogRefused line why) is
+  stops_feeds given (stop.Refused (refusal.TooLong file)) is = refused_feeds given (usual.TooLong file) is
+  stops_feeds given (stop.Refused (refusal.Script place why)) is = refused_feeds given (usual.ScriptRefused place why) is
+  stops_feeds given (stop.Refused (refusal.Feed number row why)) is = refused_feeds given (usual.FeedRefused number row why) is
+  stops_feeds given (stop.Refused (refusal.Log line why)) is = refused_feeds given (usual.LogRefused line why) is
   stops_feeds given stop.ReadFault is = tt
   stops_feeds given stop.NoMemory is = tt
 
@@ -92,7 +92,7 @@ module _ (script log : List ℕ) (feeds : List (List ℕ)) where
   request = Audit script log feeds
 
   -- the script stops it
-  script_verdict : (files : Files) (o : Option common.Verdict) → StopsScript (file_of files script) o → OfReply files request (usually o)
+  script_verdict : (files : Files) (o : Option usual.Verdict) → StopsScript (file_of files script) o → OfReply files request (usually o)
   script_verdict files None is = tt
   script_verdict files (Some verdict) is = inl (verdict, is, refl)
 
@@ -110,11 +110,11 @@ module _ (script log : List ℕ) (feeds : List (List ℕ)) where
 
   module _ (plan : Plan) (typed : IsTyped plan) where
     -- the log stops it
-    long_verdict : (files : Files) → ScriptGives (file_of files script) plan → (o : Option common.Verdict) → StopsBytes (log_of files log) o → OfReply files request (usually o)
+    long_verdict : (files : Files) → ScriptGives (file_of files script) plan → (o : Option usual.Verdict) → StopsBytes (log_of files log) o → OfReply files request (usually o)
     long_verdict files gives None is = tt
     long_verdict files gives (Some verdict) is =
         let P : File → Type 0 = λ (file : File). OfLog plan file (feeds_answer files plan 1 feeds) (Usual verdict) in
-        inr (plan, gives, (typed, subst P (sym is.0) (ap (λ (v : common.Verdict). Usual v) is.1)))
+        inr (plan, gives, (typed, subst P (sym is.0) (ap (λ (v : usual.Verdict). Usual v) is.1)))
 
     asked_both : (before now : Told) → now ≡ with_asked (with_asked before script) log → now ≡ record { files = before.files; asked = before.asked ++ (script ∷ log ∷ []) }
     asked_both before now is = is ∙ (λ i. record { files = before.files; asked = append_assoc before.asked (script ∷ []) (log ∷ []) i })

@@ -13,7 +13,7 @@ use Rattle.log_reader.proofs.ReadLemmas.{logs_are_one_run}
 use Rattle.log_replay.specs.Fault.{IsAccepted}
 use Rattle.script_files.specs.Files.{File, Holds, file_of, log_of, max_log}
 use Rattle.script_files.specs.Loading.{LoadsScript, StopsScript, Tells, fetch_stop, stopped_by}
-use Rattle.script_files.specs.Verdict as common
+use Rattle.script_files.specs.Verdict as usual
 use Rattle.script_files.specs.Verdict.{ScriptGives}
 use Rattle.join_command.specs.Verdict.{replay_asks_log, replay_asks_nothing, replay_asks_script}
 use Rattle.script_files.specs.declared.stop.Refusal.TheVariants as refusal
@@ -55,7 +55,7 @@ run_unfetched (Some before) (Some now) plan name fault told = record { asks = as
   where
     stops : (f : FetchFault) → IsFetched before.files name max_log (Err f) → StopsRun plan (log_of before.files name) (stopped_by (fetch_stop 2 f))
     stops fetch.Failed long = tt
-    stops fetch.TooLong long = let P : File → Type 0 = λ (file : File). RunStops plan file (common.TooLong 2) in subst P (sym (file_long max_log (content_of before.files name) long)) refl
+    stops fetch.TooLong long = let P : File → Type 0 = λ (file : File). RunStops plan file (usual.TooLong 2) in subst P (sym (file_long max_log (content_of before.files name) long)) refl
     stops fetch.NoMemory long = tt
 
 -- ---- a request for the run of a log
@@ -64,7 +64,7 @@ asked_none : (before : Told) → before ≡ record { files = before.files; asked
 asked_none before = λ i. record { files = before.files; asked = sym (append-nil before.asked) i }
 
 module _ (request : Request) (script log : List ℕ) (none : (files : Files) → MayAsk files request []) (one : (files : Files) → MayAsk files request (script ∷ []))
-    (both : (files : Files) (plan : Plan) → ScriptGives (file_of files script) plan → MayAsk files request (script ∷ log ∷ [])) (refused : (files : Files) (o : Option common.Verdict) → StopsScript (file_of files script) o → OfReply files request (usually o))
+    (both : (files : Files) (plan : Plan) → ScriptGives (file_of files script) plan → MayAsk files request (script ∷ log ∷ [])) (refused : (files : Files) (o : Option usual.Verdict) → StopsScript (file_of files script) o → OfReply files request (usually o))
     (of_run : Plan → Run → Verdict → Type 0) (of_plan : (files : Files) (plan : Plan) → ScriptGives (file_of files script) plan → IsTyped plan → (verdict : Verdict) → OfRun plan (log_of files log) (of_run plan) verdict → OfRequest files request verdict) where
   script_stops : (before now : Told) (why : Stop) → LoadsScript before now script (Err why) → Replies request before now (Err why)
   script_stops before now why loaded = by_asks loaded.asks
@@ -82,7 +82,7 @@ module _ (request : Request) (script log : List ℕ) (none : (files : Files) →
     asked_both : (before now : Told) → now ≡ with_asked (with_asked before script) log → now ≡ record { files = before.files; asked = before.asked ++ (script ∷ log ∷ []) }
     asked_both before now is = is ∙ (λ i. record { files = before.files; asked = append_assoc before.asked (script ∷ []) (log ∷ []) i })
 
-    stop_verdict : (files : Files) → ScriptGives (file_of files script) plan → (o : Option common.Verdict) → StopsRun plan (log_of files log) o → OfReply files request (usually o)
+    stop_verdict : (files : Files) → ScriptGives (file_of files script) plan → (o : Option usual.Verdict) → StopsRun plan (log_of files log) o → OfReply files request (usually o)
     stop_verdict files gives None is = tt
     stop_verdict files gives (Some verdict) is = of_plan files plan gives typed (Usual verdict) (inl (verdict, is, refl))
 
@@ -122,7 +122,7 @@ module _ (script log : List ℕ) (actor : Option (List ℕ)) where
   abbrev reacting : Request
   reacting = Reactions script log actor
 
-  reacting_refused : (files : Files) (o : Option common.Verdict) → StopsScript (file_of files script) o → OfReply files reacting (usually o)
+  reacting_refused : (files : Files) (o : Option usual.Verdict) → StopsScript (file_of files script) o → OfReply files reacting (usually o)
   reacting_refused files None is = tt
   reacting_refused files (Some verdict) is = inl (verdict, is, refl)
 
@@ -148,7 +148,7 @@ module _ (script log actor : List ℕ) (number : Option ℕ) where
   abbrev explaining : Request
   explaining = Why script log actor number
 
-  explaining_refused : (files : Files) (o : Option common.Verdict) → StopsScript (file_of files script) o → OfReply files explaining (usually o)
+  explaining_refused : (files : Files) (o : Option usual.Verdict) → StopsScript (file_of files script) o → OfReply files explaining (usually o)
   explaining_refused files None is = tt
   explaining_refused files (Some verdict) is = inl (verdict, is, refl)
 

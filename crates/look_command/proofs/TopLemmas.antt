@@ -13,7 +13,7 @@ use Rattle.join_command.specs.declared.top.Unanswered.{Unanswered}
 use Rattle.script_files.specs.Loading.{Tells, refused_as}
 use Rattle.join_command.specs.Output as usual_output
 use Rattle.join_command.specs.Top.{IsAnswered}
-use Rattle.script_files.specs.Verdict as common
+use Rattle.script_files.specs.Verdict as usual
 use Rattle.join_command.specs.Verdict.{Words, replay_asks_nothing}
 use Rattle.counted_sink.specs.Writing.{Writes}
 use Rattle.look_command.specs.declared.reply.Reply.{Reply}
@@ -78,12 +78,12 @@ module _ (words : Words) where
   nothing_prepared (Some before) fault = record { asked = []; told_is = asked_none before; are_asked = asks_none before.files (request_of words); output = tt }
 
   -- no request: nothing is asked
-  pub usage_prepared : (told : Option Told) (output : List ℕ) → request_of words ≡ None → IsOutput (Usual common.Usage) status.Usage output → Tells told told (λ b n. Prepares words b n (Ok (status.Usage, output)))
+  pub usage_prepared : (told : Option Told) (output : List ℕ) → request_of words ≡ None → IsOutput (Usual usual.Usage) status.Usage output → Tells told told (λ b n. Prepares words b n (Ok (status.Usage, output)))
   usage_prepared None output is o = tt
   usage_prepared (Some before) output is o =
       let P : Option Request → Type 0 = λ c. MayAskBy before.files c [] in
-      let Q : Option Request → Type 0 = λ c. OfWords before.files c (Usual common.Usage) in
-      record { asked = []; told_is = asked_none before; are_asked = subst P (sym is) refl; output = record { verdict = Usual common.Usage; is_verdict = subst Q (sym is) refl; is_output = o } }
+      let Q : Option Request → Type 0 = λ c. OfWords before.files c (Usual usual.Usage) in
+      record { asked = []; told_is = asked_none before; are_asked = subst P (sym is) refl; output = record { verdict = Usual usual.Usage; is_verdict = subst Q (sym is) refl; is_output = o } }
 
   -- ---- what was written whole
 

@@ -10,7 +10,7 @@ use Rattle.log_replay.specs.Check.{IsAcceptedLog}
 use Rattle.log_replay.specs.Fault.{IsAccepted}
 use Rattle.script_files.specs.Files.{File, Absent, Long, Holds, log_of}
 use Rattle.script_files.specs.Loading.{Asks, stopped_by}
-use Rattle.script_files.specs.Verdict as common
+use Rattle.script_files.specs.Verdict as usual
 use Rattle.script_files.specs.Verdict.{FeedsAnswer, IsBeginning, feeds_answer, fetched}
 use Rattle.script_files.specs.declared.stop.Refusal.TheVariants as refusal
 use Rattle.script_files.specs.declared.stop.Stop.{Stop}
@@ -21,7 +21,7 @@ use Rattle.look_command.specs.Request.{Request}
 use Rattle.look_command.specs.Verdict.{Verdict, Usual, OtherFeeds, OtherRow, UnknownActor, Reacts, Explains, IsReadRun, LogStops, MayAsk, OfFeeds, OfRequest, RunStops}
 
 abbrev pub verdict_of : Reply → Verdict
-verdict_of (reply.Accepted arrivals) = Usual (common.Accepts arrivals)
+verdict_of (reply.Accepted arrivals) = Usual (usual.Accepts arrivals)
 verdict_of (reply.OtherFeeds count) = OtherFeeds count
 verdict_of (reply.OtherRow difference shown) = OtherRow difference shown
 verdict_of reply.UnknownActor = UnknownActor
@@ -38,7 +38,7 @@ IsShowable (reply.Reacts plan run only) = IsTyped plan × RunFits plan run
 IsShowable (reply.Explains plan run actor wanted) = IsTyped plan × RunFits plan run
 
 -- the verdict of a refusal; no other stop tells anything
-abbrev pub usually : Option common.Verdict → Option Verdict
+abbrev pub usually : Option usual.Verdict → Option Verdict
 usually None = None
 usually (Some verdict) = Some (Usual verdict)
 
@@ -58,9 +58,9 @@ stop_behind why = why
 
 -- ---- a log
 
-abbrev pub StopsBytes : File → Option common.Verdict → Type 0
+abbrev pub StopsBytes : File → Option usual.Verdict → Type 0
 StopsBytes file None = Unit {0}
-StopsBytes file (Some verdict) = (file ≡ Long) × (verdict ≡ common.TooLong 2)
+StopsBytes file (Some verdict) = (file ≡ Long) × (verdict ≡ usual.TooLong 2)
 
 abbrev pub ReadsBytes : File → Result (List ℕ) Stop → Type 0
 ReadsBytes file (Ok bytes) = file ≡ Holds bytes
@@ -101,7 +101,7 @@ ReadsRun plan bytes (Err (stop.Refused (refusal.Log line cause))) = LogStops pla
 ReadsRun plan bytes (Err stop.ReadFault) = ⊥
 ReadsRun plan bytes (Err stop.NoMemory) = Unit {0}
 
-abbrev pub StopsRun : Plan → File → Option common.Verdict → Type 0
+abbrev pub StopsRun : Plan → File → Option usual.Verdict → Type 0
 StopsRun plan file None = Unit {0}
 StopsRun plan file (Some verdict) = RunStops plan file verdict
 
