@@ -1,5 +1,5 @@
 //! What is written, and how it is written.
-ghost use Rattle.std.specs.Prelude.{◌≡◌, ◌<◌, ◌≤◌, IfOk, codes, length};
+ghost use Rattle.std.specs.Prelude.{◌≡◌, ◌≤◌, IfOk, codes};
 ghost use Rattle.std.specs.List.{list_any};
 ghost use Rattle.command_words.specs.Ranges.{AreInRange};
 ghost use Rattle.plan_text.specs.PlanText.{plan_text};
