@@ -1,6 +1,6 @@
 //! Sets of actors.
-ghost use Rattle.std.specs.Prelude.{◌≡◌, ◌↔◌, true, false, get_or, set};
-ghost use Rattle.actor_cells.specs.ActorSets.{no_actors};
+ghost use Rattle.std.specs.Prelude.{◌≡◌, ◌↔◌, ◌%◌, ◌^◌, true, false, get_or, set};
+ghost use Rattle.actor_cells.specs.ActorSets.{digits_of, no_actors};
 
 use std::marker::Model;
 
@@ -57,6 +57,24 @@ impl ActorSet {
         ensures { result ≡ get_or self actor false }
     {
         actor < 32 && self.bits & 1 << actor != 0
+    }
+
+    /// The set as a number that one atomic step reads or writes.
+    #[inline]
+    pub fn bits(self) -> u64
+        ensures { digits_of 32 result ≡ self }
+    {
+        u64::from(self.bits)
+    }
+
+    /// The set that such a number stands for. Only its lowest 32 bits count.
+    #[inline]
+    pub fn from_bits(bits: u64) -> ActorSet
+        ensures { result ≡ digits_of 32 (bits % 2 ^ 32) }
+    {
+        ActorSet {
+            bits: (bits % (1 << 32)) as u32,
+        }
     }
 
     /// Whether no actor is in.

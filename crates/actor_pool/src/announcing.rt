@@ -32,7 +32,7 @@ pub fn due(helper: &Helper, actor: u32) -> bool {
     if noted.actor == actor {
         return noted.again;
     }
-    noted.moved.contains(actor)
+    noted.moved.contains(actor) || noted.roomy.contains(actor)
 }
 
 // Flags and announces the actor where the latest turn of the helper left something to do for it.

@@ -25,4 +25,10 @@ pub(crate) struct Noted {
     pub(crate) moved: ActorSet,
     // The actor may have more to do.
     pub(crate) again: bool,
+    // The actor has a post whose link was full.
+    pub(crate) held: bool,
+    // The actor took some messages.
+    pub(crate) brought: bool,
+    // The actors that waited for room, where it took some.
+    pub(crate) roomy: ActorSet,
 }

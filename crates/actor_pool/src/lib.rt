@@ -37,6 +37,7 @@ mod opening;
 mod pool;
 mod poster;
 mod posting;
+mod room;
 mod sharing;
 mod source;
 mod taking;

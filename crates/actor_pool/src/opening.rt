@@ -76,6 +76,7 @@ pub(crate) fn behind_locks(
         tickets,
         ended: AtomicU64::new(0),
         failed: AtomicU64::new(0),
+        waiting: AtomicU64::new(0),
         feeds,
         actors,
     };

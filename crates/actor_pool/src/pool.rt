@@ -17,6 +17,8 @@ pub struct Pool {
     pub(crate) ended: AtomicU64,
     // 1 from the first turn on that found no memory. No clause rests on it.
     pub(crate) failed: AtomicU64,
+    // The actors that wait for room on a link, as the bits of an `ActorSet`. No clause rests on it.
+    pub(crate) waiting: AtomicU64,
     pub(crate) feeds: u32,
     pub(crate) actors: u32,
     ghost few: { actors ≤ 32 },

@@ -16,6 +16,9 @@ impl Noted {
             actor: 0,
             moved: ActorSet::new(),
             again: false,
+            held: false,
+            brought: false,
+            roomy: ActorSet::new(),
         }
     }
 }

@@ -11,7 +11,9 @@ use crate::beside::Beside;
 use crate::helper::{Helper, Noted};
 use crate::nobody::Nobody;
 use crate::pool::Pool;
-use actor_cells::{Cell, Turned};
+use crate::room::note_room;
+use actor_cells::{ActorSet, Cell, Turned};
+use fair_semantics::Ending;
 use join_base::{NoMemory, Steps};
 use std::alloc::Global;
 use std::sync::ledger::Ledger;
@@ -40,10 +42,16 @@ fn serve_noted<L: Ledger>(
     ensures sent { OnOk result (AllSent cell.new) }
     ensures refused { OnErr result (IsRefusing cell.new) }
 {
+    let before = cell.actor.arrivals();
     let served = cell.serve(alloc, steps);
-    noted.actor = actor;
-    noted.moved = cell.moved;
-    noted.again = served == Ok(Turned::More) || !cell.held.is_empty();
+    *noted = Noted {
+        actor,
+        moved: cell.moved,
+        again: served == Ok(Turned::More),
+        held: !cell.held.is_empty(),
+        brought: cell.actor.arrivals() != before || cell.actor.ending() != Ending::Running,
+        roomy: ActorSet::new(),
+    };
     served
 }
 
@@ -117,6 +125,7 @@ pub fn turn_beside<R, B: Beside<R>, L: Ledger>(
     let served = serve_and_show(rt, alloc, held.cell(), actor, beside, noted, steps);
     let asked = pool.turns.release(&mut helper.seat, held);
     helper.noted.again |= asked;
+    note_room(pool, &mut helper.noted);
     match served {
         Ok(turned) => Ok(turned),
         Err(NoMemory) => Err(TurnFault::NoMemory),

@@ -309,7 +309,7 @@ poster-send = search (sendable, crosses, seat-send, cell-send, outward-send) dep
 -- ---- what threads share
 
 pub pool-sync : IsSync Pool.the_row
-pool-sync = declared_sync Pool.the_type (search (sendable, crosses, shared-sync, lease-sync, cell-send) depth 40 fits 100000, (search (sendable, crosses, shared-sync, lease-sync) depth 40 fits 100000, (search (sendable, crosses) depth 40, (search (sendable, crosses) depth 40, (search (sendable, crosses) depth 40, (search (sendable, crosses) depth 40, tt))))))
+pool-sync = declared_sync Pool.the_type (search (sendable, crosses, shared-sync, lease-sync, cell-send) depth 40 fits 100000, (search (sendable, crosses, shared-sync, lease-sync) depth 40 fits 100000, (search (sendable, crosses) depth 40, (search (sendable, crosses) depth 40, (search (sendable, crosses) depth 40, (search (sendable, crosses) depth 40, (search (sendable, crosses) depth 40, tt)))))))
 
 -- ---- what threads are given and give back, where what stands beside and the sources may be sent
 

@@ -140,8 +140,8 @@ fn all_messages_come_where_workers_steal(rt: HostRuntime) -> Result<(), Fail> {
     Ok(())
 }
 
-// Four halls whose links to the desk are full stay ready. So a sole worker has to look into the pool's queue too, where
-// the desk's ticket may be.
+// Four halls whose links to the desk are full wait for it. So a sole worker has to look into the pool's queue too, where
+// the desk's ticket may be, and a turn of the desk has to announce them again.
 #[test]
 fn a_sole_worker_that_steals_ends_though_links_are_full(rt: HostRuntime) -> Result<(), Fail> {
     let narrow = arrivals_stealing(&rt, rt.alloc(), 300, 1, 1)?;
