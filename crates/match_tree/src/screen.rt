@@ -266,9 +266,10 @@ fn agrees(offer: &Offer<'_>, slots: &Slots, pattern: u32, screen: &Screen, numbe
     all_hold(offer, &whole, screen.tests)
 }
 
-/// Whether a number of a row that has the screen's key is worth a visit. It isn't where the definition no longer sees
-/// it, or no pattern may take the offered number behind it.
-pub fn is_worth(
+// Whether a number of a row that has the screen's key is worth a visit. It isn't where the definition no longer sees it,
+// or no pattern may take the offered number behind it.
+#[inline(always)]
+fn is_worth(
     offer: &Offer<'_>,
     slots: &Slots,
     pattern: u32,

@@ -112,7 +112,9 @@ fn decided_at(offer: &Offer<'_>, longer: &Slots, pattern: u32, asked: PlaceSet) 
 }
 
 // Whether every conjunct that is decided once the pattern has the number is true, where all that were decided before
-// are, and those outside the set are. Of more than 64 conjuncts each is asked.
+// are, and those outside the set are. Of more than 64 conjuncts each is asked. Most tries ask nothing, and are quicker
+// where this stands apart.
+#[inline(never)]
 fn all_stand(
     offer: &Offer<'_>,
     slots: &Slots,

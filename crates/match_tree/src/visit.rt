@@ -340,6 +340,7 @@ fn visit_at<L: Ledger>(
 
 // Offers the number to the path that ends at the node, and to all that go on from it.
 #[cycle(visit)]
+#[inline(always)]
 fn visit_node<L: Ledger>(
     alloc: Global,
     offer: &Offer<'_>,
