@@ -16,8 +16,8 @@ use Rattle.script_grammar.specs.declared.tree.PatternDecl.{PatternDecl}
 use Rattle.script_grammar.specs.declared.tree.Part.{Part}
 use Rattle.script_grammar.specs.declared.tree.Part.TheVariants as part
 use Rattle.script_grammar.specs.declared.tree.LeafDecl.{LeafDecl}
-use Rattle.script_grammar.specs.declared.tree.OperandDecl.{OperandDecl}
-use Rattle.script_grammar.specs.declared.tree.OperandDecl.TheVariants as o
+use Rattle.script_grammar.specs.declared.operand.OperandDecl.{OperandDecl}
+use Rattle.script_grammar.specs.Operands as o
 use Rattle.script_grammar.specs.declared.tree.ItemDecl.{ItemDecl}
 use Rattle.script_grammar.specs.declared.tree.ItemDecl.TheVariants as i
 use Rattle.script_grammar.specs.declared.tree.StatementDecl.{StatementDecl}

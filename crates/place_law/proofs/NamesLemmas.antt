@@ -9,8 +9,8 @@ use Rattle.script_grammar.specs.declared.tree.FieldDecl.{FieldDecl}
 use Rattle.script_grammar.specs.declared.tree.MessageDecl.{MessageDecl}
 use Rattle.script_grammar.specs.declared.tree.PatternDecl.{PatternDecl}
 use Rattle.script_grammar.specs.declared.tree.LeafDecl.{LeafDecl}
-use Rattle.script_grammar.specs.declared.tree.OperandDecl.{OperandDecl}
-use Rattle.script_grammar.specs.declared.tree.OperandDecl.TheVariants as o
+use Rattle.script_grammar.specs.declared.operand.OperandDecl.{OperandDecl}
+use Rattle.script_grammar.specs.Operands as o
 use Rattle.script_grammar.specs.declared.tree.RuleDecl.{RuleDecl}
 use Rattle.script_grammar.specs.declared.tree.ActorDecl.{ActorDecl}
 use Rattle.script_names.specs.declared.scope.Slot.{Slot}

@@ -12,7 +12,7 @@ use Rattle.script_grammar.specs.declared.tree.Spelt.{Spelt}
 use Rattle.script_grammar.specs.declared.tree.LeafDecl.{LeafDecl}
 use Rattle.script_grammar.specs.declared.tree.ItemDecl.{ItemDecl}
 use Rattle.script_grammar.specs.declared.tree.ItemDecl.TheVariants as i
-use Rattle.script_grammar.specs.declared.tree.OperandDecl.{OperandDecl}
+use Rattle.script_grammar.specs.declared.operand.OperandDecl.{OperandDecl}
 use Rattle.script_grammar.specs.declared.tree.StatementDecl.{StatementDecl}
 use Rattle.script_grammar.specs.declared.tree.StatementDecl.TheVariants as s
 use Rattle.script_grammar.specs.declared.tree.Tree.{Tree}

@@ -9,7 +9,7 @@ use Rattle.guard_eval.specs.Condition.{Condition}
 use Rattle.script_tokens.specs.declared.token.Kind.{Kind}
 use Rattle.script_tokens.specs.declared.token.Kind.TheVariants as kind
 use Rattle.script_tokens.specs.declared.token.Mark.TheVariants as m
-use Rattle.script_grammar.specs.declared.tree.OperandDecl.{OperandDecl}
+use Rattle.script_grammar.specs.declared.operand.OperandDecl.{OperandDecl}
 use Rattle.script_grammar.specs.Atoms.{Atom, Atoms, compares, negated, grouped, no_atoms, either, listed_atoms}
 use Rattle.script_grammar.specs.Phrases.{one, ◌then◌, separated}
 use Rattle.script_grammar.specs.Grammar as g

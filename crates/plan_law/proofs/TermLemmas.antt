@@ -15,8 +15,8 @@ use Rattle.script_grammar.specs.declared.tree.Spelt.{Spelt}
 use Rattle.script_grammar.specs.declared.tree.Part.{Part}
 use Rattle.script_grammar.specs.declared.tree.Part.TheVariants as part
 use Rattle.script_grammar.specs.declared.tree.LeafDecl.{LeafDecl}
-use Rattle.script_grammar.specs.declared.tree.OperandDecl.{OperandDecl}
-use Rattle.script_grammar.specs.declared.tree.OperandDecl.TheVariants as o
+use Rattle.script_grammar.specs.declared.operand.OperandDecl.{OperandDecl}
+use Rattle.script_grammar.specs.Operands as o
 use Rattle.script_grammar.specs.Phrases.{one, ◌then◌}
 use Rattle.script_grammar.specs.Grammar as g
 use Rattle.script_names.specs.Scope.{Variable, name_in, only_name, sort_of}

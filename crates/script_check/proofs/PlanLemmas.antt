@@ -10,7 +10,7 @@ use Rattle.script_grammar.specs.declared.tree.Spelt.{Spelt}
 use Rattle.script_grammar.specs.declared.tree.FieldDecl.{FieldDecl}
 use Rattle.script_grammar.specs.declared.tree.MessageDecl.{MessageDecl}
 use Rattle.script_grammar.specs.declared.tree.PatternDecl.{PatternDecl}
-use Rattle.script_grammar.specs.declared.tree.OperandDecl.{OperandDecl}
+use Rattle.script_grammar.specs.declared.operand.OperandDecl.{OperandDecl}
 use Rattle.script_grammar.specs.declared.tree.ItemDecl.{ItemDecl}
 use Rattle.script_grammar.specs.declared.tree.StatementDecl.{StatementDecl}
 use Rattle.script_grammar.specs.declared.tree.StatementDecl.TheVariants as s

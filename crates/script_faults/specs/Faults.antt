@@ -16,8 +16,10 @@ use Rattle.script_grammar.specs.declared.tree.PatternDecl.{PatternDecl}
 use Rattle.script_grammar.specs.declared.tree.Part.{Part}
 use Rattle.script_grammar.specs.declared.tree.Part.TheVariants as part
 use Rattle.script_grammar.specs.declared.tree.LeafDecl.{LeafDecl}
-use Rattle.script_grammar.specs.declared.tree.OperandDecl.{OperandDecl}
-use Rattle.script_grammar.specs.declared.tree.OperandDecl.TheVariants as operand
+use Rattle.script_grammar.specs.declared.operand.OperandDecl.{OperandDecl}
+use Rattle.script_grammar.specs.Operands as operand
+pub use Rattle.script_grammar.specs.Operands.{operand_place}
+pub use Rattle.script_grammar.specs.Bounds.{item_place}
 use Rattle.script_grammar.specs.declared.tree.ItemDecl.{ItemDecl}
 use Rattle.script_grammar.specs.declared.tree.ItemDecl.TheVariants as item
 use Rattle.script_grammar.specs.declared.tree.StatementDecl.{StatementDecl}
@@ -32,15 +34,6 @@ use Rattle.script_faults.specs.declared.first.Fault.{Fault}
 use Rattle.script_faults.specs.First.{fault, fault_if, first_of, too_many}
 
 -- ---- places
-
-abbrev pub operand_place : OperandDecl → ℕ
-operand_place (operand.Fixed place words) = place
-operand_place (operand.Sum place leaves) = place
-
-abbrev pub item_place : ItemDecl → ℕ
-item_place (item.Fixed place words) = place
-item_place (item.Named spelt) = spelt.place
-item_place (item.Sum place leaves) = place
 
 abbrev pub statement_place : StatementDecl → ℕ
 statement_place (statement.Print place items) = place

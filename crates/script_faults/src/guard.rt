@@ -32,6 +32,7 @@ impl<'a> Placed for Comparison<'a> {
 
 // Appends the comparisons of an atom.
 #[cycle(push)]
+#[tactic(auto, using(crate::proofs::GuardLemmas::comparisons_under))]
 fn push_atom<'a>(out: &mut Items<Comparison<'a>>, atom: &'a AtomDecl) -> Result<(), NoMemory>
     ensures { OnOk result (all_seen out.new ≡ all_seen out.old ++ atom_comparisons (atom_view atom.now)) }
 {
@@ -40,13 +41,14 @@ fn push_atom<'a>(out: &mut Items<Comparison<'a>>, atom: &'a AtomDecl) -> Result<
             left,
             relation,
             right,
+            ..
         } => out.push(Comparison {
             left,
             relation: *relation,
             right,
         }),
         AtomDecl::Not(inner) => push_atom(out, inner),
-        AtomDecl::Group(inner) => push_conjunct(out, inner),
+        AtomDecl::Group { conjunct, .. } => push_conjunct(out, conjunct),
     }
 }
 

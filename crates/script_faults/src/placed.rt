@@ -84,10 +84,7 @@ impl Placed for OperandDecl {
     ghost place = { λ o. operand_place o };
 
     fn place(&self) -> u64 {
-        match self {
-            OperandDecl::Fixed { place, .. } => *place,
-            OperandDecl::Sum { place, .. } => *place,
-        }
+        self.start()
     }
 }
 

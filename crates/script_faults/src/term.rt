@@ -8,7 +8,7 @@ ghost use Rattle.script_faults.specs.Faults.{is_same, is_words, leaf_faults, nam
 
 use crate::first::{Fault, note, note_if, note_too_many};
 use join_base::Sort;
-use script_grammar::{LeafDecl, OperandDecl, Part, ScriptCause};
+use script_grammar::{LeafDecl, OperandDecl, OperandRef, Part, ScriptCause};
 use script_names::{NameTable, Slot};
 use script_tokens::ScriptName;
 
@@ -85,9 +85,11 @@ pub(crate) fn note_operand(
 )
     ensures { found.new ≡ first_of found.old (operand_faults variables.now operand.now) }
 {
-    match operand {
-        OperandDecl::Fixed { .. } => {}
-        OperandDecl::Sum { leaves, .. } => note_term(found, variables, leaves.as_slice(), true),
+    match operand.seen() {
+        OperandRef::Fixed { .. } => {}
+        OperandRef::Number { .. } => {}
+        OperandRef::Named { place, name } => note_name(found, variables, name, place, true),
+        OperandRef::Sum { leaves, .. } => note_term(found, variables, leaves, true),
     }
 }
 
@@ -118,8 +120,10 @@ fn term_sort(variables: &NameTable<Slot>, leaves: &[LeafDecl]) -> Sort
 pub(crate) fn operand_sort(variables: &NameTable<Slot>, operand: &OperandDecl) -> Sort
     ensures { result ≡ operand_sort variables.now operand.now }
 {
-    match operand {
-        OperandDecl::Fixed { .. } => Sort::Words,
-        OperandDecl::Sum { leaves, .. } => term_sort(variables, leaves.as_slice()),
+    match operand.seen() {
+        OperandRef::Fixed { .. } => Sort::Words,
+        OperandRef::Number { .. } => Sort::Int,
+        OperandRef::Named { name, .. } => sort_of(variables, name),
+        OperandRef::Sum { leaves, .. } => term_sort(variables, leaves),
     }
 }

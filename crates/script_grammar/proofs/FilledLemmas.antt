@@ -5,8 +5,8 @@ use Rattle.script_tokens.specs.declared.token.Mark.TheVariants as m
 use Rattle.script_grammar.specs.Phrases.{◌then◌, each, at_least_one, separated, listed}
 use Rattle.script_grammar.specs.Atoms.{Atom, Atoms, compares, negated, grouped, no_atoms, either, listed_atoms}
 use Rattle.script_grammar.specs.declared.tree.LeafDecl.{LeafDecl}
-use Rattle.script_grammar.specs.declared.tree.OperandDecl.{OperandDecl}
-use Rattle.script_grammar.specs.declared.tree.OperandDecl.TheVariants as o
+use Rattle.script_grammar.specs.declared.operand.OperandDecl.{OperandDecl}
+use Rattle.script_grammar.specs.Operands as o
 use Rattle.script_grammar.specs.declared.tree.ItemDecl.{ItemDecl}
 use Rattle.script_grammar.specs.declared.tree.ItemDecl.TheVariants as i
 use Rattle.script_grammar.specs.declared.tree.StatementDecl.{StatementDecl}

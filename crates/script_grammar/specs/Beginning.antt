@@ -2,6 +2,8 @@
 use Rattle.std.specs.Prelude.{◌≡◌, List, [], ◌∷◌, ◌++◌, Result, Ok, Err}
 use mathlib.Core.Logic.{inl, inr}
 use Rattle.script_tokens.specs.declared.token.Token.{Token}
+use Rattle.script_grammar.specs.Bounds.{cut_lists}
+use Rattle.script_grammar.specs.Cut.{kept_tree}
 use Rattle.script_grammar.specs.Phrases.{each}
 use Rattle.script_grammar.specs.Reading.{Outcome}
 use Rattle.script_grammar.specs.Grammar.{Tokens, Declaration, declaration, tree_of}
@@ -9,13 +11,13 @@ use Rattle.script_grammar.specs.declared.tree.Tree.{Tree}
 use Rattle.script_grammar.specs.declared.stop.Stop.{Stop}
 use Rattle.script_grammar.specs.declared.stop.Stop.TheVariants.{NoMemory, Refused}
 
--- the tokens are those of the tree's declarations, and then the rest
+-- the tokens are those of the tree's declarations, of which the lists are cut, and then the rest
 pub record Begins (tree : Tree) (tokens rest : Tokens) : Type 0 where
   pub declarations : List Declaration
   pub read : Tokens
   pub parts : tokens ≡ read ++ rest
   pub spelt : each declaration declarations read
-  pub tree_is : tree ≡ tree_of declarations
+  pub tree_is : tree ≡ kept_tree cut_lists (tree_of declarations)
 
 -- ---- what private functions compute
 

@@ -4,6 +4,8 @@ use Rattle.script_grammar.specs.declared.stop.Stop.{Stop}
 use Rattle.script_grammar.specs.declared.stop.Stop.TheVariants.{NoMemory, Refused}
 use Rattle.script_tokens.specs.declared.token.Token.{Token}
 use Rattle.script_grammar.specs.declared.tree.Tree.{Tree}
+use Rattle.script_grammar.specs.Bounds.{cut_lists}
+use Rattle.script_grammar.specs.Cut.{kept_tree}
 use Rattle.script_grammar.specs.Phrases.{IsViable}
 use Rattle.script_grammar.specs.Grammar.{Tokens, IsScript}
 
@@ -33,6 +35,12 @@ abbrev pub IsStop : Tokens → Tokens → Stop → Type 0
 IsStop tokens rest NoMemory = Unit {0}
 IsStop tokens rest Refused = Refuses tokens rest
 
+-- the tree is that of the tokens, of which the lists are cut
+pub record IsRead (tree : Tree) (tokens : Tokens) : Type 0 where
+  pub whole : Tree
+  pub script : IsScript whole tokens
+  pub kept : tree ≡ kept_tree cut_lists whole
+
 abbrev pub Answers : Tokens → Tokens → Result Tree Stop → Type 0
-Answers tokens rest (Ok tree) = IsScript tree tokens
+Answers tokens rest (Ok tree) = IsRead tree tokens
 Answers tokens rest (Err stop) = IsStop tokens rest stop

@@ -1,4 +1,5 @@
 //! A whole script.
+ghost use Rattle.script_grammar.specs.Bounds.{cut_lists};
 ghost use Rattle.script_grammar.specs.ScriptReading.{declaration_read};
 ghost use Rattle.script_grammar.specs.Refusal.{Answers, OneTree, OneRefusal, RefusalStays};
 ghost use Rattle.script_grammar.specs.Beginning.{Declares};
@@ -15,7 +16,7 @@ use std::alloc::Global;
 
 // Adds the declaration in front of the tokens to the tree.
 fn declaration_at(alloc: Global, tree: &mut Tree, tokens: &mut Tokens<'_>) -> Result<(), Stop>
-    ensures { Declares tree.old tree.new (declaration_read tokens.old) tokens.new result }
+    ensures { Declares tree.old tree.new (declaration_read cut_lists tokens.old) tokens.new result }
 {
     if is_next(tokens, Mark::Message) {
         let message = message_at(alloc, tokens)?;

@@ -1,6 +1,8 @@
 //! The tree of a script, with places.
 ghost use Rattle.std.specs.Prelude.{◌≡◌, ◌∷◌, [], ◌++◌, ◌<◌, length, map, slice_get, Some, OnOk, OnErr};
 
+use crate::operand::OperandDecl;
+use crate::prefix::Prefix;
 use join_base::{Items, NoMemory, Relation, Sort, Text};
 use script_tokens::ScriptName;
 use std::alloc::Global;
@@ -66,24 +68,22 @@ pub struct ConjunctDecl {
     pub atoms: Vec<AtomDecl>,
 }
 
-/// A comparison, the negation of an atom, or a conjunct in parentheses.
+/// A comparison or a conjunct in parentheses, behind its prefix. Only where that is full, one more `!` takes a box, and
+/// one more `(` makes a conjunct of one atom.
 #[cycle(atom)]
 #[derive(Drop)]
 pub enum AtomDecl {
     Compare {
-        left: OperandDecl,
         relation: Relation,
+        prefix: Prefix,
+        left: OperandDecl,
         right: OperandDecl,
     },
     Not(Box<AtomDecl>),
-    Group(ConjunctDecl),
-}
-
-/// A quoted text, or a term with the place where it begins.
-#[derive(Drop)]
-pub enum OperandDecl {
-    Fixed { place: u64, words: Text },
-    Sum { place: u64, leaves: Items<LeafDecl> },
+    Group {
+        prefix: Prefix,
+        conjunct: ConjunctDecl,
+    },
 }
 
 /// A number or a name of a term, with its own place, and whether it counts negative.

@@ -1,6 +1,6 @@
 -- The plan that a script says: each name is replaced by the number of its declaration, and each variable by its place.
 -- A name without a declaration stands for 0: a tree where that happens has a fault, and its plan is not looked at.
-use Rattle.std.specs.Prelude.{ℕ, ℤ, ◌-◌, unsigned_abs, List, Option, None, Some, map}
+use Rattle.std.specs.Prelude.{ℕ, ℤ, ◌-◌, unsigned_abs, false, List, [], ◌∷◌, Option, None, Some, map}
 use Rattle.std.specs.Option.{option_map}
 use Rattle.join_base.specs.declared.message.Sort.{Sort}
 use Rattle.join_base.specs.declared.message.Sort.TheVariants as sort
@@ -20,8 +20,8 @@ use Rattle.script_grammar.specs.declared.tree.PatternDecl.{PatternDecl}
 use Rattle.script_grammar.specs.declared.tree.Part.{Part}
 use Rattle.script_grammar.specs.declared.tree.Part.TheVariants as part
 use Rattle.script_grammar.specs.declared.tree.LeafDecl.{LeafDecl}
-use Rattle.script_grammar.specs.declared.tree.OperandDecl.{OperandDecl}
-use Rattle.script_grammar.specs.declared.tree.OperandDecl.TheVariants as o
+use Rattle.script_grammar.specs.declared.operand.OperandDecl.{OperandDecl}
+use Rattle.script_grammar.specs.Operands as o
 use Rattle.script_grammar.specs.declared.tree.ItemDecl.{ItemDecl}
 use Rattle.script_grammar.specs.declared.tree.ItemDecl.TheVariants as i
 use Rattle.script_grammar.specs.declared.tree.StatementDecl.{StatementDecl}
@@ -84,6 +84,11 @@ term_of variables leaves = map (leaf_of variables) leaves
 abbrev pub sum_operand : List Variable → List LeafDecl → Option (List ℕ) → Operand
 sum_operand variables leaves None = operand.Sum (term_of variables leaves)
 sum_operand variables leaves (Some name) = by_sort (sort_of variables name) (operand.Sum (term_of variables leaves)) (operand.Words (words.Field (place_of variables name)))
+
+-- a term that is one name without a sign
+abbrev pub name_operand : List Variable → List ℕ → Operand
+name_operand variables name =
+    by_sort (sort_of variables name) (operand.Sum (record { minus = false; leaf = leaf.Field (place_of variables name) } ∷ [])) (operand.Words (words.Field (place_of variables name)))
 
 abbrev pub operand_of : List Variable → OperandDecl → Operand
 operand_of variables (o.Fixed place text) = operand.Words (words.Fixed text)

@@ -1,14 +1,15 @@
 //! Terms and operands: sums, and texts.
-ghost use Rattle.std.specs.Prelude.{◌≡◌, IfOk};
+ghost use Rattle.std.specs.Prelude.{◌≡◌, ◌∷◌, [], IfOk, false};
 ghost use Rattle.std.specs.Option.{option_map};
+ghost use Rattle.script_grammar.specs.OperandViews.{operand_seen};
 ghost use Rattle.script_names.specs.Scope.{name_in, only_name};
-ghost use Rattle.script_plan.specs.PlanOf.{leaf_of, operand_of, part_of, sum_operand, term_of};
+ghost use Rattle.script_plan.specs.PlanOf.{leaf_of, name_operand, operand_of, part_of, sum_operand, term_of};
 ghost use Rattle.script_plan.specs.Small.{IsSmallOperand, IsSmallTerm};
 
 use crate::names::Variables;
 use guard_eval::{Leaf, Operand, Signed, Term, WordsLeaf};
 use join_base::{Items, NoMemory, Sort};
-use script_grammar::{LeafDecl, OperandDecl, Part};
+use script_grammar::{LeafDecl, OperandDecl, OperandRef, Part};
 use std::alloc::Global;
 
 fn part_of(variables: &Variables, part: &Part) -> Leaf
@@ -96,6 +97,54 @@ fn sum_operand(
     Ok(Operand::Sum(term_of(alloc, variables, leaves)?))
 }
 
+// A term of one leaf without a sign.
+fn plain_term(alloc: Global, leaf: Leaf) -> Result<Term, NoMemory>
+    ensures { IfOk result (λ term. term ≡ record { minus = false; leaf = leaf } ∷ []) }
+{
+    let mut leaves = Items::new(alloc);
+    leaves.push(Signed { minus: false, leaf })?;
+    Ok(Term::new(leaves))
+}
+
+// A sum of one leaf without a sign.
+fn plain_operand(alloc: Global, leaf: Leaf) -> Result<Operand, NoMemory>
+    ensures { IfOk result (λ operand. operand ≡ Operand.Sum (record { minus = false; leaf = leaf } ∷ [])) }
+{
+    Ok(Operand::Sum(plain_term(alloc, leaf)?))
+}
+
+// A term that is one name.
+fn name_operand(alloc: Global, variables: &Variables, name: &[u8]) -> Result<Operand, NoMemory>
+    ensures { IfOk result (λ operand. operand ≡ name_operand variables.now name.now) }
+{
+    let place = variables.place_of(name);
+    match variables.sort_of(name) {
+        Sort::Int => plain_operand(alloc, Leaf::Field(place)),
+        Sort::Words => Ok(Operand::Words(WordsLeaf::Field(place))),
+    }
+}
+
+// The operand that is seen.
+fn operand_seen(
+    alloc: Global,
+    variables: &Variables,
+    seen: OperandRef<'_>,
+) -> Result<Operand, NoMemory>
+    requires { IsSmallOperand (operand_seen seen) }
+    ensures { IfOk result (λ operand. operand ≡ operand_of variables.now (operand_seen seen.entry)) }
+{
+    match seen {
+        OperandRef::Fixed { words, .. } => {
+            Ok(Operand::Words(WordsLeaf::Fixed(words.copy(alloc)?)))
+        }
+        OperandRef::Number { value, .. } => plain_operand(alloc, Leaf::Number(value)),
+        OperandRef::Named { name, .. } => name_operand(alloc, variables, name.bytes()),
+        OperandRef::Sum { leaves, .. } => {
+            sum_operand(alloc, variables, leaves, only_name(leaves))
+        }
+    }
+}
+
 pub(crate) fn operand_of(
     alloc: Global,
     variables: &Variables,
@@ -104,13 +153,5 @@ pub(crate) fn operand_of(
     requires { IsSmallOperand decl.now }
     ensures { IfOk result (λ operand. operand ≡ operand_of variables.now decl.now) }
 {
-    match decl {
-        OperandDecl::Fixed { words, .. } => {
-            Ok(Operand::Words(WordsLeaf::Fixed(words.copy(alloc)?)))
-        }
-        OperandDecl::Sum { leaves, .. } => {
-            let leaves = leaves.as_slice();
-            sum_operand(alloc, variables, leaves, only_name(leaves))
-        }
-    }
+    operand_seen(alloc, variables, decl.seen())
 }

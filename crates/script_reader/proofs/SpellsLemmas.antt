@@ -1,20 +1,20 @@
 -- Bytes spell one tree or have one fault.
 use Rattle.std.proofs.Common.{Bool, true, false, ◌≡◌, ℕ, ◌<◌, ◌⊎◌, inl, inr, ⊎_elim, List, [], ◌∷◌, length, refl, sym, ap, subst, ◌∙◌, arith}
-use Rattle.std.specs.Prelude.{if◌then◌else◌, Result, Ok, Err, IfOk}
+use Rattle.std.specs.Prelude.{if◌then◌else◌}
 use Rattle.std.specs.Str.{IsUtf8, IsValidUpTo}
 use Rattle.script_tokens.specs.declared.token.Token.{Token}
 use Rattle.script_tokens.specs.Tokens.{AreTokens}
 use Rattle.script_tokens.specs.Tokens as tokens_of
 use Rattle.script_grammar.specs.declared.tree.Tree.{Tree}
 use Rattle.script_grammar.specs.Grammar.{IsScript}
-use Rattle.script_grammar.specs.Filled.{IsFilled, ScriptsAreFilled}
+use Rattle.script_grammar.specs.Filled.{ScriptsAreFilled}
 use Rattle.script_grammar.specs.Refusal.{Refuses}
 use Rattle.script_grammar.specs.Refusal as refusal
 use Rattle.script_grammar.specs.declared.fault.ScriptCause.{ScriptCause}
 use Rattle.script_grammar.specs.declared.fault.ScriptCause.TheVariants.{NotText, BadToken, BadSyntax, TooMany, TwiceDeclared, UnknownMessage, UnknownActor, UnknownName, WrongCount, WrongType, StopNotLast, BadWindow, BadReply}
 use Rattle.script_grammar.specs.declared.fault.ScriptFault.{ScriptFault}
 use Rattle.script_grammar.specs.declared.fault.ScriptFault.TheVariants.{Bad}
-use Rattle.script_reader.specs.Spells.{Spells, IsNoText, IsRefused, IsFault, FaultIs, Reads, place_of, cause_of, OneTree, NoBoth, OneFault}
+use Rattle.script_reader.specs.Spells.{Spells, IsNoText, IsRefused, IsFault, FaultIs, SpellsCut, place_of, cause_of, OneTree, NoBoth, OneFault}
 
 -- a fault of reading is no text, or a refusal
 fault_sort : (bytes : List ℕ) (place : ℕ) (cause : ScriptCause) → IsFault bytes place cause → ((cause ≡ NotText) × IsNoText bytes place) ⊎ IsRefused bytes place cause
@@ -76,8 +76,12 @@ refused_is bytes tokens rest text cut refused =
     by_rest bytes (place_of (length bytes) rest) rest
     (record { text = text; tokens = tokens; rest = rest; cut = cut; refused = refused; place_is = refl; cause_is = refl })
 
--- ---- a tree that was read has no gaps
+-- ---- a tree that was read
 
-pub reads_filled : ScriptsAreFilled → (bytes : List ℕ) (result : Result Tree ScriptFault) → Reads bytes result → IfOk result IsFilled
-reads_filled filled bytes (Ok tree) h = filled tree h.tokens h.script
-reads_filled filled bytes (Err fault) h = tt
+pub spells_cut : ScriptsAreFilled → (bytes : List ℕ) (tokens : List Token) (tree : Tree) → IsUtf8 bytes → AreTokens (length bytes) bytes tokens → refusal.IsRead tree tokens → SpellsCut bytes tree
+spells_cut filled bytes tokens tree text cut read = record {
+  whole = read.whole;
+  spells = record { text = text; tokens = tokens; cut = cut; script = read.script };
+  filled = filled read.whole tokens read.script;
+  kept = read.kept;
+}

@@ -4,6 +4,9 @@ use Rattle.std.specs.Str.{IsUtf8, IsValidUpTo}
 use Rattle.script_tokens.specs.declared.token.Token.{Token}
 use Rattle.script_tokens.specs.Tokens.{AreTokens, is_bad}
 use Rattle.script_grammar.specs.declared.tree.Tree.{Tree}
+use Rattle.script_grammar.specs.Bounds.{cut_lists}
+use Rattle.script_grammar.specs.Cut.{kept_tree}
+use Rattle.script_grammar.specs.Filled.{IsFilled}
 use Rattle.script_grammar.specs.Grammar.{IsScript}
 use Rattle.script_grammar.specs.Refusal.{Refuses}
 use Rattle.script_grammar.specs.declared.fault.ScriptCause.{ScriptCause}
@@ -62,9 +65,16 @@ abbrev pub FaultIs : List ℕ → ScriptFault → Type 0
 FaultIs bytes (Bad place cause) = IsFault bytes place cause
 FaultIs bytes NoMemory = Unit {0}
 
--- the tree that the bytes spell, or their fault, unless there was no memory
+-- the tree is the one that the bytes spell, of which the lists are cut; that one has no gaps
+pub record SpellsCut (bytes : List ℕ) (tree : Tree) : Type 0 where
+  pub whole : Tree
+  pub spells : Spells bytes whole
+  pub filled : IsFilled whole
+  pub kept : tree ≡ kept_tree cut_lists whole
+
+-- the tree that the bytes spell, with its lists cut, or their fault, unless there was no memory
 abbrev pub Reads : List ℕ → Result Tree ScriptFault → Type 0
-Reads bytes (Ok tree) = Spells bytes tree
+Reads bytes (Ok tree) = SpellsCut bytes tree
 Reads bytes (Err fault) = FaultIs bytes fault
 
 -- bytes spell one tree at the most, and none where they have a fault

@@ -1,8 +1,7 @@
 //! Reading a script.
-ghost use Rattle.std.specs.Prelude.{◌≡◌, length, IfOk};
+ghost use Rattle.std.specs.Prelude.{◌≡◌, length};
 ghost use Rattle.std.specs.Str.{IsUtf8};
 ghost use Rattle.script_tokens.specs.Tokens.{AreTokens};
-ghost use Rattle.script_grammar.specs.Filled.{IsFilled};
 ghost use Rattle.script_reader.specs.Spells.{Reads, OneTree, NoBoth, OneFault, place_of, cause_of};
 ghost use Rattle.script_grammar.specs.declared.fault.ScriptFault.TheVariants.{Bad};
 
@@ -37,6 +36,7 @@ fn whole_answer(alloc: Global, bytes: &[u8], tokens: &mut Tokens<'_>) -> Result<
     requires cut { AreTokens (length bytes.now) bytes.now tokens.old }
     ensures { Reads bytes.now result }
 {
+    script_grammar::filled_law();
     match tree_at(alloc, tokens) {
         Ok(tree) => Ok(tree),
         Err(Stop::NoMemory) => Err(ScriptFault::NoMemory),
@@ -56,12 +56,11 @@ fn read_text(alloc: Global, bytes: &[u8]) -> Result<Tree, ScriptFault>
 
 /// The tree that the bytes spell. Otherwise `NotText` behind the longest UTF-8 front where they are no text, and else
 /// the first token at which no continuation is a script: `BadToken` where no token begins there, and `BadSyntax`
-/// otherwise. The tree has no gaps.
+/// otherwise. Of a term the tree keeps no leaf that lies behind the 65th, and of a print no item that lies behind the
+/// 17th. The whole tree has no gaps.
 pub fn read_script(alloc: Global, bytes: &[u8]) -> Result<Tree, ScriptFault>
-    ensures reads { Reads bytes.now result }
-    ensures filled { IfOk result IsFilled }
+    ensures { Reads bytes.now result }
 {
-    script_grammar::filled_law();
     match std::str::from_utf8(bytes) {
         Ok(_) => read_text(alloc, bytes),
         Err(e) => Err(ScriptFault::Bad {

@@ -3,8 +3,8 @@
 use crate::given::{INT, joined};
 use join_base::{NoMemory, Sort};
 use script_grammar::{
-    ActorDecl, FieldDecl, ItemDecl, LeafDecl, MessageDecl, OperandDecl, Part, PatternDecl,
-    RuleDecl, Spelt, StatementDecl, Tree,
+    ActorDecl, FieldDecl, ItemDecl, LeafDecl, MessageDecl, OperandDecl, OperandRef, Part,
+    PatternDecl, RuleDecl, Spelt, StatementDecl, Tree,
 };
 use script_reader::read_script;
 use std::alloc::Global;
@@ -85,24 +85,23 @@ fn are_leaves(leaves: &[LeafDecl]) -> bool {
     }
 }
 
+fn is_text(operand: OperandRef<'_>, text: &[u8], start: u64) -> bool {
+    match operand {
+        OperandRef::Fixed { place, words } => place == start && words.bytes() == text,
+        _ => false,
+    }
+}
+
+fn is_number(operand: OperandRef<'_>, number: i64, start: u64) -> bool {
+    match operand {
+        OperandRef::Number { place, value } => place == start && value == number,
+        _ => false,
+    }
+}
+
 fn are_operands(operands: &[OperandDecl]) -> bool {
     match operands {
-        [
-            OperandDecl::Fixed { place, words },
-            OperandDecl::Sum {
-                place: begin,
-                leaves,
-            },
-        ] => {
-            *place == 139
-                && words.bytes() == b"k".as_slice()
-                && *begin == 144
-                && leaves.len() == 1
-                && leaves
-                    .as_slice()
-                    .iter()
-                    .all(|leaf| is_leaf(leaf, 144, false, Some(3)))
-        }
+        [text, three] => is_text(text.seen(), b"k", 139) && is_number(three.seen(), 3, 144),
         _ => false,
     }
 }
@@ -170,11 +169,7 @@ fn is_reply(statement: &StatementDecl, places: [u64; 3], number: i64) -> bool {
     else {
         return false;
     };
-    let operand_place = match operand {
-        OperandDecl::Fixed { place, .. } => *place,
-        OperandDecl::Sum { place, .. } => *place,
-    };
-    [*place, *number_place, operand_place] == places && *pattern == number
+    [*place, *number_place, operand.start()] == places && *pattern == number
 }
 
 fn are_replies(body: &[StatementDecl]) -> bool {

@@ -1,14 +1,13 @@
-use Rattle.std.proofs.Common.{◌≡◌, ◌<◌, length, refl, sym, ◌∙◌, rules}
+use Rattle.std.proofs.Common.{◌≡◌, ◌<◌, length, sym, ◌∙◌, rules}
 use Rattle.std.proofs.lemmas.Result.{err_from_is_err_and}
-use Rattle.script_grammar.proofs.StatementLemmas.{declaration_shortens}
-use Rattle.script_grammar.proofs.DeclarationLemmas.{begins_none, begins_more, begins_other, begins_empty, begins_script, declaration_stops}
+use Rattle.script_grammar.proofs.DeclarationLemmas.{kept_shortens, begins_none, begins_more, begins_other, begins_empty, begins_script, declaration_stops}
 use Rattle.script_grammar.proofs.script.tree_at.Goals as goal
 
 pub list-init : goal.list-init
 list-init c = begins_none _ c.args.tokens.now (search rules) (search rules)
 
 pub list-smaller : goal.list-smaller
-list-smaller c = declaration_shortens c.list.tokens c.in_ok-declaration_at.ensures.0 c.declaration_at.new.tokens c.in_ok-declaration_at.ensures.1
+list-smaller c = kept_shortens c.list.tokens c.in_ok-declaration_at.ensures.0 c.declaration_at.new.tokens c.in_ok-declaration_at.ensures.1
 
 pub list-preserved : goal.list-preserved
 list-preserved c =
