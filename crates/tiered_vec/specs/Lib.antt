@@ -1,0 +1,2 @@
+-- What private functions speak of: the numbers in blocks.
+pub mod Tiers

@@ -1,41 +1,62 @@
-//! A list of numbers, from the middle of which one goes out cheaply.
+//! A list of numbers, out of whose middle one goes at a cost that stays small however many there are: a tiered vector
+//! (Goodrich and Kloss, "Tiered Vectors", 1999).
+//!
+//! `TieredVec::new` has no number and takes no memory. `push_back` puts one at the end, `at` reads one, and `remove`
+//! takes one out. In numbers that rise, `first_from` finds the first that is at least so great.
+//!
+//! The numbers stand in blocks, each of which is a ring buffer. All blocks but the first and the last have 2048 of
+//! them, so that a place is found by one division. Where a number goes out, the shorter side of its own block moves, and
+//! of each block before it one number moves to the next. A block whose last number goes is given back.
+//!
+//! A contract sees a `TieredVec` as the list of its numbers, and the proof the blocks (specs/Tiers).
+//! Not claimed: what a call costs.
 #![tactic(auto)]
 
 ghost use Rattle.std.specs.Prelude.{ℕ, ◌≡◌, ◌<◌, ◌≤◌, ◌++◌, ◌∷◌, [], List, length, slice_index, OnOk, OnErr};
-ghost use Rattle.std.specs.List.{remove};
+ghost use Rattle.std.specs.List.{concat, remove};
+ghost use Rattle.tiered_vec.specs.Tiers.{IsBegun, IsTiered};
 
+mod block;
+mod tiers;
+
+use block::Block;
 use join_base::NoMemory;
 use std::alloc::Global;
-use std::collections::VecDeque;
 use std::marker::Model;
+use tiers::{block_from, drop_empty, numbers_before, place_in, push_in, remove_in};
 
 /// A list of numbers. A contract sees the list.
 #[derive(Drop)]
 pub struct TieredVec {
-    numbers: VecDeque<u32>,
+    blocks: Vec<Block>,
+    len: usize,
 }
 
 impl Model for TieredVec {
     ghost Value = { List ℕ };
 
-    ghost view = { λ v. v.numbers.items };
+    ghost view = { λ v. concat v.blocks.items };
+
+    ghost invariant = { λ v. (v.len ≡ length (concat v.blocks.items)) × (IsTiered v.blocks.items × IsBegun v.blocks.items) };
 }
 
 impl TieredVec {
-    /// A list without a number.
+    /// A list without a number. It takes no memory.
     pub fn new(alloc: Global) -> TieredVec
         ensures { result ≡ [] }
     {
         TieredVec {
-            numbers: VecDeque::new(alloc),
+            blocks: Vec::new(alloc),
+            len: 0,
         }
     }
 
     /// How many numbers there are.
+    #[inline]
     pub fn len(&self) -> usize
         ensures { result ≡ length self.now }
     {
-        self.numbers.len()
+        self.len
     }
 
     /// The number at a place.
@@ -43,7 +64,8 @@ impl TieredVec {
         requires { place < length self.now }
         ensures { result ≡ slice_index self.now place }
     {
-        self.numbers[place]
+        let at = place_in(&self.blocks, place);
+        self.blocks[at.block].at(at.within)
     }
 
     /// Puts a number at the end.
@@ -51,7 +73,11 @@ impl TieredVec {
         ensures ok { OnOk result (self.new ≡ self.old ++ number ∷ []) }
         ensures err { OnErr result (self.new ≡ self.old) }
     {
-        self.numbers.push_back(number)?;
+        let Some(len) = self.len.checked_add(1) else {
+            return Err(NoMemory);
+        };
+        push_in(&mut self.blocks, alloc, number)?;
+        self.len = len;
         Ok(())
     }
 
@@ -60,7 +86,10 @@ impl TieredVec {
         requires within { place < length self.old }
         ensures { self.new ≡ remove self.old place }
     {
-        let _ = self.numbers.remove(place);
+        let at = place_in(&self.blocks, place);
+        remove_in(&mut self.blocks, at);
+        drop_empty(&mut self.blocks);
+        self.len -= 1;
     }
 
     /// In numbers that rise, the first place whose number is at least so great, or the end.
@@ -70,10 +99,11 @@ impl TieredVec {
         ensures less { (i : ℕ) → i < result → slice_index self.now i < number }
         ensures reached { result < length self.now → number ≤ slice_index self.now result }
     {
-        let mut place = 0;
-        while place < self.numbers.len() && self.numbers[place] < number {
-            place += 1;
+        let len = self.len();
+        let block = block_from(&self.blocks, number);
+        if block == self.blocks.len() {
+            return len;
         }
-        place
+        numbers_before(&self.blocks, block) + self.blocks[block].first_from(number)
     }
 }

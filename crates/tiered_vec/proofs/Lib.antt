@@ -1,0 +1,11 @@
+-- The lemmas by topic:
+-- - blocks joined end to end, and a place in one of them: ConcatLemmas
+-- - blocks of equal length, and where a place of the whole list stands: FullLemmas
+-- - a number behind the others: PushLemmas
+-- - a number goes out, and one of each block before it moves: ShiftLemmas
+-- - the first number that is at least so great: FoundLemmas
+pub mod ConcatLemmas
+pub mod FullLemmas
+pub mod PushLemmas
+pub mod ShiftLemmas
+pub mod FoundLemmas
