@@ -48,7 +48,7 @@ pushed_behind bs new b count len number h begun is some read size full made =
 
 -- ---- the last block
 
-tiered_set : (bs : List (List ℕ)) (k : ℕ) (x : List ℕ) → IsTiered bs → suc k ≡ length bs → 0 < length x → length x ≤ 2048 → IsTiered (set bs k x)
+pub tiered_set : (bs : List (List ℕ)) (k : ℕ) (x : List ℕ) → IsTiered bs → suc k ≡ length bs → 0 < length x → length x ≤ 2048 → IsTiered (set bs k x)
 tiered_set bs k x h last some few = record {
   filled = λ i behind inside. ⊎_elim
       (λ e. rw e (rw (get_or-set_same bs k x [] (omega (arith, last))) some))
@@ -61,7 +61,7 @@ tiered_set bs k x h last some few = record {
   full = λ i behind inside. rw (get_or-set_other bs k i x [] (λ e. absurd (omega (arith, e, inside, last, length-set bs k x)))) (h.full i behind (omega (arith, inside, length-set bs k x)));
 }
 
-begun_set : (bs : List (List ℕ)) (k : ℕ) (x : List ℕ) → IsBegun bs → 0 < length x → IsBegun (set bs k x)
+pub begun_set : (bs : List (List ℕ)) (k : ℕ) (x : List ℕ) → IsBegun bs → 0 < length x → IsBegun (set bs k x)
 begun_set [] k x h some inside = absurd (omega (arith, inside))
 begun_set (b ∷ bs) zero x h some inside = some
 begun_set (b ∷ bs) (suc k) x h some inside = h (omega arith)

@@ -1,6 +1,6 @@
 -- Numbers in blocks of equal length, of which the first and the last may have fewer.
 use Rattle.std.specs.Prelude.{◌≡◌, ℕ, suc, ◌<◌, ◌≤◌, List, [], ◌∷◌, ◌++◌, length, take, drop, get_or}
-use Rattle.std.specs.List.{concat}
+use Rattle.std.specs.List.{concat, remove}
 
 abbrev pub block_at : List (List ℕ) → ℕ → List ℕ
 block_at blocks i = get_or blocks i []
@@ -34,5 +34,11 @@ pub record IsShifted (old new : List (List ℕ)) (to number : ℕ) : Type 0 wher
 -- the number stands behind the others, in blocks as before
 pub record IsPushed (old new : List (List ℕ)) (number : ℕ) : Type 0 where
   pub list : concat new ≡ concat old ++ number ∷ []
+  pub tiered : IsTiered new
+  pub begun : IsBegun new
+
+-- the number at a place of the whole list is out, in blocks as before
+pub record IsTaken (old new : List (List ℕ)) (place : ℕ) : Type 0 where
+  pub list : concat new ≡ remove (concat old) place
   pub tiered : IsTiered new
   pub begun : IsBegun new

@@ -5,8 +5,9 @@
 //! takes one out. In numbers that rise, `first_from` finds the first that is at least so great.
 //!
 //! The numbers stand in blocks, each of which is a ring buffer. All blocks but the first and the last have 2048 of
-//! them, so that a place is found by one division. Where a number goes out, the shorter side of its own block moves, and
-//! of each block before it one number moves to the next. A block whose last number goes is given back.
+//! them, so that a place is found by one division. Where a number goes out, the shorter side of its own block moves.
+//! Where that is not the last block, one number of each block before it moves to the next. A block whose last number
+//! goes is given back.
 //!
 //! A contract sees a `TieredVec` as the list of its numbers, and the proof the blocks (specs/Tiers).
 //! Not claimed: what a call costs.
@@ -23,7 +24,7 @@ use block::Block;
 use join_base::NoMemory;
 use std::alloc::Global;
 use std::marker::Model;
-use tiers::{block_from, drop_empty, numbers_before, place_in, push_in, remove_in};
+use tiers::{block_from, numbers_before, place_in, push_in, take_out};
 
 /// A list of numbers. A contract sees the list.
 #[derive(Drop)]
@@ -37,7 +38,8 @@ impl Model for TieredVec {
 
     ghost view = { λ v. concat v.blocks.items };
 
-    ghost invariant = { λ v. (v.len ≡ length (concat v.blocks.items)) × (IsTiered v.blocks.items × IsBegun v.blocks.items) };
+    ghost invariant = { λ v. (v.len ≡ length (concat v.blocks.items))
+        × (IsTiered v.blocks.items × IsBegun v.blocks.items) };
 }
 
 impl TieredVec {
@@ -86,9 +88,7 @@ impl TieredVec {
         requires within { place < length self.old }
         ensures { self.new ≡ remove self.old place }
     {
-        let at = place_in(&self.blocks, place);
-        remove_in(&mut self.blocks, at);
-        drop_empty(&mut self.blocks);
+        take_out(&mut self.blocks, place);
         self.len -= 1;
     }
 

@@ -1,7 +1,7 @@
 //! Blocks of numbers, of which all but the first and the last are full.
 ghost use Rattle.std.specs.Prelude.{ℕ, ◌≡◌, suc, ◌+◌, ◌-◌, ◌<◌, ◌≤◌, ◌^◌, ◌++◌, ◌∷◌, [], List, length, slice_index, OnOk, OnErr};
 ghost use Rattle.std.specs.List.{concat, remove};
-ghost use Rattle.tiered_vec.specs.Tiers.{IsBegun, IsPushed, IsShifted, IsShorter, IsTiered, block_at, count_before};
+ghost use Rattle.tiered_vec.specs.Tiers.{IsBegun, IsPushed, IsShifted, IsShorter, IsTaken, IsTiered, block_at, count_before};
 
 use crate::block::Block;
 use join_base::NoMemory;
@@ -104,8 +104,9 @@ fn shift_to(blocks: &mut Vec<Block>, to: usize) -> u32
     number
 }
 
-/// Takes a number out. Each block before its own gives the last number to the next, so that the first is one shorter.
-pub fn remove_in(blocks: &mut Vec<Block>, at: Place)
+// Takes a number out of a block before the last. Each block before its own gives the last number to the next, so that
+// the first is one shorter.
+fn remove_in(blocks: &mut Vec<Block>, at: Place)
     requires block { at.block < length blocks.old.items }
     requires within { at.within < length (block_at blocks.old.items at.block) }
     requires tiered { IsTiered blocks.old.items }
@@ -122,8 +123,8 @@ pub fn remove_in(blocks: &mut Vec<Block>, at: Place)
     blocks[at.block].replace(at.within, number);
 }
 
-/// Takes the first block out if it is empty.
-pub fn drop_empty(blocks: &mut Vec<Block>)
+// Takes the first block out if it is empty.
+fn drop_empty(blocks: &mut Vec<Block>)
     requires tiered { IsTiered blocks.old.items }
     requires some { 0 < length blocks.old.items }
     ensures same { concat blocks.new.items ≡ concat blocks.old.items }
@@ -133,6 +134,37 @@ pub fn drop_empty(blocks: &mut Vec<Block>)
     if blocks[0].len() == 0 {
         let _ = blocks.remove(0);
     }
+}
+
+// Takes a number out of the last block, with which that goes if it has no other.
+fn remove_last(blocks: &mut Vec<Block>, at: Place)
+    requires block { suc at.block ≡ length blocks.old.items }
+    requires within { at.within < length (block_at blocks.old.items at.block) }
+    requires tiered { IsTiered blocks.old.items }
+    requires begun { IsBegun blocks.old.items }
+    ensures { IsTaken blocks.old.items blocks.new.items (count_before blocks.old.items at.block + at.within) }
+{
+    if blocks[at.block].len() == 1 {
+        let _ = blocks.pop();
+        return;
+    }
+    blocks[at.block].remove(at.within);
+}
+
+/// Takes the number at a place of the whole list out.
+pub fn take_out(blocks: &mut Vec<Block>, place: usize)
+    requires within { place < length (concat blocks.old.items) }
+    requires tiered { IsTiered blocks.old.items }
+    requires begun { IsBegun blocks.old.items }
+    ensures { IsTaken blocks.old.items blocks.new.items place }
+{
+    let at = place_in(blocks, place);
+    if at.block + 1 == blocks.len() {
+        remove_last(blocks, at);
+        return;
+    }
+    remove_in(blocks, at);
+    drop_empty(blocks);
 }
 
 /// The first block whose last number is at least so great, if the numbers rise: by halves.
