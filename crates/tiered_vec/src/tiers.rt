@@ -7,9 +7,10 @@ use crate::block::Block;
 use join_base::NoMemory;
 use std::alloc::Global;
 
+// How many numbers a block takes: some hundred numbers move in it, and one for each block before it.
 const BLOCK: usize = 2048;
 
-// Most lists are short.
+// The room that a first block begins with, since most lists are short. It grows as numbers come.
 const FIRST_ROOM: usize = 4;
 
 /// A place among blocks: which block, and where in it.
@@ -167,7 +168,7 @@ pub fn take_out(blocks: &mut Vec<Block>, place: usize)
     drop_empty(blocks);
 }
 
-/// The first block whose last number is at least so great, if the numbers rise: by halves.
+/// A block whose last number is at least so great, and behind one whose last is less: by halves.
 pub fn block_from(blocks: &Vec<Block>, number: u32) -> usize
     requires tiered { IsTiered blocks.now.items }
     requires begun { IsBegun blocks.now.items }
