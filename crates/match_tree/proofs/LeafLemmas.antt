@@ -95,6 +95,16 @@ number_missing ns n i rise within parted =
       | inr above ↦ λ e. let more : n < get_or ns k d = ranked (get_or ns k d) n Greater (sym (parts.1 k d above l)) in omega arith
     ])
 
+-- no number is this one, where those before a place are less, and it is less than that at the place
+pub number_passed : (ns : List ℕ) (n i : ℕ) → Rise ns → ((k : ℕ) → k < i → get_or ns k 0 < n) → (i < length ns → n < get_or ns i 0) → AllByRecursion (λ m. m ≢ n) ns
+number_passed ns n i rise less more =
+    from_places (λ m. m ≢ n) ns (λ k d l.
+    let same : get_or ns k d ≡ get_or ns k 0 = get_or_default ns k d 0 l in
+    elim (cases_lt k i) [
+      | inl below ↦ λ e. let before = less k below in omega arith
+      | inr above ↦ λ e. let up = numbers_rise ns i k rise above l in let there = more (omega (arith, above, l)) in omega arith
+    ])
+
 -- none of the numbers is one above the last
 pub last_below : (ns : List ℕ) (n i last : ℕ) → Rise ns → length ns ≡ i + 1 → last ≡ get_or ns i last → last < n → AllByRecursion (λ m. m ≢ n) ns
 last_below ns n i last rise long is less =

@@ -5,7 +5,7 @@ use Rattle.match_tree.specs.Rows.{leaf}
 use Rattle.match_tree.specs.declared.node.Shape.{Shape}
 use Rattle.match_tree.specs.declared.node.Shape.TheVariants.{Leaf, Inner}
 use Rattle.match_tree.specs.declared.row.Nodes.{Nodes}
-use Rattle.match_tree.specs.declared.row.Nodes.TheVariants.{Empty, One, Leaves, Mixed}
+use Rattle.match_tree.specs.declared.row.Nodes.TheVariants.{Empty, One, Leaves, Many, Mixed}
 
 abbrev pub number_of : Shape → ℕ
 number_of (Leaf number) = number
@@ -20,4 +20,5 @@ abbrev pub branches : Nodes → List Branch
 branches Empty = []
 branches (One number) = leaf number ∷ []
 branches (Leaves numbers) = map leaf numbers.value.items
+branches (Many numbers) = map leaf numbers.value
 branches (Mixed nodes) = nodes.value.items

@@ -8,7 +8,7 @@ use Rattle.match_tree.specs.Shapes.{rows_behind, branches}
 use Rattle.match_tree.specs.declared.node.Shape.{Shape}
 use Rattle.match_tree.specs.declared.node.Shape.TheVariants.{Leaf, Inner}
 use Rattle.match_tree.specs.declared.row.Nodes.{Nodes}
-use Rattle.match_tree.specs.declared.row.Nodes.TheVariants.{Empty, One, Leaves, Mixed}
+use Rattle.match_tree.specs.declared.row.Nodes.TheVariants.{Empty, One, Leaves, Many, Mixed}
 use Rattle.match_tree.specs.declared.node.Node.TheDeep.{deep-Shape, deep-Nodes}
 
 module _ (size : Branch → ℕ) (small : (node : Branch) → size node ≤ 2 * length node.routes + 2) where
@@ -33,6 +33,7 @@ pub most_of_nodes : (nodes : Nodes) → max (deep-Nodes nodes) 0 ≤ 2 * length 
 most_of_nodes Empty = omega arith
 most_of_nodes (One number) = omega arith
 most_of_nodes (Leaves numbers) = omega arith
+most_of_nodes (Many numbers) = omega arith
 most_of_nodes (Mixed nodes) = omega (arith, most_of_row (λ node. 2 * length node.routes + 1 + 1) (λ node. omega arith) 0 nodes.value.items)
 
 -- each row behind a node has no more routes than all of them together

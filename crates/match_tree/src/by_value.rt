@@ -268,6 +268,7 @@ fn prune_behind_values(
         Nodes::Empty => 0,
         Nodes::One(_) => 0,
         Nodes::Leaves(_) => 0,
+        Nodes::Many(_) => 0,
         Nodes::Mixed(nodes) => prune_mixed(offer, slots, pattern, nodes, numbers, levels),
     }
 }
@@ -429,6 +430,7 @@ fn take_back_behind(
         Nodes::Empty => 0,
         Nodes::One(_) => 0,
         Nodes::Leaves(_) => 0,
+        Nodes::Many(_) => 0,
         Nodes::Mixed(nodes) => take_back_nodes(offer, slots, pattern, nodes, levels),
     }
 }

@@ -10,6 +10,7 @@ use guard_bound::int_at;
 use join_base::{Message, Steps};
 use std::collections::VecDeque;
 use std::sync::ledger::Ledger;
+use tiered_vec::TieredVec;
 
 /// Whether the number has the key's value. It stands in the loops over waiting messages.
 #[inline(always)]
@@ -66,6 +67,29 @@ fn find_leaf<L: Ledger>(
         return place;
     }
     front.len() + find_in(messages, key, back, 0, steps)
+}
+
+// The same in tiers.
+fn find_in_tiers<L: Ledger>(
+    messages: &[Message],
+    key: Key,
+    leaves: &TieredVec,
+    from: usize,
+    steps: &mut Steps<L>,
+) -> usize
+    requires { from ≤ length leaves.now }
+    ensures from { from ≤ result }
+    ensures within { result ≤ length leaves.now }
+    ensures lacking { AreLacking messages.now (Some key) leaves.now from result }
+    ensures counted { steps.new + from ≡ steps.old + result }
+{
+    for place in from..leaves.len() {
+        if has_value(messages, key, leaves.at(place)) {
+            return place;
+        }
+        steps.tick();
+    }
+    leaves.len()
 }
 
 // The same among nodes.
@@ -128,6 +152,7 @@ fn find_key<L: Ledger>(
 {
     match numbers {
         RowNumbers::Leaves(front, back) => find_leaf(messages, key, front, back, from, steps),
+        RowNumbers::Many(leaves) => find_in_tiers(messages, key, leaves, from, steps),
         RowNumbers::Nodes(nodes) => find_node(messages, key, nodes, from, steps),
     }
 }

@@ -22,6 +22,7 @@ use crate::screen::{Screen, passes_screen, screen_of};
 use guard_bound::{is_same, meets_all};
 use join_base::{Numbers, Slots, Steps};
 use std::sync::ledger::Ledger;
+use tiered_vec::TieredVec;
 use value_index::{IndexedField, ValueIndex, ValueRange, value_at};
 
 /// The place of a field in the index, and the one value that a number of the row has to have there.
@@ -292,8 +293,8 @@ pub fn looked_up<'a>(
     }
 }
 
-// The first place from this one on whose number is at least so great.
-fn place_from(numbers: &RowNumbers<'_>, from: usize, number: u32) -> usize
+// The first place from this one on whose number is at least so great, by halves.
+fn place_by_halves(numbers: &RowNumbers<'_>, from: usize, number: u32) -> usize
     requires rise { Rise (numbers_in numbers.now) }
     requires within { from ≤ length (numbers_in numbers.now) }
     ensures from { from ≤ result }
@@ -312,6 +313,38 @@ fn place_from(numbers: &RowNumbers<'_>, from: usize, number: u32) -> usize
         }
     }
     low
+}
+
+// The same in tiers.
+fn place_in_tiers(leaves: &TieredVec, from: usize, number: u32) -> usize
+    requires rise { Rise leaves.now }
+    requires within { from ≤ length leaves.now }
+    ensures from { from ≤ result }
+    ensures within { result ≤ length leaves.now }
+    ensures less { (i : ℕ) → from ≤ i → i < result → slice_index leaves.now i < number }
+    ensures reached { result < length leaves.now → number ≤ slice_index leaves.now result }
+{
+    let place = leaves.first_from(number);
+    if place < from {
+        return from;
+    }
+    place
+}
+
+// The same in a row of any form.
+fn place_from(numbers: &RowNumbers<'_>, from: usize, number: u32) -> usize
+    requires rise { Rise (numbers_in numbers.now) }
+    requires within { from ≤ length (numbers_in numbers.now) }
+    ensures from { from ≤ result }
+    ensures within { result ≤ length (numbers_in numbers.now) }
+    ensures less { (i : ℕ) → from ≤ i → i < result → slice_index (numbers_in numbers.now) i < number }
+    ensures reached { result < length (numbers_in numbers.now) → number ≤ slice_index (numbers_in numbers.now) result }
+{
+    match numbers {
+        RowNumbers::Leaves(_, _) => place_by_halves(numbers, from, number),
+        RowNumbers::Many(leaves) => place_in_tiers(leaves, from, number),
+        RowNumbers::Nodes(_) => place_by_halves(numbers, from, number),
+    }
 }
 
 // The same in a row. Where few values wait, it is often the place itself.

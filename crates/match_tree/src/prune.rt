@@ -40,6 +40,7 @@ fn count_row(row: &Row, levels: usize) -> u64
         Nodes::Empty => 0,
         Nodes::One(_) => 1,
         Nodes::Leaves(leaves) => leaves.len() as u64,
+        Nodes::Many(leaves) => leaves.len() as u64,
         Nodes::Mixed(nodes) => count_nodes(nodes, levels - 1),
     }
 }
@@ -117,6 +118,10 @@ pub fn remove_at(row: &mut Row, place: usize, levels: usize) -> u64
         }
         Nodes::Leaves(leaves) => {
             remove_leaf(leaves, place);
+            1
+        }
+        Nodes::Many(leaves) => {
+            leaves.remove(place);
             1
         }
         Nodes::Mixed(nodes) => remove_node(nodes, place, levels),
@@ -204,6 +209,7 @@ fn prune_behind(row: &mut Row, numbers: &Numbers, levels: usize) -> u64
         Nodes::Empty => 0,
         Nodes::One(_) => 0,
         Nodes::Leaves(_) => 0,
+        Nodes::Many(_) => 0,
         Nodes::Mixed(nodes) => prune_nodes(nodes, numbers, levels),
     }
 }

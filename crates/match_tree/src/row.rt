@@ -3,13 +3,16 @@ ghost use Rattle.std.specs.Prelude.{◌≡◌, ◌≢◌, ◌<◌, ◌≤◌, �
 ghost use Rattle.std.specs.List.{AllByRecursion};
 ghost use Rattle.match_tree.specs.Routes.{rows_routes};
 ghost use Rattle.match_tree.specs.Order.{Rise};
+ghost use Rattle.match_tree.specs.RowNumbers.{numbers_in};
 ghost use Rattle.match_tree.specs.Rows.{leaf, node_at, leads_to};
 
 use crate::node::{Node, Shape};
+use crate::row_numbers::RowNumbers;
 use join_base::NoMemory;
 use std::alloc::Global;
 use std::collections::VecDeque;
 use std::marker::Model;
+use tiered_vec::TieredVec;
 
 /// The nodes of one pattern behind a path, whose numbers rise. A contract sees the list of them.
 #[cycle(nodes)]
@@ -18,16 +21,21 @@ pub struct Row {
     pub nodes: Nodes,
 }
 
-/// A leaf is no more than its number: one stands in place, and several stand in a ring buffer of numbers. The other
-/// nodes have rows of their own, and where there is one among them, all are nodes.
+/// A leaf is no more than its number: one stands in place, several stand in a ring buffer of numbers, and many in tiers,
+/// out of whose middle one goes without moving half of them. The other nodes have rows of their own, and where there is
+/// one among them, all are nodes.
 #[cycle(nodes)]
 #[derive(Drop)]
 pub enum Nodes {
     Empty,
     One(u32),
     Leaves(Box<VecDeque<u32>>),
+    Many(Box<TieredVec>),
     Mixed(Box<VecDeque<Node>>),
 }
+
+// A ring buffer of so many leaves gives one from its middle as quickly as tiers do.
+const FEW: usize = 2048;
 
 // Each node but a leaf has a row for each pattern, and most of them have no node or one.
 const _: () = prove!(size_of::<Row>() <= 16);
@@ -73,6 +81,7 @@ impl Row {
             Nodes::Empty => 0,
             Nodes::One(_) => 1,
             Nodes::Leaves(leaves) => leaves.len(),
+            Nodes::Many(leaves) => leaves.len(),
             Nodes::Mixed(nodes) => nodes.len(),
         }
     }
@@ -87,6 +96,7 @@ impl Row {
             Nodes::Empty => 0,
             Nodes::One(number) => *number,
             Nodes::Leaves(leaves) => leaves[place],
+            Nodes::Many(leaves) => leaves.at(place),
             Nodes::Mixed(nodes) => nodes[place].number(),
         }
     }
@@ -101,6 +111,7 @@ impl Row {
             Nodes::Empty => None,
             Nodes::One(only) => place_of_one(*only, number),
             Nodes::Leaves(leaves) => place_of_leaf(leaves, number),
+            Nodes::Many(leaves) => place_of_tiered(leaves, number),
             Nodes::Mixed(nodes) => place_of_node(nodes, number),
         }
     }
@@ -120,7 +131,15 @@ impl Row {
                 self.nodes = Nodes::Leaves(leaves);
                 Ok(())
             }
-            Nodes::Leaves(leaves) => push_number(leaves, number),
+            Nodes::Leaves(leaves) => {
+                if leaves.len() < FEW {
+                    return push_number(leaves, number);
+                }
+                let many = many_leaves(alloc, leaves, number)?;
+                self.nodes = Nodes::Many(many);
+                Ok(())
+            }
+            Nodes::Many(leaves) => leaves.push_back(alloc, number),
             Nodes::Mixed(nodes) => push_node(nodes, number),
         }
     }
@@ -147,13 +166,17 @@ impl Row {
                 Ok(())
             }
             Nodes::Leaves(leaves) => {
-                let nodes = nodes_with(alloc, leaves, place, rows)?;
+                let nodes = leaves_with(alloc, leaves, place, rows)?;
+                self.nodes = Nodes::Mixed(nodes);
+                Ok(())
+            }
+            Nodes::Many(leaves) => {
+                let nodes = tiers_with(alloc, leaves, place, rows)?;
                 self.nodes = Nodes::Mixed(nodes);
                 Ok(())
             }
             Nodes::Mixed(nodes) => {
-                let node = &mut nodes[place];
-                node.put_behind(rows);
+                put_behind_node(nodes, place, rows);
                 Ok(())
             }
         }
@@ -200,6 +223,22 @@ fn place_of_leaf(leaves: &VecDeque<u32>, number: u32) -> Option<usize>
     place_among(leaves, number)
 }
 
+// The same in tiers.
+fn place_of_tiered(leaves: &TieredVec, number: u32) -> Option<usize>
+    requires { Rise leaves.now }
+    ensures { MatchOption result (AllByRecursion (λ n. n ≢ number) leaves.now) (λ i. (i < length leaves.now)
+        × ((d : _) → slice_index_or leaves.now i d ≡ number)) }
+{
+    let place = leaves.first_from(number);
+    if place == leaves.len() {
+        return None;
+    }
+    if leaves.at(place) != number {
+        return None;
+    }
+    Some(place)
+}
+
 // The place of the node with the number among nodes whose numbers rise, by halves.
 fn place_among_nodes(nodes: &VecDeque<Node>, number: u32) -> Option<usize>
     requires { Rise (map (λ node. node.number) nodes.now.items) }
@@ -239,6 +278,24 @@ fn two_leaves(alloc: Global, first: u32, second: u32) -> Result<Box<VecDeque<u32
     Ok(Box::new(alloc, leaves)?)
 }
 
+// The leaves and one more in tiers. It is seldom called, and stands apart so that a push takes few instructions.
+#[cold]
+#[inline(never)]
+fn many_leaves(
+    alloc: Global,
+    leaves: &VecDeque<u32>,
+    number: u32,
+) -> Result<Box<TieredVec>, NoMemory>
+    ensures { IfOk result (λ many. many.value ≡ leaves.now.items ++ number ∷ []) }
+{
+    let mut many = TieredVec::new(alloc);
+    for place in 0..leaves.len() {
+        many.push_back(alloc, leaves[place])?;
+    }
+    many.push_back(alloc, number)?;
+    Ok(Box::new(alloc, many)?)
+}
+
 fn push_number(leaves: &mut VecDeque<u32>, number: u32) -> Result<(), NoMemory>
     ensures ok { OnOk result (leaves.new.items ≡ leaves.old.items ++ number ∷ []) }
     ensures err { OnErr result (leaves.new.items ≡ leaves.old.items) }
@@ -253,6 +310,17 @@ fn push_node(nodes: &mut VecDeque<Node>, number: u32) -> Result<(), NoMemory>
 {
     nodes.push_back(Node::leaf(number))?;
     Ok(())
+}
+
+// Puts rows behind the node at the place.
+fn put_behind_node(nodes: &mut VecDeque<Node>, place: usize, rows: Box<Vec<Row>>)
+    requires within { place < length nodes.old.items }
+    requires few { length rows.value.items ≤ 8 }
+    ensures { nodes.new.items ≡ slice_set nodes.old.items place (leads_to (node_at nodes.old.items place)
+        (rows_routes 0 rows.value.items)) }
+{
+    let node = &mut nodes[place];
+    node.put_behind(rows);
 }
 
 // The one node with the number and these rows.
@@ -271,19 +339,36 @@ fn one_node(
     Ok(Box::new(alloc, nodes)?)
 }
 
-// The leaves as nodes.
-fn nodes_of(alloc: Global, leaves: &VecDeque<u32>) -> Result<VecDeque<Node>, NoMemory>
-    ensures { IfOk result (λ nodes. nodes.items ≡ map leaf leaves.now.items) }
+// The leaves with the numbers as nodes.
+fn nodes_of(alloc: Global, numbers: &RowNumbers<'_>) -> Result<VecDeque<Node>, NoMemory>
+    ensures { IfOk result (λ nodes. nodes.items ≡ map leaf (numbers_in numbers.now)) }
 {
-    let mut nodes = VecDeque::with_capacity(alloc, leaves.len())?;
-    for place in 0..leaves.len() {
-        nodes.push_back(Node::leaf(leaves[place]))?;
+    let mut nodes = VecDeque::with_capacity(alloc, numbers.len())?;
+    for place in 0..numbers.len() {
+        nodes.push_back(Node::leaf(numbers.at(place)))?;
     }
     Ok(nodes)
 }
 
-// The leaves as nodes, of which that at the place has these rows.
+// The leaves with the numbers as nodes, of which that at the place has these rows.
 fn nodes_with(
+    alloc: Global,
+    numbers: &RowNumbers<'_>,
+    place: usize,
+    rows: Box<Vec<Row>>,
+) -> Result<Box<VecDeque<Node>>, NoMemory>
+    requires within { place < length (numbers_in numbers.now) }
+    requires few { length rows.value.items ≤ 8 }
+    ensures { IfOk result (λ nodes. nodes.value.items ≡ slice_set (map leaf (numbers_in numbers.now)) place
+        (leads_to (node_at (map leaf (numbers_in numbers.now)) place) (rows_routes 0 rows.value.items))) }
+{
+    let mut nodes = nodes_of(alloc, numbers)?;
+    put_behind_node(&mut nodes, place, rows);
+    Ok(Box::new(alloc, nodes)?)
+}
+
+// The same of leaves in a ring buffer.
+fn leaves_with(
     alloc: Global,
     leaves: &VecDeque<u32>,
     place: usize,
@@ -294,8 +379,21 @@ fn nodes_with(
     ensures { IfOk result (λ nodes. nodes.value.items ≡ slice_set (map leaf leaves.now.items) place
         (leads_to (node_at (map leaf leaves.now.items) place) (rows_routes 0 rows.value.items))) }
 {
-    let mut nodes = nodes_of(alloc, leaves)?;
-    let node = &mut nodes[place];
-    node.put_behind(rows);
-    Ok(Box::new(alloc, nodes)?)
+    let (front, back) = leaves.as_slices();
+    nodes_with(alloc, &RowNumbers::Leaves(front, back), place, rows)
+}
+
+// The same of leaves in tiers.
+fn tiers_with(
+    alloc: Global,
+    leaves: &TieredVec,
+    place: usize,
+    rows: Box<Vec<Row>>,
+) -> Result<Box<VecDeque<Node>>, NoMemory>
+    requires within { place < length leaves.now }
+    requires few { length rows.value.items ≤ 8 }
+    ensures { IfOk result (λ nodes. nodes.value.items ≡ slice_set (map leaf leaves.now) place
+        (leads_to (node_at (map leaf leaves.now) place) (rows_routes 0 rows.value.items))) }
+{
+    nodes_with(alloc, &RowNumbers::Many(leaves), place, rows)
 }

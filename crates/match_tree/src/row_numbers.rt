@@ -6,12 +6,14 @@ use crate::node::Node;
 use crate::row::{Nodes, Row};
 use std::collections::VecDeque;
 use std::slice;
+use tiered_vec::TieredVec;
 
 /// The numbers of a row's nodes. A loop over them doesn't look at the form of the row again.
 #[derive(Clone, Copy)]
 pub enum RowNumbers<'a> {
     /// Leaves, in the two parts of their ring buffer.
     Leaves(&'a [u32], &'a [u32]),
+    Many(&'a TieredVec),
     Nodes(&'a VecDeque<Node>),
 }
 
@@ -27,6 +29,7 @@ impl<'a> RowNumbers<'a> {
                 let (front, back) = leaves.as_slices();
                 RowNumbers::Leaves(front, back)
             }
+            Nodes::Many(leaves) => RowNumbers::Many(leaves),
             Nodes::Mixed(nodes) => RowNumbers::Nodes(nodes),
         }
     }
@@ -38,6 +41,7 @@ impl<'a> RowNumbers<'a> {
     {
         match self {
             RowNumbers::Leaves(front, back) => front.len() + back.len(),
+            RowNumbers::Many(leaves) => leaves.len(),
             RowNumbers::Nodes(nodes) => nodes.len(),
         }
     }
@@ -50,6 +54,7 @@ impl<'a> RowNumbers<'a> {
     {
         match self {
             RowNumbers::Leaves(front, back) => leaf_at(front, back, place),
+            RowNumbers::Many(leaves) => leaves.at(place),
             RowNumbers::Nodes(nodes) => nodes[place].number(),
         }
     }

@@ -319,6 +319,17 @@ pub fn contains(patterns: &Numbers, wanted: u32) -> bool
     false
 }
 
+/// Whether there is no pattern but for this one.
+#[inline]
+pub fn is_only(patterns: &Numbers, pattern: u32) -> bool
+    ensures { result ≡ true → filter (λ p. not (p == pattern)) patterns.now ≡ [] }
+{
+    if let [only] = patterns.as_slice() {
+        return *only == pattern;
+    }
+    false
+}
+
 /// The patterns but for one.
 pub fn without(patterns: &Numbers, left_out: u32) -> Numbers
     ensures { result ≡ filter (λ p. not (p == left_out)) patterns.now }

@@ -20,7 +20,7 @@ use crate::offer::Offer;
 use crate::place_set::PlaceSet;
 use crate::row::{Nodes, Row};
 use crate::screen::{left_to_ask, next_place, screen_of};
-use crate::trial::{best_match, takers, without};
+use crate::trial::{best_match, is_only, takers, without};
 use join_base::{NoMemory, Numbers, Slots, Steps};
 use pattern_core::{Candidate, better};
 use std::alloc::Global;
@@ -136,7 +136,7 @@ fn sees(offer: &Offer<'_>, number: u32) -> bool
 }
 
 // Offers the number to the paths of a row's nodes. Most rows have none or one: these need no screen, which takes its
-// time to make.
+// time to make. Of the others many are those of the one pattern that may take the number: there nothing is wanted.
 #[cycle(visit)]
 fn visit_row<L: Ledger>(
     alloc: Global,
@@ -169,6 +169,9 @@ fn visit_row<L: Ledger>(
 {
     let end = row.len();
     if end == 0 {
+        return Ok(None);
+    }
+    if is_only(able, pattern) {
         return Ok(None);
     }
     let wanted = without(able, pattern);
@@ -329,6 +332,9 @@ fn visit_at<L: Ledger>(
             alloc, offer, slots, asked, wanted, row, place, count, steps,
         ),
         Nodes::Leaves(_) => visit_leaf_at(
+            alloc, offer, slots, asked, wanted, row, place, count, steps,
+        ),
+        Nodes::Many(_) => visit_leaf_at(
             alloc, offer, slots, asked, wanted, row, place, count, steps,
         ),
         Nodes::Mixed(nodes) => {

@@ -25,6 +25,8 @@ use denote.Model.Cut.{split_one}
 use denote.Model.Local.{Parts, rows}
 use Rattle.match_tree.specs.declared.node.Node.TheDeep.{the_members, member-Node, member-Row, split-Shape, join-Shape, joins-Shape, split-Node, join-Node, joins-Node, split-Nodes, join-Nodes, joins-Nodes, split-Row, join-Row, joins-Row}
 use Rattle.match_tree.specs.contracts.node.Node.TheKnot as knot
+use Rattle.tiered_vec.proofs.CrossLemmas.{tiered-send}
+use Rattle.tiered_vec.specs.contracts.TieredVec as TieredVec
 use Rattle.match_tree.specs.contracts.row.Row as Row
 use Rattle.std.specs.contracts.vec.Vec as Vec
 use Rattle.std.specs.contracts.collections.VecDeque as VecDeque
@@ -94,13 +96,14 @@ shape-layer-send R s =
     let boxed = as_row_send (row_field (Box.the_row (Vec.the_row R Global.the_row ghosts) Global.the_row ghosts)) (box-send _ (vec-send R s)) in
     variants_send (knot.type-Shape R) ((number, tt), ((number, (boxed, tt)), tt))
 
--- a row has nothing, a number, numbers, or nodes
+-- a row has nothing, a number, numbers, many of them in tiers, or nodes
 nodes-layer-send : (R : RattleType) → IsSend R → IsSend (knot.layer-Nodes R)
 nodes-layer-send R s =
     let number : IsSend (as_row (row_field (as_row u32-field))) = as_row_send (row_field (as_row u32-field)) number-send in
     let numbers = as_row_send (row_field (Box.the_row (VecDeque.the_row (as_row u32-field) Global.the_row ghosts) Global.the_row ghosts)) (box-send _ (deque-send _ number-send)) in
     let boxed = as_row_send (row_field (Box.the_row (VecDeque.the_row R Global.the_row ghosts) Global.the_row ghosts)) (box-send _ (deque-send R s)) in
-    variants_send (knot.type-Nodes R) (tt, ((number, tt), ((numbers, tt), ((boxed, tt), tt))))
+    let tiers = as_row_send (row_field (Box.the_row TieredVec.the_row Global.the_row ghosts)) (box-send _ tiered-send) in
+    variants_send (knot.type-Nodes R) (tt, ((number, tt), ((numbers, tt), ((tiers, tt), ((boxed, tt), tt)))))
 
 shape-send : (p : Parts knot.frame) → IsSend (rows knot.frame p member-Row) → IsSend (knot.at-Shape p)
 shape-send p all =

@@ -12,7 +12,7 @@ use Rattle.match_tree.specs.Pruned.{AreShort, pruned}
 use Rattle.match_tree.specs.Thinned.{AreVisited}
 use Rattle.match_tree.proofs.LeafLemmas.{leaves_kept}
 use Rattle.match_tree.proofs.by_value.take_back_behind.Goals as goal
-use Rattle.match_tree.proofs.by_value.take_back_behind.Goals.{in-Empty, in-One, in-Leaves, in-Mixed}
+use Rattle.match_tree.proofs.by_value.take_back_behind.Goals.{in-Empty, in-One, in-Leaves, in-Many, in-Mixed}
 
 pub take_back_nodes-requires : goal.take_back_nodes-requires
 take_back_nodes-requires c =
@@ -37,6 +37,7 @@ returns-clause-left c =
       | in-Empty w ↦ ap seen w.row-inside-is ∙ c.row.view_is ∙ leaves_kept numbers [] row (sym c.row.view_is ∙ ap branches w.in-Empty.is)
       | in-One w ↦ ap seen w.row-inside-is ∙ c.row.view_is ∙ leaves_kept numbers (w.in-One.field-0 ∷ []) row (sym c.row.view_is ∙ ap branches w.in-One.is)
       | in-Leaves w ↦ ap seen w.row-inside-is ∙ c.row.view_is ∙ leaves_kept numbers w.in-Leaves.field-0.value.items row (sym c.row.view_is ∙ ap branches w.in-Leaves.is)
+      | in-Many w ↦ ap seen w.row-inside-is ∙ c.row.view_is ∙ leaves_kept numbers w.in-Many.field-0.value row (sym c.row.view_is ∙ ap branches w.in-Many.is)
       | in-Mixed w ↦
           let is : w.deref_mut.result.now.items ≡ row = ap (λ (v : VecDeque Node Global). v.items) w.deref_mut.ensures.value ∙ sym (ap branches w.in-Mixed.is) ∙ c.row.view_is in
           ap seen w.row-inside-is ∙ w.take_back_nodes.ensures.left ∙ ap (map (pruned numbers)) is

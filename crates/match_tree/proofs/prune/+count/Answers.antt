@@ -48,6 +48,13 @@ count_row-returns-then-levels-le1 t c =
     let all = leaves_count a.levels 0 a.row.now c.if-levels-le1.true c.requires.sound.ordered (short_below a.levels 0 a.row.now c.requires.short) in
     omega (arith, c.len.ensures)
 
+pub count_row-returns-in-Many : goal.count_row-returns-in-Many
+count_row-returns-in-Many t c =
+    let leaves : List ℕ = c.in-Many.leaves.value in
+    let is : map leaf leaves ≡ c.args.row.now = sym (ap branches c.in-Many.is) ∙ c.row.view_is in
+    let count = ap (λ (row : List Branch). length (row_routes 0 row)) is in
+    omega (arith, c.len-in-Many.ensures, ap (λ (ns : List ℕ). length ns) c.deref-in-Many.ensures, leaf_count leaves, count)
+
 pub count_row-returns-in-Leaves : goal.count_row-returns-in-Leaves
 count_row-returns-in-Leaves t c =
     let leaves = c.in-Leaves.leaves.value in

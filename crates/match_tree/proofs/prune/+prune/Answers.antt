@@ -22,7 +22,7 @@ use Rattle.match_tree.specs.Order.{Rise}
 use Rattle.match_tree.proofs.PruneLemmas.{row_count, short_below, pruned_row, pruned_leaves, pruned_up_to, all_filtered, all_rows, rising_behind, rising_below, rising_row, short_row}
 use Rattle.match_tree.proofs.CountLemmas.{counts_parts, counts_steps, counts_row}
 use Rattle.match_tree.proofs.prune.+prune.Goals as goal
-use Rattle.match_tree.proofs.prune.+prune.Goals.{prune_behind-in-Empty, prune_behind-in-One, prune_behind-in-Leaves, prune_behind-in-Mixed}
+use Rattle.match_tree.proofs.prune.+prune.Goals.{prune_behind-in-Empty, prune_behind-in-One, prune_behind-in-Leaves, prune_behind-in-Many, prune_behind-in-Mixed}
 
 pub prune_node-prune_rows-requires : goal.prune_node-prune_rows-requires
 prune_node-prune_rows-requires t c =
@@ -137,6 +137,7 @@ prune_behind-returns-clause-left t c =
       | prune_behind-in-Empty w ↦ ap seen w.row-inside-is ∙ c.row.view_is ∙ leaves_kept numbers [] row (sym c.row.view_is ∙ ap branches w.in-Empty.is)
       | prune_behind-in-One w ↦ ap seen w.row-inside-is ∙ c.row.view_is ∙ leaves_kept numbers (w.in-One.field-0 ∷ []) row (sym c.row.view_is ∙ ap branches w.in-One.is)
       | prune_behind-in-Leaves w ↦ ap seen w.row-inside-is ∙ c.row.view_is ∙ leaves_kept numbers w.in-Leaves.field-0.value.items row (sym c.row.view_is ∙ ap branches w.in-Leaves.is)
+      | prune_behind-in-Many w ↦ ap seen w.row-inside-is ∙ c.row.view_is ∙ leaves_kept numbers w.in-Many.field-0.value row (sym c.row.view_is ∙ ap branches w.in-Many.is)
       | prune_behind-in-Mixed w ↦
           let is : w.deref_mut.result.now.items ≡ row = ap (λ (v : VecDeque Node Global). v.items) w.deref_mut.ensures.value ∙ sym (ap branches w.in-Mixed.is) ∙ c.row.view_is in
           ap seen w.row-inside-is ∙ w.prune_nodes.ensures.left ∙ ap (map (pruned numbers)) is

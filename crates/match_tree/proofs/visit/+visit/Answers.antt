@@ -35,7 +35,7 @@ use Rattle.match_tree.proofs.TrialLemmas.{free_small, outside_behind}
 use Rattle.match_tree.proofs.AskLemmas.{outside_asked}
 use Rattle.match_tree.specs.Trial.{AllStandOutside}
 use Rattle.match_tree.proofs.visit.+visit.Goals as goal
-use Rattle.match_tree.proofs.visit.+visit.Goals.{visit_node-in-Some, visit_node-in_default, visit_nodes-After-visit_at, visit_nodes-In_ok-found, visit_only-After-visit_at, visit_at-After-visit_leaf_at-in-Leaves, visit_rows-After-visit_each, visit_rows-In_ok-best}
+use Rattle.match_tree.proofs.visit.+visit.Goals.{visit_node-in-Some, visit_node-in_default, visit_nodes-After-visit_at, visit_nodes-In_ok-found, visit_only-After-visit_at, visit_at-After-visit_leaf_at-in-Leaves, visit_at-After-visit_leaf_at-in-Many, visit_rows-After-visit_each, visit_rows-In_ok-best}
 use denote.Param.Weighed.{at_most}
 use Rattle.match_tree.specs.declared.node.Shape.{Shape}
 use Rattle.match_tree.specs.Shapes.{rows_behind, branches}
@@ -68,6 +68,26 @@ visit_row-returns-then-end-eq0-clause-grows g t c =
 
 pub visit_row-returns-then-end-eq0-clause-earned : goal.visit_row-returns-then-end-eq0-clause-earned
 visit_row-returns-then-end-eq0-clause-earned g t c = earned_lead (offered c.args.offer.now) c.args.slots.now (row_routes c.args.pattern c.args.row.now) c.requires.lead
+
+pub visit_row-returns-then-is_only-clause-lasting : goal.visit_row-returns-then-is_only-clause-lasting
+visit_row-returns-then-is_only-clause-lasting g t c = lead_lasts (offered c.args.offer.now) c.args.slots.now (row_routes c.args.pattern c.args.row.now) c.requires.lead
+
+pub visit_row-returns-then-is_only-clause-best : goal.visit_row-returns-then-is_only-clause-best
+visit_row-returns-then-is_only-clause-best g t c =
+    let a = c.args in
+    let o = offered a.offer.now in
+    let none = c.is_only.ensures c.if-is_only.true in
+    sym (quiet_least o a.slots.now (row_routes a.pattern a.row.now) (quiet_row o a.slots.now a.pattern a.row.now (sym (wanted_are o a.slots.now a.pattern a.able.now _ c.requires.able refl) ∙ none) c.requires.lead))
+
+pub visit_row-returns-then-is_only-clause-grows : goal.visit_row-returns-then-is_only-clause-grows
+visit_row-returns-then-is_only-clause-grows g t c =
+    let a = c.args in
+    let o = offered a.offer.now in
+    let none = c.is_only.ensures c.if-is_only.true in
+    λ e. quiet_grows o a.slots.now (row_routes a.pattern a.row.now) (quiet_row o a.slots.now a.pattern a.row.now (sym (wanted_are o a.slots.now a.pattern a.able.now _ c.requires.able refl) ∙ none) c.requires.lead)
+
+pub visit_row-returns-then-is_only-clause-earned : goal.visit_row-returns-then-is_only-clause-earned
+visit_row-returns-then-is_only-clause-earned g t c = earned_lead (offered c.args.offer.now) c.args.slots.now (row_routes c.args.pattern c.args.row.now) c.requires.lead
 
 pub visit_row-returns-then-len-eq0-clause-lasting : goal.visit_row-returns-then-len-eq0-clause-lasting
 visit_row-returns-then-len-eq0-clause-lasting g t c = lead_lasts (offered c.args.offer.now) c.args.slots.now (row_routes c.args.pattern c.args.row.now) c.requires.lead
@@ -406,6 +426,38 @@ pub visit_at-returns-in-Leaves-clause-counted : goal.visit_at-returns-in-Leaves-
 visit_at-returns-in-Leaves-clause-counted g t c =
     let none = no_routes g t (goal.at.visit_at-returns-in-Leaves-clause-counted g t c).After-visit_leaf_at-in-Leaves in
     omega (arith, c.visit_leaf_at-in-Leaves.ensures.counted, ap (λ (rs : List Route). length rs) none)
+
+pub visit_at-visit_leaf_at-requires-in-Many-clause-leaf : goal.visit_at-visit_leaf_at-requires-in-Many-clause-leaf
+visit_at-visit_leaf_at-requires-in-Many-clause-leaf g t c = leaf_routes c.in-Many.field-0.value c.args.place (branches c.row.inside.nodes) (sym (ap branches c.in-Many.is))
+
+-- the same in tiers
+no_routes_of_many : (g : _) (t : _) (c : visit_at-After-visit_leaf_at-in-Many g t) → (node_at c.args.row.now c.args.place).routes ≡ []
+no_routes_of_many g t c = leaf_routes c.in-Many.field-0.value c.args.place c.args.row.now (sym (ap branches c.in-Many.is) ∙ c.row.view_is)
+
+pub visit_at-returns-in-Many-clause-lasting : goal.visit_at-returns-in-Many-clause-lasting
+visit_at-returns-in-Many-clause-lasting g t c =
+    let none = no_routes_of_many g t (goal.at.visit_at-returns-in-Many-clause-lasting g t c).After-visit_leaf_at-in-Many in
+    c.visit_leaf_at-in-Many.ensures.behind.lasting ∙ sym none
+
+pub visit_at-returns-in-Many-clause-best : goal.visit_at-returns-in-Many-clause-best
+visit_at-returns-in-Many-clause-best g t c =
+    let none = no_routes_of_many g t (goal.at.visit_at-returns-in-Many-clause-best g t c).After-visit_leaf_at-in-Many in
+    let o = offered c.args.offer.now in
+    let At : List Route → Type 0 = λ rs. IfOk c.visit_leaf_at-in-Many.result (λ b. b ≡ least (new_matches o c.args.slots.now ([] ∷ seen o rs))) in
+    subst At (sym none) c.visit_leaf_at-in-Many.ensures.best
+
+pub visit_at-returns-in-Many-clause-grows : goal.visit_at-returns-in-Many-clause-grows
+visit_at-returns-in-Many-clause-grows g t c =
+    let none = no_routes_of_many g t (goal.at.visit_at-returns-in-Many-clause-grows g t c).After-visit_leaf_at-in-Many in
+    let o = offered c.args.offer.now in
+    let now : List Route = (node_at c.visit_leaf_at-in-Many.new.row c.args.place).routes in
+    let At : List Route → Type 0 = λ rs. IfOk c.visit_leaf_at-in-Many.result (λ b. b ≡ None → Grows o c.args.slots.now (growing o c.args.slots.now) rs now) in
+    subst At (sym none) c.visit_leaf_at-in-Many.ensures.grows
+
+pub visit_at-returns-in-Many-clause-counted : goal.visit_at-returns-in-Many-clause-counted
+visit_at-returns-in-Many-clause-counted g t c =
+    let none = no_routes_of_many g t (goal.at.visit_at-returns-in-Many-clause-counted g t c).After-visit_leaf_at-in-Many in
+    omega (arith, c.visit_leaf_at-in-Many.ensures.counted, ap (λ (rs : List Route). length rs) none)
 
 pub visit_at-visit_node-requires : goal.visit_at-visit_node-requires
 visit_at-visit_node-requires g t c =

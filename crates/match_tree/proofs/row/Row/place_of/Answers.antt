@@ -32,3 +32,17 @@ returns-in-Mixed c =
     let is : c.deref-in-Mixed.result.now.items ≡ c.args.self.now = ap (λ (v : VecDeque Node Global). v.items) c.deref-in-Mixed.ensures ∙ sym (ap branches c.in-Mixed.is) ∙ c.self.view_is in
     let At : List Branch → Type 0 = λ xs. MatchOption c.place_of_node.result (AllByRecursion (λ node. node.number ≢ n) xs) (λ i. (i < length xs) × ((d : Branch) → (get_or xs i d).number ≡ n)) in
     subst At is c.place_of_node.ensures
+
+pub place_of_tiered-requires : goal.place_of_tiered-requires
+place_of_tiered-requires c =
+    let leaves : List ℕ = c.in-Many.leaves.value in
+    let is : map leaf leaves ≡ c.args.self.now = sym (ap branches c.in-Many.is) ∙ c.self.view_is in
+    subst Rise (ap (map (λ (node : Branch). node.number)) (sym is) ∙ leaf_numbers leaves ∙ sym c.deref-in-Many.ensures) c.requires
+
+pub returns-in-Many : goal.returns-in-Many
+returns-in-Many c =
+    let n : ℕ = c.args.number in
+    let items : List ℕ = c.deref-in-Many.result.now in
+    let is : map leaf items ≡ c.args.self.now = ap (map leaf) c.deref-in-Many.ensures ∙ sym (ap branches c.in-Many.is) ∙ c.self.view_is in
+    let At : List Branch → Type 0 = λ xs. MatchOption c.place_of_tiered.result (AllByRecursion (λ node. node.number ≢ n) xs) (λ i. (i < length xs) × ((d : Branch) → (get_or xs i d).number ≡ n)) in
+    subst At is (leaf_place items n c.place_of_tiered.result c.place_of_tiered.ensures)

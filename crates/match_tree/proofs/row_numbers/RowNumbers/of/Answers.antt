@@ -7,6 +7,13 @@ use Rattle.match_tree.specs.Shapes.{branches}
 use Rattle.match_tree.proofs.LeafLemmas.{leaf_numbers}
 use Rattle.match_tree.proofs.row_numbers.RowNumbers.of.Goals as goal
 
+pub returns-in-Many : goal.returns-in-Many
+returns-in-Many c =
+    let row : List Branch = map leaf c.in-Many.leaves.value in
+    let same : row ≡ c.args.row.now = sym (ap branches c.in-Many.is) ∙ c.row.view_is in
+    let numbers : map (λ (node : Branch). node.number) row ≡ map (λ (node : Branch). node.number) c.args.row.now = ap (λ (xs : List Branch). map (λ (node : Branch). node.number) xs) same in
+    c.deref-in-Many.ensures ∙ sym (leaf_numbers c.in-Many.leaves.value) ∙ numbers
+
 pub returns-in-Leaves : goal.returns-in-Leaves
 returns-in-Leaves c =
     let row : List Branch = map leaf c.in-Leaves.leaves.value.items in

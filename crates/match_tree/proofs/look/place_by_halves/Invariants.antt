@@ -1,7 +1,7 @@
 use Rattle.std.proofs.Common.{ℕ, ◌-◌, ◌<◌, ◌≤◌, length}
 use Rattle.std.specs.Prelude.{slice_index}
 use Rattle.match_tree.specs.RowNumbers.{numbers_in}
-use Rattle.match_tree.proofs.look.place_from.Given as goal
+use Rattle.match_tree.proofs.look.place_by_halves.Given as goal
 
 -- those before the one place are less, and that at the other is not
 abbrev pub invariant-loop-low : goal.invariant-loop-low

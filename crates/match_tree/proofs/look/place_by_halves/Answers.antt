@@ -1,7 +1,7 @@
 use Rattle.std.proofs.Common.{ℕ, ◌+◌, ◌-◌, ◌/◌, arith}
 use Rattle.match_tree.specs.RowNumbers.{numbers_in}
 use Rattle.match_tree.proofs.LookLemmas.{rise_to}
-use Rattle.match_tree.proofs.look.place_from.Goals as goal
+use Rattle.match_tree.proofs.look.place_by_halves.Goals as goal
 
 pub loop-low-preserved-then-at-number : goal.loop-low-preserved-then-at-number
 loop-low-preserved-then-at-number c =
