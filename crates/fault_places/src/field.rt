@@ -11,6 +11,9 @@ const MAX_TEXT: usize = 120;
 
 const MAX_FIELD: usize = 64;
 
+// The most fields of a message.
+const MAX_FIELDS: usize = 8;
+
 fn field_at(record: &ByteRecord, place: usize) -> &[u8] {
     match record.get(place) {
         Some(field) => field,
@@ -39,21 +42,30 @@ fn is_wrong(cause: RowCause, sort: Sort, field: &[u8]) -> bool {
 }
 
 // Whether one of a message's fields, counted from 0, has this fault.
-fn is_wrong_at(script: &Script<'_>, record: &ByteRecord, cause: RowCause, field: usize) -> bool {
-    match script.field_sort(field_at(record, 1), field) {
-        Some(sort) => is_wrong(cause, sort, field_at(record, field.saturating_add(2))),
-        None => false,
+fn is_wrong_at(
+    script: &Script<'_>,
+    record: &ByteRecord,
+    cause: RowCause,
+    field: usize,
+) -> Result<bool, NoMemory> {
+    match script.field_sort(field_at(record, 1), field)? {
+        Some(sort) => Ok(is_wrong(cause, sort, field_at(record, field.saturating_add(2)))),
+        None => Ok(false),
     }
 }
 
 // The first of a message's fields that has this fault, counted from 0.
-fn wrong_field(script: &Script<'_>, record: &ByteRecord, cause: RowCause) -> Option<usize> {
-    for field in 0..record.len().saturating_sub(2) {
-        if is_wrong_at(script, record, cause, field) {
-            return Some(field);
+fn wrong_field(
+    script: &Script<'_>,
+    record: &ByteRecord,
+    cause: RowCause,
+) -> Result<Option<usize>, NoMemory> {
+    for field in 0..record.len().saturating_sub(2).min(MAX_FIELDS) {
+        if is_wrong_at(script, record, cause, field)? {
+            return Ok(Some(field));
         }
     }
-    None
+    Ok(None)
 }
 
 // Appends which field it is, counted from 0 behind the actor and the message.
@@ -108,7 +120,7 @@ fn push_wrong_field(
     field: usize,
 ) -> Result<(), NoMemory> {
     let kind = field_at(record, 1);
-    let name = script.field_name(kind, field).unwrap_or(b"?");
+    let name = script.field_name(kind, field)?.unwrap_or(b"?");
     push_field(out, field, name, kind)?;
     push_value(out, cause, field_at(record, field.saturating_add(2)))
 }
@@ -120,7 +132,7 @@ fn push_bad_value(
     record: &ByteRecord,
     cause: RowCause,
 ) -> Result<(), NoMemory> {
-    match wrong_field(script, record, cause) {
+    match wrong_field(script, record, cause)? {
         Some(field) => push_wrong_field(out, script, record, cause, field),
         None => out.push_all(row_sentence(cause)),
     }
@@ -139,7 +151,7 @@ fn push_wrong_count(
 ) -> Result<(), NoMemory> {
     let kind = field_at(record, 1);
     let behind = record.len().saturating_sub(2);
-    match script.field_count(kind) {
+    match script.field_count(kind)? {
         Some(count) => push_parts(
             out,
             &[

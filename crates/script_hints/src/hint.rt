@@ -1,9 +1,10 @@
 //! What is told of a cause at a place.
+use crate::around::{Around, Reach, see_around};
 use crate::cause::{Cause, cause_named, cause_sentence, plain_sentence};
+use crate::messages::{field_count, field_of};
 use crate::quotes::text_sentence;
 use crate::sights::Side;
 use crate::spot::{Part, Sight, Spot, Step};
-use crate::tokens::{Script, script_of};
 use crate::wanted::wanted_behind;
 use join_base::{Bytes, NoMemory, Sort, byte_at, read_integer, write_number};
 use std::alloc::Global;
@@ -115,17 +116,14 @@ fn push_twice(out: &mut Bytes, spot: Spot, word: &[u8]) -> Result<(), NoMemory> 
     }
 }
 
-fn push_wrong_count(out: &mut Bytes, script: &Script<'_>, number: usize) -> Result<(), NoMemory> {
-    let word = script.word(number);
+fn push_wrong_count(alloc: Global, out: &mut Bytes, around: &Around<'_>) -> Result<(), NoMemory> {
+    let word = around.word();
+    let fields = field_count(alloc, around.text, word)?.unwrap_or(0);
+    let values = around.value_count()?;
     push_pieces(out, &[b"message ", shown(word), b" has "])?;
-    push_count(
-        out,
-        script.field_count(word).unwrap_or(0),
-        b" field",
-        b" fields",
-    )?;
+    push_count(out, fields, b" field", b" fields")?;
     out.push_all(b", and here ")?;
-    push_count(out, script.value_count(number), b" stands", b" stand")
+    push_count(out, values, b" stands", b" stand")
 }
 
 // What stands at a token: a text, or an int.
@@ -157,13 +155,30 @@ fn push_field(out: &mut Bytes, name: &[u8], kind: &[u8], wanted: &[u8]) -> Resul
     )
 }
 
+// The name of a field, counted from 0, of the message of a kind.
+fn field_name<'a>(
+    alloc: Global,
+    text: &'a [u8],
+    kind: &[u8],
+    field: usize,
+) -> Result<&'a [u8], NoMemory> {
+    match field_of(alloc, text, kind, field)? {
+        Some(found) => Ok(found.name),
+        None => Ok(&[]),
+    }
+}
+
 // The value of a post that has another type than its field.
-fn push_wrong_value(out: &mut Bytes, script: &Script<'_>, number: usize) -> Result<(), NoMemory> {
-    let (kind, field) = script.post_of(number);
-    let name = script.field_name(kind, field).unwrap_or(&[]);
-    let sort = script.sort_of(number);
+fn push_wrong_value(
+    alloc: Global,
+    out: &mut Bytes,
+    around: &Around<'_>,
+    sort: Option<Sort>,
+) -> Result<(), NoMemory> {
+    let (kind, field) = around.post();
+    let name = field_name(alloc, around.text, kind, field)?;
     push_field(out, name, kind, wanted_words(sort))?;
-    push_around(out, b", and ", script.word(number), found_words(sort))
+    push_around(out, b", and ", around.word(), found_words(sort))
 }
 
 // What is told in front of a word of another type than is wanted, and behind it.
@@ -208,17 +223,17 @@ fn mistype_at(spot: Spot, sort: Option<Sort>, is_in_sum: bool) -> Option<Mistype
     }
 }
 
-fn push_wrong_type(out: &mut Bytes, script: &Script<'_>, number: usize) -> Result<(), NoMemory> {
-    let spot = script.at(number).spot;
-    match mistype_at(spot, script.sort_of(number), script.is_in_sum(number)) {
-        Some((front, back)) => push_around(out, front, script.word(number), back),
-        None => push_wrong_value(out, script, number),
+fn push_wrong_type(alloc: Global, out: &mut Bytes, around: &Around<'_>) -> Result<(), NoMemory> {
+    let sort = around.sort()?;
+    match mistype_at(around.here.spot, sort, around.is_in_sum()) {
+        Some((front, back)) => push_around(out, front, around.word(), back),
+        None => push_wrong_value(alloc, out, around, sort),
     }
 }
 
-fn push_bad_reply(out: &mut Bytes, script: &Script<'_>, number: usize) -> Result<(), NoMemory> {
-    let count = script.pattern_count(number);
-    let wanted = read_integer(script.word(number)).unwrap_or(0);
+fn push_bad_reply(out: &mut Bytes, around: &Around<'_>) -> Result<(), NoMemory> {
+    let count = around.pattern_count();
+    let wanted = read_integer(around.word()).unwrap_or(0);
     if wanted >= 1 && wanted as u64 <= count as u64 {
         return out.push_all(b"an earlier reply of this body is to the same pattern");
     }
@@ -236,25 +251,33 @@ fn push_named(out: &mut Bytes, sentence: &[u8], word: &[u8]) -> Result<(), NoMem
     push_pieces(out, &[sentence, b" ", shown(word)])
 }
 
-// Appends what is told of a cause that the token of this number has.
+// Appends what is told of a cause that the token has.
 fn push_at(
+    alloc: Global,
     out: &mut Bytes,
-    script: &Script<'_>,
-    number: usize,
+    around: &Around<'_>,
     cause: Cause,
 ) -> Result<(), NoMemory> {
-    let spot = script.at(number).spot;
-    let word = script.word(number);
+    let spot = around.here.spot;
+    let word = around.word();
     match cause {
         Cause::TooMany => out.push_all(limit_sentence(spot)),
         Cause::TwiceDeclared => push_twice(out, spot, shown(word)),
         Cause::UnknownMessage => push_named(out, b"no message has the name", word),
         Cause::UnknownActor => push_named(out, b"no actor has the name", word),
         Cause::UnknownName => push_named(out, b"no variable of this definition has the name", word),
-        Cause::WrongCount => push_wrong_count(out, script, number),
-        Cause::WrongType => push_wrong_type(out, script, number),
-        Cause::BadReply => push_bad_reply(out, script, number),
+        Cause::WrongCount => push_wrong_count(alloc, out, around),
+        Cause::WrongType => push_wrong_type(alloc, out, around),
+        Cause::BadReply => push_bad_reply(out, around),
         _ => out.push_all(cause_sentence(cause)),
+    }
+}
+
+// What of a script a cause is told by.
+fn reach_of(cause: Cause) -> Reach {
+    match cause {
+        Cause::WrongType | Cause::BadReply => Reach::Definition,
+        _ => Reach::Token,
     }
 }
 
@@ -266,8 +289,8 @@ fn push_by_script(
     place: usize,
     cause: Cause,
 ) -> Result<(), NoMemory> {
-    let script = script_of(alloc, text)?;
-    push_at(out, &script, script.number_at(place), cause)
+    let around = see_around(alloc, text, place, reach_of(cause))?;
+    push_at(alloc, out, &around, cause)
 }
 
 fn token_hint(alloc: Global, text: &[u8], place: usize, cause: Cause) -> Result<Hint, NoMemory> {
@@ -291,10 +314,10 @@ fn end_sentence(sight: Sight) -> &'static [u8] {
     }
 }
 
-// What is told where a script doesn't go on with the token of this number.
-fn wanted_hint(alloc: Global, script: &Script<'_>, number: usize) -> Result<Hint, NoMemory> {
-    let seen = script.at(number);
-    let before = script.at(number.saturating_sub(1));
+// What is told where a script doesn't go on with a token.
+fn wanted_hint(alloc: Global, around: &Around<'_>) -> Result<Hint, NoMemory> {
+    let seen = around.here;
+    let before = around.before;
     let (side, wanted) = wanted_behind(before.sight, seen.spot, seen.sight);
     let place = match side {
         Side::Here => seen.start,
@@ -304,8 +327,8 @@ fn wanted_hint(alloc: Global, script: &Script<'_>, number: usize) -> Result<Hint
 }
 
 fn syntax_hint(alloc: Global, text: &[u8], place: usize) -> Result<Hint, NoMemory> {
-    let script = script_of(alloc, text)?;
-    wanted_hint(alloc, &script, script.number_at(place))
+    let around = see_around(alloc, text, place, Reach::Token)?;
+    wanted_hint(alloc, &around)
 }
 
 /// What is told of a cause at a place of a script.

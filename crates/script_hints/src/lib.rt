@@ -2,7 +2,10 @@
 //!
 //! - `hint_of` gives the sentence for a cause at a place of a script, and where its mark stands; `plain_sentence` is
 //!   for a script that can't be shown.
-//! - `script_of` gives the tokens of a script, each with the spot at which it stands: what a script may have there.
+//! - `script_of` is for scripts that are scripts: where their definitions begin, and what fields their messages have.
+//!
+//! The text is gone over anew for each question, token by token, and few tokens are kept. So what a refused script
+//! takes here does not grow with it.
 //!
 //! Nothing is claimed of the sentences. They are tested, and so are the spots behind them.
 #![tactic(auto)]
@@ -12,6 +15,7 @@ mod bodies;
 mod cause;
 mod heads;
 mod hint;
+mod messages;
 mod quotes;
 mod sights;
 mod spot;
@@ -20,5 +24,4 @@ mod wanted;
 
 pub use cause::plain_sentence;
 pub use hint::{Hint, hint_of};
-pub use spot::{Part, Sight, Spot, Step};
-pub use tokens::{Script, Seen, script_of};
+pub use tokens::{Script, script_of};
