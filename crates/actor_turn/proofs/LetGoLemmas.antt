@@ -5,7 +5,7 @@ use Rattle.join_base.specs.declared.message.Message.{Message}
 use Rattle.join_base.proofs.EachLemmas.{each_filter}
 use Rattle.pattern_core.specs.Window.{oldest_seen}
 use Rattle.value_index.specs.Index.{Index}
-use Rattle.match_tree.specs.Offering.{AreIndexed, CanOffer}
+use Rattle.row_screens.specs.Offering.{AreIndexed, CanOffer}
 use Rattle.match_tree.specs.Tree.{Tree, is_path_seen, offer_to}
 use Rattle.tree_law.specs.Trees.{AreSettled, CanOfferTo, HasPaths, expired_tree, pruned_tree, settled_tree}
 use Rattle.actor_turn.specs.Parts.{fired_at}

@@ -7,8 +7,8 @@ use Rattle.std.proofs.lemmas.Result.{err_from_is_err_and}
 use Rattle.guard_eval.specs.Meaning.{Assignment}
 use Rattle.pattern_core.specs.Members.{IsIn}
 use Rattle.pattern_core.proofs.MembersLemmas.{IsIn-append_left, IsIn-append_right, IsIn-append_cases, IsIn-map, IsIn-map_from}
-use Rattle.match_tree.specs.Routes.{Route, step}
-use Rattle.match_tree.specs.Offers.{Offered}
+use Rattle.tree_rows.specs.Routes.{Route, step}
+use Rattle.row_screens.specs.Offers.{Offered}
 use Rattle.match_tree.specs.Growth.{Grows, steps_to}
 use Rattle.match_tree.specs.Begins.{Begins}
 

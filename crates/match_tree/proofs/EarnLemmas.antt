@@ -6,13 +6,13 @@ use Rattle.guard_eval.proofs.ReadyLemmas.{all_left, all_right}
 use Rattle.pattern_core.specs.declared.candidate.Candidate.{Candidate}
 use Rattle.pattern_core.specs.Choice.{least}
 use Rattle.pattern_core.specs.Members.{IsIn}
-use Rattle.match_tree.specs.Routes.{Route, Branch, step, with_number, node_routes, row_routes, lacks}
-use Rattle.match_tree.specs.Below.{AreOpen}
-use Rattle.match_tree.specs.Offers.{Offered, takers, growing, leaves_one_free, seen, new_routes, new_matches}
-use Rattle.match_tree.specs.Offering.{LeadsOn, LeadOn}
+use Rattle.tree_rows.specs.Routes.{Route, Branch, step, with_number, node_routes, row_routes, lacks}
+use Rattle.row_screens.specs.Below.{AreOpen}
+use Rattle.row_screens.specs.Offers.{Offered, takers, growing, leaves_one_free, seen, new_routes, new_matches}
+use Rattle.row_screens.specs.Offering.{LeadsOn, LeadOn}
 use Rattle.match_tree.specs.Growth.{AreEarned, Grows, steps_to}
 use Rattle.match_tree.specs.Thinned.{AreVisited}
-use Rattle.match_tree.proofs.FirstLemmas.{all_in}
+use Rattle.row_screens.proofs.MemberLemmas.{all_in}
 use Rattle.match_tree.proofs.LeadLemmas.{all_both, lacks_later}
 use Rattle.match_tree.proofs.VisitLemmas.{nothing_here, nothing_new}
 

@@ -1,26 +1,22 @@
 -- The nodes that a definition does not see stand at the front of the first rows.
-use Rattle.std.proofs.Common.{◌≡◌, ◌∙◌, not, length, ℕ, zero, suc, ◌+◌, ◌<◌, ◌≤◌, List, [], ◌∷◌, ◌++◌, map, Bool, true, false, ◌&&◌, cond, nat_le, nat_lt, Option, None, Some, refl, sym, ap, subst, arith}
+use Rattle.std.proofs.Common.{◌≡◌, ◌∙◌, not, length, ℕ, zero, suc, ◌+◌, ◌<◌, ◌≤◌, List, [], ◌∷◌, ◌++◌, map, Bool, true, false, ◌&&◌, cond, nat_le, Option, None, Some, refl, sym, ap, subst, arith}
 use Rattle.std.specs.Prelude.{MatchOption, is_some}
-use Rattle.std.specs.List.{filter, remove, AllByRecursion}
+use Rattle.std.specs.List.{filter, AllByRecursion}
 use Rattle.std.proofs.lemmas.Bool.Decides.{nat_tests}
 use Rattle.std.proofs.lemmas.List.Elements.{filter-append}
 use Rattle.guard_eval.specs.Meaning.{Assignment}
 use Rattle.guard_eval.proofs.ReadyLemmas.{all_left, all_right}
-use Rattle.match_tree.specs.Rows.{node_at}
-use Rattle.match_tree.specs.Routes.{Route, Step, Branch, step, node_routes, row_routes, rows_routes, with_number, is_seen}
-use Rattle.match_tree.specs.Offers.{is_free}
-use Rattle.match_tree.specs.Below.{AreBelow, Climbs, IsOpen, AreOpen}
-use Rattle.match_tree.specs.Order.{Rise, IsSoundRow}
-use Rattle.match_tree.specs.Pruned.{AreShort, seen_nodes}
-use Rattle.match_tree.specs.Routes.{lacks}
+use Rattle.tree_rows.specs.Routes.{Route, Step, Branch, step, node_routes, row_routes, rows_routes, with_number, is_seen, lacks}
+use Rattle.row_screens.specs.Offers.{is_free}
+use Rattle.row_screens.specs.Below.{AreBelow, Climbs, IsOpen, AreOpen}
+use Rattle.tree_rows.specs.Pruned.{seen_nodes}
 use Rattle.match_tree.specs.Tree.{Tree, empty_of, is_path_seen, with_paths}
 use Rattle.match_tree.specs.Kept.{IsKept, CountsAdded, SeesAdded, SeesAll, added, paths_of, reserve_of, tree_of}
 use Rattle.match_tree.specs.declared.pending.Pending.{Pending}
-use Rattle.match_tree.specs.declared.ties.Ties.{Ties}
+use Rattle.row_screens.specs.declared.ties.Ties.{Ties}
 use Rattle.pattern_core.specs.declared.definition.Definition.{Definition}
 use Rattle.pattern_core.specs.Window.{oldest_seen}
-use Rattle.match_tree.proofs.OrderLemmas.{later_numbers}
-use Rattle.match_tree.proofs.TakeLemmas.{filter_both}
+use Rattle.tree_rows.proofs.ListLemmas.{filter_both}
 use Rattle.match_tree.proofs.VisitLemmas.{all_filter}
 use Rattle.match_tree.proofs.KeptLemmas.{and_comm, kept_fewer}
 use Rattle.match_tree.proofs.ReserveLemmas.{seen_all}
@@ -96,40 +92,6 @@ rows_seen oldest p (row ∷ rows) h =
 -- leaving unseen nodes out of the first rows is leaving the unseen routes out
 pub open_seen : (oldest : ℕ) (slots : Assignment) (rows : List (List Branch)) → AreOpen slots (rows_routes 0 rows) → rows_routes 0 (map (seen_nodes oldest) rows) ≡ filter (is_seen oldest) (rows_routes 0 rows)
 open_seen oldest slots rows h = rows_seen oldest 0 rows (mounts slots (rows_routes 0 rows) h)
-
--- ---- rows that begin with a seen node
-
-keep_seen : (oldest n : ℕ) (row : List Branch) → nat_le oldest n ≡ true → AllByRecursion (λ node. n < node.number) row → seen_nodes oldest row ≡ row
-keep_seen oldest n [] e h = refl
-keep_seen oldest n (node ∷ row) e h =
-    let here : nat_le oldest node.number ≡ true = let l = h.0 in grind (arith, nat_tests) in
-    λ i. cond (here i) (node ∷ keep_seen oldest n row e h.1 i) (keep_seen oldest n row e h.1 i)
-
--- the first node of a row tells whether all are seen
-pub front_seen : (oldest : ℕ) (row : List Branch) → Rise (map (λ node. node.number) row) → nat_lt (node_at row 0).number oldest ≡ false → seen_nodes oldest row ≡ row
-front_seen oldest [] rise seen = refl
-front_seen oldest (node ∷ row) rise seen =
-    let here : nat_le oldest node.number ≡ true = grind (arith, nat_tests) in
-    λ i. cond (here i) (node ∷ keep_seen oldest node.number row here (later_numbers node.number row rise.0) i) (keep_seen oldest node.number row here (later_numbers node.number row rise.0) i)
-
-pub front_unseen : (oldest : ℕ) (row : List Branch) → 0 < length row → nat_lt (node_at row 0).number oldest ≡ true → seen_nodes oldest (remove row 0) ≡ seen_nodes oldest row
-front_unseen oldest [] some unseen = absurd (omega arith)
-front_unseen oldest (node ∷ row) some unseen =
-    let here : nat_le oldest node.number ≡ false = grind (arith, nat_tests) in
-    λ i. cond (sym here i) (node ∷ seen_nodes oldest row) (seen_nodes oldest row)
-
--- a row without its first node
-pub sound_rest : (row : List Branch) → IsSoundRow row → IsSoundRow (remove row 0)
-sound_rest [] sound = sound
-sound_rest (node ∷ row) sound = record { rise = sound.rise.1; ordered = sound.ordered.1 }
-
-pub short_rest : (levels : ℕ) (row : List Branch) → AreShort levels (row_routes 0 row) → AreShort levels (row_routes 0 (remove row 0))
-short_rest levels [] short = short
-short_rest levels (node ∷ row) short = all_right (λ (r : Route). length r ≤ levels) (node_routes 0 node) (row_routes 0 row) short
-
-pub length_rest : (row : List Branch) → 0 < length row → length (remove row 0) + 1 ≡ length row
-length_rest [] some = absurd (omega arith)
-length_rest (node ∷ row) some = omega arith
 
 -- ---- told of a tree
 

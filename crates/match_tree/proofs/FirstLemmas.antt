@@ -19,14 +19,15 @@ use Rattle.pattern_core.specs.Choice.{taken_of, candidate_of, lesser_of, least, 
 use Rattle.pattern_core.proofs.BestLemmas.{least-append}
 use Rattle.pattern_core.proofs.ChoiceLemmas.{least-IsChoice}
 use Rattle.pattern_core.proofs.MembersLemmas.{IsIn-append_cases, IsIn-filter_from, IsIn-map_from, IsIn-flat_map_from}
-use Rattle.match_tree.specs.Routes.{Route, Step, Branch, step, filled, with_number, node_routes, row_routes, is_seen}
-use Rattle.match_tree.specs.Offers.{Offered, is_free, may_take, takers, completes, matches_at, seen, new_matches}
-use Rattle.match_tree.specs.Below.{Climbs}
-use Rattle.match_tree.specs.Offering.{LeadsOn, LeadOn}
-use Rattle.match_tree.proofs.TakenLemmas.{ascending_further}
-use Rattle.match_tree.proofs.GrowLemmas.{flat_map-append}
+use Rattle.tree_rows.specs.Routes.{Route, Step, Branch, step, filled, with_number, node_routes, row_routes, is_seen}
+use Rattle.row_screens.specs.Offers.{Offered, is_free, may_take, takers, completes, matches_at, seen, new_matches}
+use Rattle.row_screens.specs.Below.{Climbs}
+use Rattle.row_screens.specs.Offering.{LeadsOn, LeadOn}
+use Rattle.row_screens.proofs.TakenLemmas.{ascending_further}
+use Rattle.tree_rows.proofs.ListLemmas.{flat_map-append}
 use Rattle.guard_eval.proofs.ReadyLemmas.{all_left, all_right}
 use Rattle.std.proofs.lemmas.List.Elements.{filter-append}
+use Rattle.row_screens.proofs.MemberLemmas.{all_in}
 
 -- lists that first differ where the one has the lesser number
 less_at : (front : List ℕ) (a b : ℕ) (xs ys : List ℕ) → a < b → numbers_cmp (front ++ a ∷ xs) (front ++ b ∷ ys) ≡ Less
@@ -51,11 +52,6 @@ pub begins_less : (slots : Assignment) (a b : ℕ) (c d : Candidate) → a < b �
 begins_less slots a b c d l h k =
     let less : numbers_cmp (ascending c.taken) (ascending d.taken) ≡ Less = (λ i. numbers_cmp (h.is i) (k.is i)) ∙ less_at (ascending (taken_of slots)) a b h.rest k.rest l in
     ap (λ (r : Ordering). is_le (ordering_then r (ordering_then (nat_cmp c.rule d.rule) (numbers_cmp c.taken d.taken)))) less
-
-pub all_in : {X : Type 0} (P : X → Type 0) (xs : List X) (x : X) → AllByRecursion P xs → IsIn x xs → P x
-all_in P [] x h m = absurd m
-all_in {X} P (y ∷ xs) x h (inl e) = subst P e h.0
-all_in P (y ∷ xs) x h (inr m) = all_in P xs x h.1 m
 
 pub all_members : {X : Type 0} (P : X → Type 0) (xs : List X) → ((x : X) → IsIn x xs → P x) → AllByRecursion P xs
 all_members P [] h = tt

@@ -1,19 +1,15 @@
 -- How routes grow: list by list, and node by node.
-use Rattle.std.proofs.Common.{◌≡◌, ◌⊎◌, ◌∙◌, inl, inr, ℕ, List, [], ◌∷◌, ◌++◌, map, Bool, true, false, ◌&&◌, cond, refl, sym, ap, subst, append_assoc}
+use Rattle.std.proofs.Common.{◌≡◌, ◌⊎◌, ◌∙◌, inl, inr, ℕ, List, [], ◌∷◌, ◌++◌, map, Bool, true, false, ◌&&◌, cond, refl, sym, ap, subst}
 use Rattle.std.specs.Prelude.{nat_le}
-use Rattle.std.specs.List.{flat_map}
 use Rattle.std.proofs.lemmas.List.{map-append}
 use Rattle.std.proofs.lemmas.List.Elements.{filter-append}
 use Rattle.guard_eval.specs.Meaning.{Assignment}
 use Rattle.pattern_core.specs.Members.{IsIn}
 use Rattle.pattern_core.proofs.MembersLemmas.{IsIn-append_left, IsIn-append_right, IsIn-append_cases, IsIn-map, IsIn-map_from}
-use Rattle.match_tree.specs.Routes.{Route, Step, Branch, step, filled, with_number, node_routes, lacks, is_seen}
-use Rattle.match_tree.specs.Offers.{Offered, seen, growing, new_routes}
+use Rattle.tree_rows.specs.Routes.{Route, Step, Branch, step, filled, with_number, node_routes, lacks, is_seen}
+use Rattle.row_screens.specs.Offers.{Offered, seen, growing, new_routes}
 use Rattle.match_tree.specs.Growth.{Lasts, Grows, steps_to}
-
-pub flat_map-append : {X Y : Type 0} (f : X → List Y) (xs ys : List X) → flat_map f (xs ++ ys) ≡ flat_map f xs ++ flat_map f ys
-flat_map-append f [] ys = refl
-flat_map-append f (x ∷ xs) ys = ap (λ zs. f x ++ zs) (flat_map-append f xs ys) ∙ sym (append_assoc (f x) (flat_map f xs) (flat_map f ys))
+use Rattle.tree_rows.proofs.ListLemmas.{flat_map-append}
 
 module _ (o : Offered) (slots : Assignment) where
   new_routes-append : (xs ys : List Route) → new_routes o slots (seen o (xs ++ ys)) ≡ new_routes o slots (seen o xs) ++ new_routes o slots (seen o ys)

@@ -7,18 +7,18 @@ use Rattle.guard_eval.specs.Meaning.{Assignment}
 use Rattle.pattern_core.specs.declared.definition.Definition.{Definition}
 use Rattle.pattern_core.specs.Members.{IsIn}
 use Rattle.pattern_core.proofs.MembersLemmas.{IsIn-append_left, IsIn-append_right, IsIn-append_cases, IsIn-map, IsIn-map_from, IsIn-filter, IsIn-filter_from}
-use Rattle.match_tree.specs.Routes.{Route, with_number, filled, is_seen, lacks}
+use Rattle.tree_rows.specs.Routes.{Route, with_number, filled, is_seen, lacks}
 use Rattle.join_base.specs.Taken.{contains_number}
-use Rattle.match_tree.specs.Offers.{is_free}
-use Rattle.match_tree.specs.Below.{Climbs, IsOpen, AreOpen}
+use Rattle.row_screens.specs.Offers.{is_free}
+use Rattle.row_screens.specs.Below.{Climbs, IsOpen, AreOpen}
 use Rattle.match_tree.specs.Tree.{Tree, empty_of, SameMembers, is_path_without, with_paths}
-use Rattle.match_tree.specs.Routes.{Branch, rows_routes}
-use Rattle.match_tree.specs.Order.{AreOrdered}
-use Rattle.match_tree.specs.Pruned.{AreShort}
+use Rattle.tree_rows.specs.Routes.{Branch, rows_routes}
+use Rattle.tree_rows.specs.Order.{AreOrdered}
+use Rattle.tree_rows.specs.Pruned.{AreShort}
 use Rattle.match_tree.specs.Kept.{IsKept, CountsAdded, lasting, added, paths_of, reserve_of, tree_of}
 use Rattle.match_tree.specs.declared.pending.Pending.{Pending}
-use Rattle.match_tree.specs.declared.ties.Ties.{Ties}
-use Rattle.match_tree.proofs.OrderLemmas.{rows_ordered, rows_sound, ordered_filter}
+use Rattle.row_screens.specs.declared.ties.Ties.{Ties}
+use Rattle.tree_rows.proofs.OrderLemmas.{rows_ordered, rows_sound, ordered_filter}
 use Rattle.match_tree.proofs.VisitLemmas.{all_filter}
 use Rattle.match_tree.proofs.RootLemmas.{open_short}
 use Rattle.std.specs.Prelude.{MatchOption}

@@ -4,10 +4,10 @@ use Rattle.std.specs.Prelude.{◌==◌}
 use Rattle.std.proofs.lemmas.Bool.Decides.{nat_tests}
 use Rattle.guard_eval.specs.Meaning.{Assignment}
 use Rattle.guard_eval.proofs.ReadyLemmas.{all_left, all_right}
-use Rattle.match_tree.specs.Routes.{Route, Step, Branch, step, filled, with_number, node_routes, row_routes, rows_routes, lacks}
-use Rattle.match_tree.specs.Offers.{Offered, is_free}
-use Rattle.match_tree.specs.Below.{AreBelow, Climbs}
-use Rattle.match_tree.specs.Offering.{CanOffer, LeadsOn, LeadOn}
+use Rattle.tree_rows.specs.Routes.{Route, Step, Branch, step, filled, with_number, node_routes, row_routes, rows_routes, lacks}
+use Rattle.row_screens.specs.Offers.{Offered, is_free}
+use Rattle.row_screens.specs.Below.{AreBelow, Climbs}
+use Rattle.row_screens.specs.Offering.{CanOffer, LeadsOn, LeadOn}
 use Rattle.match_tree.specs.Growth.{Lasts}
 pub use Rattle.join_base.proofs.EachLemmas.{each_append as all_both}
 

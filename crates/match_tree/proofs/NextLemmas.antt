@@ -11,15 +11,16 @@ use Rattle.pattern_core.specs.Window.{SeesLatest, oldest_seen}
 use Rattle.pattern_core.proofs.MembersLemmas.{IsIn-append_cases, IsIn-map_from, IsIn-filter_from, IsIn-flat_map_from}
 use Rattle.value_index.specs.Index.{no_index}
 use Rattle.join_base.proofs.EachLemmas.{each_filter}
-use Rattle.match_tree.specs.Routes.{with_number}
-use Rattle.match_tree.specs.Offers.{Offered, places, may_take, takers, leaves_one_free, growing}
-use Rattle.match_tree.specs.Below.{AreBelow}
-use Rattle.match_tree.specs.Offering.{CanOffer}
+use Rattle.tree_rows.specs.Routes.{with_number}
+use Rattle.row_screens.specs.Offers.{Offered, places, may_take, takers, leaves_one_free, growing}
+use Rattle.row_screens.specs.Below.{AreBelow}
+use Rattle.row_screens.specs.Offering.{CanOffer}
 use Rattle.match_tree.specs.Tree.{Tree, Reserve, offer_to, seen_paths, is_path_seen, extensions, SameMembers, IsReserved}
-use Rattle.match_tree.proofs.SlotsLemmas.{below_further}
-use Rattle.match_tree.proofs.FirstLemmas.{all_in, all_members}
-use Rattle.match_tree.proofs.LookLemmas.{unindexed}
-use Rattle.match_tree.proofs.MatchLemmas.{suits_with, agrees_with}
+use Rattle.row_screens.proofs.SlotsLemmas.{below_further}
+use Rattle.row_screens.proofs.MemberLemmas.{all_in}
+use Rattle.match_tree.proofs.FirstLemmas.{all_members}
+use Rattle.row_screens.proofs.LookLemmas.{unindexed}
+use Rattle.row_screens.proofs.MatchLemmas.{suits_with, agrees_with}
 
 below_next : (n : ℕ) (slots : Assignment) → AreBelow n slots → AreBelow (n + 1) slots
 below_next n [] h = tt

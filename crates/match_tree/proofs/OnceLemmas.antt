@@ -5,19 +5,19 @@ use Rattle.guard_eval.specs.Meaning.{Assignment}
 use Rattle.pattern_core.specs.declared.definition.Definition.{Definition}
 use Rattle.pattern_core.specs.Members.{IsIn}
 use Rattle.pattern_core.proofs.MembersLemmas.{IsIn-map_from}
-use Rattle.match_tree.specs.Routes.{Route, Step, Branch, with_number, filled, lacks, rows_routes}
-use Rattle.match_tree.specs.Offers.{is_free}
-use Rattle.match_tree.specs.Below.{AreBelow, Climbs, IsOpen, AreOpen}
-use Rattle.match_tree.specs.Order.{Earlier, AreOrdered}
+use Rattle.tree_rows.specs.Routes.{Route, Step, Branch, with_number, filled, lacks, rows_routes}
+use Rattle.row_screens.specs.Offers.{is_free}
+use Rattle.row_screens.specs.Below.{AreBelow, Climbs, IsOpen, AreOpen}
+use Rattle.tree_rows.specs.Order.{Earlier, AreOrdered}
 use Rattle.match_tree.specs.Kept.{IsKept, lasting, paths_of}
 use Rattle.match_tree.specs.declared.pending.Pending.{Pending}
 use Rattle.match_tree.specs.Tree.{empty_of, AreOnce}
-use Rattle.match_tree.specs.declared.ties.Ties.{Ties}
+use Rattle.row_screens.specs.declared.ties.Ties.{Ties}
 use Rattle.std.specs.Prelude.{◌==◌, not}
 use Rattle.std.proofs.lemmas.Bool.Decides.{nat_tests}
-use Rattle.match_tree.proofs.SlotsLemmas.{free_is_none, free_further}
-use Rattle.match_tree.proofs.FirstLemmas.{all_in}
-use Rattle.match_tree.proofs.OrderLemmas.{rows_ordered_behind, ordered_filter}
+use Rattle.row_screens.proofs.SlotsLemmas.{free_is_none, free_further}
+use Rattle.row_screens.proofs.MemberLemmas.{all_in}
+use Rattle.tree_rows.proofs.OrderLemmas.{rows_ordered_behind, ordered_filter}
 use Rattle.match_tree.proofs.VisitLemmas.{all_filter}
 
 -- ---- routes in order stand once

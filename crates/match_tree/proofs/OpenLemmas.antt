@@ -6,16 +6,20 @@ use Rattle.guard_eval.proofs.ExtendLemmas.{both_true}
 use Rattle.guard_eval.proofs.ReadyLemmas.{all_left, all_right}
 use Rattle.pattern_core.specs.Matches.{is_full}
 use Rattle.pattern_core.proofs.MembersLemmas.{IsIn-filter_from}
-use Rattle.match_tree.specs.Routes.{Route, Step, Branch, step, with_number, node_routes, row_routes}
+use Rattle.tree_rows.specs.Routes.{Route, Step, Branch, step, with_number, node_routes, row_routes}
 use Rattle.join_base.specs.Taken.{contains_number}
-use Rattle.match_tree.specs.Offers.{Offered, places, is_free, may_take, takers, leaves_one_free, growing}
-use Rattle.match_tree.specs.Below.{AreBelow, IsOpen, AreOpen}
-use Rattle.match_tree.specs.Offering.{CanOffer}
-use Rattle.match_tree.proofs.LeadLemmas.{all_both}
-use Rattle.match_tree.proofs.VisitLemmas.{row_append}
-use Rattle.match_tree.proofs.WalkLemmas.{set_at_place, left_more}
-use Rattle.match_tree.specs.Rows.{leaf}
+use Rattle.row_screens.specs.Offers.{Offered, places, is_free, may_take, takers, leaves_one_free, growing}
+use Rattle.row_screens.specs.Below.{AreBelow, IsOpen, AreOpen, Climbs}
+use Rattle.row_screens.specs.Offering.{CanOffer}
+use Rattle.match_tree.proofs.LeadLemmas.{all_both, below_unset}
+use Rattle.tree_rows.proofs.ListLemmas.{row_append}
+use Rattle.match_tree.proofs.WalkLemmas.{set_at_place}
+use Rattle.tree_rows.proofs.WalkLemmas.{left_more}
+use Rattle.tree_rows.specs.Rows.{leaf}
 use Rattle.match_tree.proofs.RowsLemmas.{one_of_in}
+use Rattle.std.specs.List.{AllByRecursion}
+use Rattle.tree_rows.specs.Order.{Rise}
+use Rattle.tree_rows.specs.Pruned.{AreRising}
 
 module _ (slots : Assignment) where
   open_behind : (s : Step) (routes : List Route) → AreOpen slots (map (λ r. s ∷ r) routes) → AreOpen (with_number slots s.pattern s.number) routes
@@ -77,3 +81,25 @@ open_step o slots q can h =
 
 pub open_push : (o : Offered) (slots : Assignment) (q : ℕ) (row : List Branch) → CanOffer o slots → contains_number (growing o slots) q ≡ true → AreOpen slots (row_routes q row) → AreOpen slots (row_routes q (row ++ leaf o.number ∷ []))
 open_push o slots q row can h k = open_both slots q row (leaf o.number ∷ []) k (open_step o slots q can h)
+
+-- ---- routes whose numbers rise
+
+-- a route that climbs rises, also from a number that all above its path are greater than
+climbs_from : (slots : Assignment) (n : ℕ) (route : Route) → ((m : ℕ) → AreBelow m slots → n < m) → Climbs slots route → Rise (n ∷ map (λ s. s.number) route)
+climbs_from slots n [] above climbs = (tt, tt)
+climbs_from slots n (s ∷ route) above climbs =
+    let first = above s.number climbs.1 in
+    let behind = climbs_from (with_number slots s.pattern s.number) s.number route (λ m b. (below_unset slots s.pattern s.number m climbs.0 b).1) climbs.2 in
+    ((first, later s.number (map (λ x. x.number) route) first behind.0), behind)
+  where
+    later : (k : ℕ) (ks : List ℕ) → n < k → AllByRecursion (λ m. k < m) ks → AllByRecursion (λ m. n < m) ks
+    later k [] l h = tt
+    later k (x ∷ ks) l h = (let more = h.0 in omega arith, later k ks l h.1)
+
+pub climbs_rise : (slots : Assignment) (route : Route) → Climbs slots route → Rise (map (λ s. s.number) route)
+climbs_rise slots [] climbs = tt
+climbs_rise slots (s ∷ route) climbs = climbs_from (with_number slots s.pattern s.number) s.number route (λ m b. (below_unset slots s.pattern s.number m climbs.0 b).1) climbs.2
+
+pub rising_open : (slots : Assignment) (routes : List Route) → AreOpen slots routes → AreRising routes
+rising_open slots [] h = tt
+rising_open slots (r ∷ routes) h = (climbs_rise slots r h.0.climbs, rising_open slots routes h.1)

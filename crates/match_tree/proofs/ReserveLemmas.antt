@@ -13,20 +13,21 @@ use Rattle.pattern_core.specs.Choice.{least}
 use Rattle.pattern_core.specs.Window.{oldest_seen}
 use Rattle.pattern_core.specs.Members.{IsIn}
 use Rattle.pattern_core.proofs.MembersLemmas.{IsIn-append_left, IsIn-append_right, IsIn-append_cases, IsIn-filter, IsIn-filter_from}
-use Rattle.match_tree.specs.Routes.{Route, Branch, step, rows_routes, with_number, filled, lacks, is_seen}
+use Rattle.tree_rows.specs.Routes.{Route, Branch, step, rows_routes, with_number, filled, lacks, is_seen}
 use Rattle.join_base.specs.Taken.{contains_number}
-use Rattle.match_tree.specs.Offers.{Offered, is_free, growing, seen, new_routes, new_matches, matches_at}
-use Rattle.match_tree.specs.Below.{Climbs, AreOpen}
+use Rattle.row_screens.specs.Offers.{Offered, is_free, growing, seen, new_routes, new_matches, matches_at}
+use Rattle.row_screens.specs.Below.{Climbs, AreOpen}
 use Rattle.value_index.specs.Index.{no_index}
-use Rattle.match_tree.specs.Offering.{AreIndexed, CanOffer, LeadOn}
+use Rattle.row_screens.specs.Offering.{AreIndexed, CanOffer, LeadOn}
 use Rattle.match_tree.specs.Growth.{Lasts, Grows, steps_to}
-use Rattle.match_tree.specs.Order.{AreSound}
+use Rattle.tree_rows.specs.Order.{AreSound}
 use Rattle.match_tree.specs.Tries.{tried, tries, tries_behind}
 use Rattle.match_tree.specs.Tree.{Tree, empty_of, offer_to, SameMembers, is_path_seen, seen_paths, extensions, completions, IsReserved}
 use Rattle.match_tree.specs.Kept.{IsKept, SeesAdded, SeesAll, paths_of, reserve_of, tree_of}
 use Rattle.match_tree.specs.declared.pending.Pending.{Pending}
-use Rattle.match_tree.specs.declared.ties.Ties.{Ties}
-use Rattle.match_tree.proofs.FirstLemmas.{all_in, all_members}
+use Rattle.row_screens.specs.declared.ties.Ties.{Ties}
+use Rattle.row_screens.proofs.MemberLemmas.{all_in}
+use Rattle.match_tree.proofs.FirstLemmas.{all_members}
 use Rattle.match_tree.proofs.KeptLemmas.{parts_count, same_map, settled_none, and_true, and_assoc, and_comm}
 use Rattle.join_base.proofs.EachLemmas.{each_append}
 

@@ -6,14 +6,14 @@ use Rattle.std.proofs.lemmas.List.Elements.{filter-append}
 use Rattle.guard_eval.specs.Meaning.{Assignment, recorded_message, is_slot_filled}
 use Rattle.guard_eval.proofs.ExtendLemmas.{both_true}
 use Rattle.pattern_core.specs.Matches.{is_of_kind, is_agreeable, is_full}
-use Rattle.match_tree.specs.Routes.{Route, with_number, filled}
-use Rattle.match_tree.specs.Offers.{Offered, places, is_free, may_take, takers, leaves_one_free, growing}
-use Rattle.match_tree.specs.Below.{Climbs, AreOpen}
-use Rattle.match_tree.specs.Offering.{MayTry}
-use Rattle.match_tree.specs.Pruned.{AreShort}
+use Rattle.tree_rows.specs.Routes.{Route, with_number, filled}
+use Rattle.row_screens.specs.Offers.{Offered, places, is_free, may_take, takers, leaves_one_free, growing}
+use Rattle.row_screens.specs.Below.{Climbs, AreOpen}
+use Rattle.row_screens.specs.Offering.{MayTry}
+use Rattle.tree_rows.specs.Pruned.{AreShort}
 use Rattle.match_tree.specs.Tries.{is_tried, tried, without_greatest}
-use Rattle.match_tree.proofs.SlotsLemmas.{free_is_none}
-use Rattle.match_tree.proofs.TakeLemmas.{filter_within}
+use Rattle.row_screens.proofs.SlotsLemmas.{free_is_none}
+use Rattle.row_screens.proofs.TakeLemmas.{filter_within}
 use Rattle.match_tree.proofs.VisitLemmas.{all_filter}
 use Rattle.match_tree.proofs.RowsLemmas.{places_append}
 

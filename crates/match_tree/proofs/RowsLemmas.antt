@@ -5,7 +5,7 @@ use Rattle.std.specs.Ordering.{is_le}
 use Rattle.pattern_core.specs.Key.{key_cmp}
 use Rattle.std.specs.List.{filter, AllByRecursion}
 use Rattle.std.proofs.lemmas.Bool.Decides.{nat_tests}
-use Rattle.std.proofs.lemmas.List.{take_more, take_more_set, length-take-le, append-nil, map-append}
+use Rattle.std.proofs.lemmas.List.{take_more_set, append-nil, map-append}
 use Rattle.std.proofs.lemmas.List.Elements.{filter-append}
 use Rattle.guard_eval.specs.Meaning.{Assignment}
 use Rattle.pattern_core.specs.declared.candidate.Candidate.{Candidate}
@@ -13,13 +13,13 @@ use Rattle.pattern_core.specs.Members.{IsIn}
 use Rattle.pattern_core.specs.Choice.{least, lesser_of}
 use Rattle.pattern_core.proofs.BestLemmas.{least-append}
 use Rattle.pattern_core.proofs.MembersLemmas.{IsIn-filter, IsIn-filter_from}
-use Rattle.match_tree.specs.Rows.{leaf}
-use Rattle.match_tree.specs.Routes.{Route, Branch, step, node_routes, row_routes, rows_routes, lacks}
+use Rattle.tree_rows.specs.Rows.{leaf}
+use Rattle.tree_rows.specs.Routes.{Route, Branch, step, node_routes, row_routes, rows_routes, lacks}
 use Rattle.join_base.specs.Taken.{contains_number}
 use Rattle.std.proofs.Math.Bool.{or-true}
-use Rattle.match_tree.specs.Offers.{Offered, places, may_take, leaves_one_free, matches_at, seen, new_matches, takers, growing}
-use Rattle.match_tree.specs.Offering.{LeadsOn, LeadOn}
-use Rattle.match_tree.specs.Order.{Rise, IsOrderedNode, IsSoundRow, AreSound}
+use Rattle.row_screens.specs.Offers.{Offered, places, may_take, leaves_one_free, matches_at, seen, new_matches, takers, growing}
+use Rattle.row_screens.specs.Offering.{LeadsOn, LeadOn}
+use Rattle.tree_rows.specs.Order.{Rise, IsOrderedNode, IsSoundRow, AreSound}
 use Rattle.match_tree.specs.Growth.{Lasts, Grows}
 use Rattle.match_tree.specs.Begins.{IsLess, AreLess, Begins}
 use Rattle.match_tree.specs.Tries.{tries_behind}
@@ -28,34 +28,17 @@ use Rattle.match_tree.proofs.BeginLemmas.{begins_both, begins_nowhere, begins_st
 use Rattle.match_tree.proofs.LeadLemmas.{all_both, lead_lasts, lead_rows_drop, lead_below}
 use Rattle.match_tree.proofs.TriesLemmas.{tries_append}
 use Rattle.match_tree.proofs.FirstLemmas.{matches_both}
-use Rattle.match_tree.proofs.VisitLemmas.{row_append}
-use Rattle.match_tree.proofs.WalkLemmas.{split_at_place, set_at_place, left_more, all_drop}
+use Rattle.tree_rows.proofs.ListLemmas.{row_append}
+use Rattle.match_tree.proofs.WalkLemmas.{set_at_place, all_drop}
+use Rattle.tree_rows.proofs.WalkLemmas.{left_more}
 use Rattle.guard_eval.proofs.ReadyLemmas.{all_left, all_right}
-
-pub rows_append : (p : ℕ) (xs ys : List (List Branch)) → rows_routes p (xs ++ ys) ≡ rows_routes p xs ++ rows_routes (p + length xs) ys
-rows_append p [] ys = let e : p ≡ p + 0 = omega arith in ap (λ (k : ℕ). rows_routes k ys) e
-rows_append p (row ∷ xs) ys =
-    let e : p + 1 + length xs ≡ p + suc (length xs) = omega arith in
-    ap (λ (rs : List Route). row_routes p row ++ rs) (rows_append (p + 1) xs ys ∙ ap (λ (k : ℕ). rows_routes (p + 1) xs ++ rows_routes k ys) e)
-    ∙ sym (append_assoc (row_routes p row) (rows_routes (p + 1) xs) (rows_routes (p + suc (length xs)) ys))
+use Rattle.tree_rows.proofs.RowsLemmas.{rows_append, front_count, rows_middle, before_routes, now_routes, before_all, before_on}
 
 pub places_append : {X : Type 0} (p : ℕ) (xs ys : List X) → places p (xs ++ ys) ≡ places p xs ++ places (p + length xs) ys
 places_append p [] ys = let e : p ≡ p + 0 = omega arith in ap (λ (k : ℕ). places k ys) e
 places_append {X} p (x ∷ xs) ys =
     let e : p + 1 + length xs ≡ p + suc (length xs) = omega arith in
     ap (λ (ps : List ℕ). p ∷ ps) (places_append (p + 1) xs ys ∙ ap (λ (k : ℕ). places (p + 1) xs ++ places k ys) e)
-
--- the routes of the first rows and of one more
-pub rows_end : (i : ℕ) (xs : List (List Branch)) (row : List Branch) → length xs ≡ i → rows_routes 0 (xs ++ row ∷ []) ≡ rows_routes 0 xs ++ row_routes i row
-rows_end i xs row count =
-    let at : 0 + length xs ≡ i = omega arith in
-    rows_append 0 xs (row ∷ []) ∙ ap (λ (k : ℕ). rows_routes 0 xs ++ rows_routes k (row ∷ [])) at ∙ ap (λ (rs : List Route). rows_routes 0 xs ++ rs) (append-nil (row_routes i row))
-
--- the routes of all rows, with one apart
-pub rows_middle : (i : ℕ) (xs : List (List Branch)) (row : List Branch) (ys : List (List Branch)) → length xs ≡ i → rows_routes 0 (xs ++ row ∷ ys) ≡ rows_routes 0 xs ++ (row_routes i row ++ rows_routes (i + 1) ys)
-rows_middle i xs row ys count =
-    let at : 0 + length xs ≡ i = omega arith in
-    rows_append 0 xs (row ∷ ys) ∙ ap (λ (k : ℕ). rows_routes 0 xs ++ rows_routes k (row ∷ ys)) at
 
 pub rows_empty : (p k : ℕ) → rows_routes p (replicate k []) ≡ []
 rows_empty p zero = refl
@@ -85,25 +68,10 @@ lesser_none (Some x) (Some y) e = by (is_le (key_cmp x y)) e
 -- ---- one row further
 
 module _ (rows items : List (List Branch)) (i : ℕ) (row now d : List Branch) (within : i < length rows) (within' : i < length items) (is : row ≡ get_or rows i d) where
-  front_count : (xs : List (List Branch)) → i < length xs → length (take i xs) ≡ i
-  front_count xs w = length-take-le i xs (omega arith)
-
-  before_on : take (i + 1) rows ≡ take i rows ++ row ∷ []
-  before_on = take_more rows i d within ∙ ap (λ (x : List Branch). take i rows ++ x ∷ []) (sym is)
-
-  pub before_routes : rows_routes 0 (take (i + 1) rows) ≡ rows_routes 0 (take i rows) ++ row_routes i row
-  before_routes = ap (rows_routes 0) before_on ∙ rows_end i (take i rows) row (front_count rows within)
-
-  pub now_routes : rows_routes 0 (take (i + 1) (set items i now)) ≡ rows_routes 0 (take i items) ++ row_routes i now
-  now_routes = ap (rows_routes 0) (take_more_set items i now within') ∙ rows_end i (take i items) now (front_count items within')
-
-  pub before_all : rows_routes 0 rows ≡ rows_routes 0 (take i rows) ++ (row_routes i row ++ rows_routes (i + 1) (drop (i + 1) rows))
-  before_all = ap (rows_routes 0) (split_at_place rows i d within ∙ ap (λ (x : List Branch). take i rows ++ x ∷ drop (i + 1) rows) (sym is)) ∙ rows_middle i (take i rows) row (drop (i + 1) rows) (front_count rows within)
-
   pub now_all : drop i items ≡ drop i rows → rows_routes 0 (set items i now) ≡ rows_routes 0 (take i items) ++ (row_routes i now ++ rows_routes (i + 1) (drop (i + 1) rows))
   now_all left =
       ap (rows_routes 0) (set_at_place items i now within' ∙ ap (λ (xs : List (List Branch)). take i items ++ now ∷ xs) (left_more items rows i left))
-      ∙ rows_middle i (take i items) now (drop (i + 1) rows) (front_count items within')
+      ∙ rows_middle i (take i items) now (drop (i + 1) rows) ((front_count rows items i row now d within within' is) items within')
 
   pub sound_on : AreSound (take i items) → IsSoundRow now → AreSound (take (i + 1) (set items i now))
   sound_on h k = subst AreSound (sym (take_more_set items i now within')) (all_both IsSoundRow (take i items) (now ∷ []) h (k, tt))
@@ -114,7 +82,7 @@ module _ (rows items : List (List Branch)) (i : ℕ) (row now d : List Branch) (
       (all_both IsSoundRow (take i items) (now ∷ drop (i + 1) rows) h (k, all_drop IsSoundRow rows (i + 1) whole))
 
   pub lasts_on : (n : ℕ) → Lasts n (rows_routes 0 (take i rows)) (rows_routes 0 (take i items)) → Lasts n (row_routes i row) (row_routes i now) → Lasts n (rows_routes 0 (take (i + 1) rows)) (rows_routes 0 (take (i + 1) (set items i now)))
-  lasts_on n h k = ap (filter (lacks (n ∷ []))) now_routes ∙ lasts_both n (rows_routes 0 (take i rows)) (row_routes i row) (rows_routes 0 (take i items)) (row_routes i now) h k ∙ sym before_routes
+  lasts_on n h k = ap (filter (lacks (n ∷ []))) (now_routes rows items i row now d within within' is) ∙ lasts_both n (rows_routes 0 (take i rows)) (row_routes i row) (rows_routes 0 (take i items)) (row_routes i now) h k ∙ sym (before_routes rows items i row now d within within' is)
 
   pub lasts_all : (o : Offered) (slots : Assignment) → drop i items ≡ drop i rows → LeadOn o slots (rows_routes 0 rows) → Lasts o.number (rows_routes 0 (take i rows)) (rows_routes 0 (take i items)) → Lasts o.number (row_routes i row) (row_routes i now)
       → Lasts o.number (rows_routes 0 rows) (rows_routes 0 (set items i now))
@@ -125,7 +93,7 @@ module _ (rows items : List (List Branch)) (i : ℕ) (row now d : List Branch) (
       let behind = lead_lasts o slots rest (subst At place (lead_rows_drop o slots 0 rows (i + 1) lead)) in
       ap (filter (lacks (o.number ∷ []))) (now_all left)
       ∙ lasts_both o.number (rows_routes 0 (take i rows)) (row_routes i row ++ rest) (rows_routes 0 (take i items)) (row_routes i now ++ rest) h (lasts_both o.number (row_routes i row) rest (row_routes i now) rest k behind)
-      ∙ sym before_all
+      ∙ sym (before_all rows items i row now d within within' is)
 
   pub best_on : (o : Offered) (slots : Assignment) (best found : Option Candidate) → best ≡ least (new_matches o slots ([] ∷ seen o (rows_routes 0 (take i rows)))) → found ≡ least (new_matches o slots (seen o (row_routes i row)))
       → lesser_of best found ≡ least (new_matches o slots ([] ∷ seen o (rows_routes 0 (take (i + 1) rows))))
@@ -136,61 +104,50 @@ module _ (rows items : List (List Branch)) (i : ℕ) (row now d : List Branch) (
       (λ j. lesser_of (h j) (k j))
       ∙ sym (least-append (here ++ front) more)
       ∙ ap least (append_assoc here front more)
-      ∙ ap (λ (cs : List Candidate). least (here ++ cs)) (sym (matches_both o slots (rows_routes 0 (take i rows)) (row_routes i row)) ∙ ap (λ (rs : List Route). new_matches o slots (seen o rs)) (sym before_routes))
+      ∙ ap (λ (cs : List Candidate). least (here ++ cs)) (sym (matches_both o slots (rows_routes 0 (take i rows)) (row_routes i row)) ∙ ap (λ (rs : List Route). new_matches o slots (seen o rs)) (sym (before_routes rows items i row now d within within' is)))
 
   pub grows_on : (o : Offered) (slots : Assignment) → Grows o slots [] (rows_routes 0 (take i rows)) (rows_routes 0 (take i items)) → Grows o slots [] (row_routes i row) (row_routes i now)
       → Grows o slots [] (rows_routes 0 (take (i + 1) rows)) (rows_routes 0 (take (i + 1) (set items i now)))
   grows_on o slots h k =
       let both = grows_both o slots [] [] (rows_routes 0 (take i rows)) (row_routes i row) (rows_routes 0 (take i items)) (row_routes i now) h k in
-      subst (λ (rs : List Route). Grows o slots [] rs (rows_routes 0 (take (i + 1) (set items i now)))) (sym before_routes)
-      (subst (λ (rs : List Route). Grows o slots [] (rows_routes 0 (take i rows) ++ row_routes i row) rs) (sym now_routes) both)
+      subst (λ (rs : List Route). Grows o slots [] rs (rows_routes 0 (take (i + 1) (set items i now)))) (sym (before_routes rows items i row now d within within' is))
+      (subst (λ (rs : List Route). Grows o slots [] (rows_routes 0 (take i rows) ++ row_routes i row) rs) (sym (now_routes rows items i row now d within within' is)) both)
 
   pub begins_on : (n : ℕ) (begun : List ℕ) → Begins n (filter (contains_number begun) (places 0 (take i rows))) (rows_routes 0 (take i rows)) (rows_routes 0 (take i items)) → Begins n (filter (contains_number begun) (i ∷ [])) (row_routes i row) (row_routes i now)
       → Begins n (filter (contains_number begun) (places 0 (take (i + 1) rows))) (rows_routes 0 (take (i + 1) rows)) (rows_routes 0 (take (i + 1) (set items i now)))
   begins_on n begun h k =
-      let at : 0 + length (take i rows) ≡ i = let e = front_count rows within in omega arith in
+      let at : 0 + length (take i rows) ≡ i = let e = (front_count rows items i row now d within within' is) rows within in omega arith in
       let here : filter (contains_number begun) (places 0 (take (i + 1) rows)) ≡ filter (contains_number begun) (places 0 (take i rows)) ++ filter (contains_number begun) (i ∷ []) =
-      ap (λ (xs : List (List Branch)). filter (contains_number begun) (places 0 xs)) before_on
+      ap (λ (xs : List (List Branch)). filter (contains_number begun) (places 0 xs)) (before_on rows items i row now d within within' is)
       ∙ ap (filter (contains_number begun)) (places_append 0 (take i rows) (row ∷ []) ∙ ap (λ (m : ℕ). places 0 (take i rows) ++ m ∷ []) at)
       ∙ filter-append (contains_number begun) (places 0 (take i rows)) (i ∷ [])
       in
       let both = begins_both n (filter (contains_number begun) (places 0 (take i rows))) (filter (contains_number begun) (i ∷ [])) (rows_routes 0 (take i rows)) (row_routes i row) (rows_routes 0 (take i items)) (row_routes i now) h k in
       subst (λ (ps : List ℕ). Begins n ps (rows_routes 0 (take (i + 1) rows)) (rows_routes 0 (take (i + 1) (set items i now)))) (sym here)
-      (subst (λ (rs : List Route). Begins n (filter (contains_number begun) (places 0 (take i rows)) ++ filter (contains_number begun) (i ∷ [])) rs (rows_routes 0 (take (i + 1) (set items i now)))) (sym before_routes)
-      (subst (λ (rs : List Route). Begins n (filter (contains_number begun) (places 0 (take i rows)) ++ filter (contains_number begun) (i ∷ [])) (rows_routes 0 (take i rows) ++ row_routes i row) rs) (sym now_routes) both))
+      (subst (λ (rs : List Route). Begins n (filter (contains_number begun) (places 0 (take i rows)) ++ filter (contains_number begun) (i ∷ [])) rs (rows_routes 0 (take (i + 1) (set items i now)))) (sym (before_routes rows items i row now d within within' is))
+      (subst (λ (rs : List Route). Begins n (filter (contains_number begun) (places 0 (take i rows)) ++ filter (contains_number begun) (i ∷ [])) (rows_routes 0 (take i rows) ++ row_routes i row) rs) (sym (now_routes rows items i row now d within within' is)) both))
 
   -- what has not the number is as before
   pub same_on : (n : ℕ) → filter (lacks (n ∷ [])) (rows_routes 0 (take i items)) ≡ filter (lacks (n ∷ [])) (rows_routes 0 (take i rows)) → filter (lacks (n ∷ [])) (row_routes i now) ≡ filter (lacks (n ∷ [])) (row_routes i row)
       → filter (lacks (n ∷ [])) (rows_routes 0 (take (i + 1) (set items i now))) ≡ filter (lacks (n ∷ [])) (rows_routes 0 (take (i + 1) rows))
   same_on n h k =
-      ap (filter (lacks (n ∷ []))) now_routes
+      ap (filter (lacks (n ∷ []))) (now_routes rows items i row now d within within' is)
       ∙ filter-append (lacks (n ∷ [])) (rows_routes 0 (take i items)) (row_routes i now)
       ∙ (λ j. h j ++ k j)
       ∙ sym (filter-append (lacks (n ∷ [])) (rows_routes 0 (take i rows)) (row_routes i row))
-      ∙ ap (filter (lacks (n ∷ []))) (sym before_routes)
+      ∙ ap (filter (lacks (n ∷ []))) (sym (before_routes rows items i row now d within within' is))
 
   pub less_on : (n : ℕ) → AreLess n (take i items) → IsLess n now → AreLess n (take (i + 1) (set items i now))
   less_on n h k = subst (AreLess n) (sym (take_more_set items i now within')) (all_both (IsLess n) (take i items) (now ∷ []) h (k, tt))
 
-  pub counts_rows_on : (length (rows_routes 0 (take (i + 1) rows)) ≡ length (rows_routes 0 (take i rows)) + length (row_routes i row)) × (length (rows_routes 0 (take (i + 1) (set items i now))) ≡ length (rows_routes 0 (take i items)) + length (row_routes i now))
-  counts_rows_on = (
-    ap (λ (rs : List Route). length rs) before_routes ∙ length-append (rows_routes 0 (take i rows)) (row_routes i row),
-    ap (λ (rs : List Route). length rs) now_routes ∙ length-append (rows_routes 0 (take i items)) (row_routes i now),
-  )
-
   pub tries_rows_on : (o : Offered) (slots : Assignment) → tries_behind o slots (rows_routes 0 (take (i + 1) rows)) ≡ tries_behind o slots (rows_routes 0 (take i rows)) + tries_behind o slots (row_routes i row)
-  tries_rows_on o slots = ap (tries_behind o slots) before_routes ∙ tries_append o slots (rows_routes 0 (take i rows)) (row_routes i row)
+  tries_rows_on o slots = ap (tries_behind o slots) (before_routes rows items i row now d within within' is) ∙ tries_append o slots (rows_routes 0 (take i rows)) (row_routes i row)
 
   pub tries_rows_most : (o : Offered) (slots : Assignment) → tries_behind o slots (rows_routes 0 (take i rows)) + tries_behind o slots (row_routes i row) ≤ tries_behind o slots (rows_routes 0 rows)
   tries_rows_most o slots =
-      let whole = ap (tries_behind o slots) before_all ∙ tries_append o slots (rows_routes 0 (take i rows)) (row_routes i row ++ rows_routes (i + 1) (drop (i + 1) rows)) in
+      let whole = ap (tries_behind o slots) (before_all rows items i row now d within within' is) ∙ tries_append o slots (rows_routes 0 (take i rows)) (row_routes i row ++ rows_routes (i + 1) (drop (i + 1) rows)) in
       let rest = tries_append o slots (row_routes i row) (rows_routes (i + 1) (drop (i + 1) rows)) in
       omega arith
-
-pub get_or-map : {X Y : Type 0} (xs : List X) (i : ℕ) (d : X) (f : X → Y) → f (get_or xs i d) ≡ get_or (map f xs) i (f d)
-get_or-map [] i d f = refl
-get_or-map (x ∷ xs) zero d f = refl
-get_or-map (x ∷ xs) (suc i) d f = get_or-map xs i d f
 
 -- ---- a node for the number at the end of a row
 

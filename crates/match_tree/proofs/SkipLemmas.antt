@@ -2,20 +2,22 @@
 use Rattle.std.proofs.Common.{◌≡◌, ◌∙◌, ℕ, zero, suc, ◌+◌, ◌-◌, ◌<◌, ◌≤◌, List, [], ◌∷◌, ◌++◌, length, take, drop, get_or, set, map, refl, sym, ap, subst, arith}
 use Rattle.std.proofs.lemmas.List.{take_more, length-set, get_or-drop}
 use Rattle.guard_eval.specs.Meaning.{Assignment}
-use Rattle.match_tree.specs.Routes.{Branch, with_number, node_routes, row_routes}
-use Rattle.match_tree.specs.Offers.{Offered}
-use Rattle.match_tree.specs.Below.{AreOpen}
-use Rattle.match_tree.specs.Offering.{LeadOn}
-use Rattle.match_tree.specs.Order.{IsOrderedNode, IsSoundRow}
+use Rattle.tree_rows.specs.Routes.{Branch, with_number, node_routes, row_routes}
+use Rattle.row_screens.specs.Offers.{Offered}
+use Rattle.row_screens.specs.Below.{AreOpen}
+use Rattle.row_screens.specs.Offering.{LeadOn}
+use Rattle.tree_rows.specs.Order.{IsOrderedNode, IsSoundRow}
 use Rattle.match_tree.specs.Growth.{Lasts}
 use Rattle.match_tree.specs.Tries.{tried, tries_behind}
-use Rattle.match_tree.specs.Screen.{AreOffered, AreWorthless, IsOffered, IsWorthless}
-use Rattle.match_tree.specs.Rows.{leaf, node_at}
+use Rattle.row_screens.specs.Screen.{AreOffered, AreWorthless, IsOffered, IsWorthless}
+use Rattle.tree_rows.specs.Rows.{leaf, node_at}
 use Rattle.match_tree.proofs.LeadLemmas.{Leads, lead_node, lead_below}
 use Rattle.match_tree.proofs.VisitLemmas.{Passed, Stays, passed_both, passed_none}
-use Rattle.match_tree.proofs.ScreenLemmas.{others, passed_worthless}
+use Rattle.row_screens.proofs.ScreenLemmas.{others}
+use Rattle.match_tree.proofs.VisitLemmas.{passed_worthless}
 use Rattle.match_tree.proofs.TriesLemmas.{tried_further}
-use Rattle.match_tree.proofs.WalkLemmas.{all_at, counts_all, counts_on, left_item, left_more, left_set, passed_on, row_length, stays_sound, stopped, tries_most, tries_on}
+use Rattle.tree_rows.proofs.WalkLemmas.{all_at, left_item, left_more, row_length}
+use Rattle.match_tree.proofs.WalkLemmas.{counts_all, counts_on, left_set, passed_on, stays_sound, stopped, tries_most, tries_on}
 use Rattle.match_tree.proofs.OpenLemmas.{open_all, open_both, open_node, open_on, open_one}
 
 -- ---- a walk over the nodes before a place

@@ -15,25 +15,27 @@ use Rattle.pattern_core.specs.Members.{IsIn}
 use Rattle.pattern_core.specs.Suits.{IsRecorded, SlotsSuit}
 use Rattle.pattern_core.proofs.SuitsLemmas.{length-SlotsSuit}
 use Rattle.value_index.specs.ValueRange.{Ascend}
-use Rattle.match_tree.specs.Routes.{Route, Step, Branch, step, filled, with_number, node_routes, row_routes, lacks}
-use Rattle.match_tree.specs.Rows.{leaf, node_at}
-use Rattle.match_tree.specs.Below.{AreBelow, Climbs}
-use Rattle.match_tree.specs.Offers.{Offered, is_free, may_take, places}
-use Rattle.match_tree.specs.Offering.{CanOffer, LeadOn, LeadsOn}
-use Rattle.match_tree.specs.Order.{Earlier, Rise, IsOrderedNode, IsSoundRow}
-use Rattle.match_tree.specs.Pruned.{AreShort, NodesRise, RiseFrom, pruned}
-use Rattle.match_tree.specs.Screen.{IsOffered}
-use Rattle.match_tree.specs.Look.{FindsAt}
+use Rattle.tree_rows.specs.Routes.{Route, Step, Branch, step, filled, with_number, node_routes, row_routes, lacks}
+use Rattle.tree_rows.specs.Rows.{leaf, node_at}
+use Rattle.row_screens.specs.Below.{AreBelow, Climbs}
+use Rattle.row_screens.specs.Offers.{Offered, is_free, may_take, places}
+use Rattle.row_screens.specs.Offering.{CanOffer, LeadOn, LeadsOn}
+use Rattle.tree_rows.specs.Order.{Earlier, Rise, IsOrderedNode, IsSoundRow}
+use Rattle.tree_rows.specs.Pruned.{AreShort, NodesRise, RiseFrom, pruned}
+use Rattle.row_screens.specs.Screen.{IsOffered}
+use Rattle.row_screens.specs.Look.{FindsAt}
 use Rattle.match_tree.specs.Thinned.{AreVisited, ContinuesPath, ContinuePath, IsBarred, IsGuarded, IsQuiet, IsThinned, IsVisited, NodesContinuePath}
-use Rattle.match_tree.proofs.FirstLemmas.{all_in}
+use Rattle.row_screens.proofs.MemberLemmas.{all_in}
 use Rattle.match_tree.proofs.LeadLemmas.{below_start, below_unset, not_it}
-use Rattle.match_tree.proofs.LookLemmas.{node_less}
-use Rattle.match_tree.proofs.OrderLemmas.{ordered_filter}
-use Rattle.match_tree.proofs.PruneLemmas.{all_filtered, climbs_rise, one_of_more}
-use Rattle.match_tree.proofs.SlotsLemmas.{agreeable_below, below_further, extends_one, free_further}
-use Rattle.match_tree.proofs.ScreenLemmas.{number_set}
-use Rattle.match_tree.proofs.TakeLemmas.{and_of, filter_both, filter_within, takes_below, takes_other}
-use Rattle.match_tree.proofs.WalkLemmas.{all_at}
+use Rattle.row_screens.proofs.LookLemmas.{node_less}
+use Rattle.tree_rows.proofs.OrderLemmas.{ordered_filter}
+use Rattle.tree_rows.proofs.PruneLemmas.{all_filtered, one_of_more}
+use Rattle.match_tree.proofs.OpenLemmas.{climbs_rise}
+use Rattle.row_screens.proofs.SlotsLemmas.{agreeable_below, below_further, extends_one, free_further}
+use Rattle.row_screens.proofs.ScreenLemmas.{number_set}
+use Rattle.row_screens.proofs.TakeLemmas.{and_of, filter_within, takes_below, takes_other}
+use Rattle.tree_rows.proofs.ListLemmas.{filter_both}
+use Rattle.tree_rows.proofs.WalkLemmas.{all_at}
 
 -- ---- what is left of a node
 

@@ -6,12 +6,12 @@ use Rattle.std.proofs.lemmas.Bool.Decides.{nat_tests}
 use Rattle.std.proofs.lemmas.List.Sums.{sum_by-append, sum_by-cons}
 use Rattle.guard_eval.specs.Meaning.{Assignment, recorded_message, is_slot_filled}
 use Rattle.pattern_core.specs.Matches.{is_of_kind, is_agreeable}
-use Rattle.match_tree.specs.Routes.{Route, Step, Branch, step, filled, with_number, node_routes}
-use Rattle.match_tree.specs.Offers.{Offered, places, is_free, may_take, takers}
-use Rattle.match_tree.specs.Below.{AreBelow}
+use Rattle.tree_rows.specs.Routes.{Route, Step, Branch, step, filled, with_number, node_routes}
+use Rattle.row_screens.specs.Offers.{Offered, places, is_free, may_take, takers}
+use Rattle.row_screens.specs.Below.{AreBelow}
 use Rattle.match_tree.specs.Tries.{greatest, emptied_at, without_greatest, is_tried, tried, tries_behind}
-use Rattle.match_tree.proofs.SlotsLemmas.{free_further}
-use Rattle.match_tree.proofs.TakeLemmas.{filter_both}
+use Rattle.row_screens.proofs.SlotsLemmas.{free_further}
+use Rattle.tree_rows.proofs.ListLemmas.{filter_both}
 
 greatest_below : (slots : Assignment) (m : ℕ) → AreBelow m slots → greatest slots ≤ m
 greatest_below [] m h = omega arith

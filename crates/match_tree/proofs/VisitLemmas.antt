@@ -1,5 +1,5 @@
 -- A visit, node by node and row by row.
-use Rattle.std.proofs.Common.{◌≡◌, inl, ◌∙◌, ℕ, ◌<◌, List, [], ◌∷◌, ◌++◌, map, Bool, true, false, not, ◌&&◌, cond, None, refl, sym, ap, subst}
+use Rattle.std.proofs.Common.{◌≡◌, inl, ◌∙◌, ℕ, ◌<◌, List, [], ◌∷◌, ◌++◌, map, Bool, true, false, not, ◌&&◌, cond, None, refl, sym, ap, subst, ◌⊎◌, inr}
 use Rattle.std.specs.Prelude.{nat_le, ◌==◌}
 use Rattle.std.specs.List.{filter, AllByRecursion}
 use Rattle.std.proofs.lemmas.List.{append-nil, map-append}
@@ -8,21 +8,19 @@ use Rattle.guard_eval.proofs.ReadyLemmas.{all_left, all_right}
 use Rattle.pattern_core.specs.declared.candidate.Candidate.{Candidate}
 use Rattle.pattern_core.specs.Choice.{least, lesser_of}
 use Rattle.pattern_core.specs.Members.{IsIn}
-use Rattle.match_tree.specs.Routes.{Route, Step, Branch, step, filled, with_number, node_routes, row_routes, lacks, is_seen}
-use Rattle.match_tree.specs.Offers.{Offered, is_free, may_take, takers, growing, leaves_one_free, matches_at, seen, new_routes, new_matches, matches_of}
-use Rattle.match_tree.specs.Offering.{MayTry, LeadsOn, LeadOn}
-use Rattle.match_tree.specs.Order.{IsOrderedNode}
+use Rattle.tree_rows.specs.Routes.{Route, Step, Branch, step, filled, with_number, node_routes, row_routes, lacks, is_seen}
+use Rattle.row_screens.specs.Offers.{Offered, is_free, may_take, takers, growing, leaves_one_free, matches_at, seen, new_routes, new_matches, matches_of}
+use Rattle.row_screens.specs.Offering.{MayTry, LeadsOn, LeadOn}
+use Rattle.tree_rows.specs.Order.{IsOrderedNode}
 use Rattle.match_tree.specs.Growth.{Lasts, Grows}
 use Rattle.guard_eval.proofs.ExtendLemmas.{both_true}
-use Rattle.match_tree.proofs.SlotsLemmas.{free_further, free_is_none}
-use Rattle.match_tree.proofs.TakeLemmas.{and_of, no_takers_further, no_takers_behind}
-use Rattle.match_tree.proofs.GrowLemmas.{flat_map-append, grows_both, grows_none, grows_unseen, grows_node, lasts_both, seen_node, unseen_node}
+use Rattle.row_screens.proofs.SlotsLemmas.{free_further, free_is_none}
+use Rattle.row_screens.proofs.TakeLemmas.{and_of, no_takers_further, no_takers_behind}
+use Rattle.match_tree.proofs.GrowLemmas.{grows_both, grows_none, grows_unseen, grows_node, lasts_both, seen_node, unseen_node}
 use Rattle.match_tree.proofs.LeadLemmas.{all_both, lead_lasts, lead_below, not_it}
 use Rattle.match_tree.proofs.FirstLemmas.{least_both}
 pub use Rattle.join_base.proofs.EachLemmas.{each_filter as all_filter}
-
-pub row_append : (q : ℕ) (xs ys : List Branch) → row_routes q (xs ++ ys) ≡ row_routes q xs ++ row_routes q ys
-row_append q xs ys = flat_map-append (node_routes q) xs ys
+use Rattle.tree_rows.proofs.ListLemmas.{row_append}
 
 -- ---- nodes that keep their numbers, whose routes are ordered and last
 pub record Stays (n q : ℕ) (before now : List Branch) : Type 0 where
@@ -122,16 +120,6 @@ module _ (o : Offered) (slots : Assignment) (q : ℕ) where
 
 -- ---- where no pattern may take the number
 
--- each of the patterns that may take the number may
-pub all_take : (o : Offered) (slots : Assignment) (ps : List ℕ) → AllByRecursion (λ p. may_take o slots p ≡ true) (filter (may_take o slots) ps)
-all_take o slots [] = tt
-all_take o slots (p ∷ ps) = by (may_take o slots p) refl (all_take o slots ps)
-  where
-    by : (b : Bool) → may_take o slots p ≡ b → AllByRecursion (λ x. may_take o slots x ≡ true) (filter (may_take o slots) ps)
-        → AllByRecursion (λ x. may_take o slots x ≡ true) (cond b (p ∷ filter (may_take o slots) ps) (filter (may_take o slots) ps))
-    by true e later = (e, later)
-    by false e later = later
-
 module _ (o : Offered) (slots : Assignment) where
   -- no pattern may take the number at the end of the route
   abbrev Quiet : Route → Type 0
@@ -215,3 +203,12 @@ passed_quiet o slots q node none ordered lead =
       grows = one_grows o slots q node node (quiet_grows o slots (node_routes q node) quiet);
       none = one_none o slots q node (quiet_least o slots (node_routes q node) quiet);
     }
+
+-- ---- a node that is not worth a visit
+
+pub passed_worthless : (o : Offered) (slots : Assignment) (q : ℕ) (node : Branch) → (nat_le o.oldest node.number ≡ false) ⊎ (takers o (with_number slots q node.number) ≡ [])
+    → IsOrderedNode node → LeadOn o slots (node_routes q node) → Passed o slots q (node ∷ []) (node ∷ [])
+passed_worthless o slots q node why ordered lead = elim why [
+  | inl unseen ↦ passed_unseen o slots q node unseen ordered lead
+  | inr none ↦ passed_quiet o slots q node none ordered lead
+]

@@ -1,42 +1,26 @@
 -- A walk over the nodes of a row, of which those so far were passed and the others are as they were.
-use Rattle.std.proofs.Common.{◌≡◌, ◌∙◌, ℕ, zero, suc, ◌+◌, ◌<◌, ◌≤◌, List, [], ◌∷◌, ◌++◌, map, length, take, drop, get_or, set, true, false, Option, None, Some, refl, sym, ap, subst, arith, length-append}
+use Rattle.std.proofs.Common.{◌≡◌, ◌∙◌, ℕ, zero, suc, ◌+◌, ◌<◌, ◌≤◌, List, [], ◌∷◌, ◌++◌, map, length, take, drop, get_or, set, true, false, Option, None, Some, refl, sym, ap, subst, arith}
 use Rattle.std.specs.Prelude.{nat_le, ◌==◌, not, is_some}
 use Rattle.std.proofs.lemmas.Bool.Decides.{nat_tests}
-use Rattle.match_tree.specs.Below.{AreBelow}
+use Rattle.row_screens.specs.Below.{AreBelow}
 use Rattle.std.specs.List.{filter, AllByRecursion}
-use Rattle.std.proofs.lemmas.List.{take-append-drop, drop_more, take_more, take_more_set, set_split, drop-drop, get_or-drop, length-map, append-nil, drop-set-lt}
+use Rattle.std.proofs.lemmas.List.{take-append-drop, drop_more, take_more, take_more_set, set_split, append-nil, drop-set-lt}
 use Rattle.guard_eval.specs.Meaning.{Assignment}
 use Rattle.pattern_core.specs.declared.candidate.Candidate.{Candidate}
 use Rattle.pattern_core.specs.Choice.{least, lesser_of}
-use Rattle.match_tree.specs.Routes.{Route, Branch, step, with_number, node_routes, row_routes}
-use Rattle.match_tree.specs.Offers.{Offered, is_free, takers, seen, new_matches}
-use Rattle.match_tree.specs.Offering.{LeadOn}
-use Rattle.match_tree.specs.Order.{Rise, IsOrderedNode, IsSoundRow}
+use Rattle.tree_rows.specs.Routes.{Route, Branch, with_number, node_routes, row_routes}
+use Rattle.row_screens.specs.Offers.{Offered, is_free, takers, seen, new_matches}
+use Rattle.row_screens.specs.Offering.{LeadOn}
+use Rattle.tree_rows.specs.Order.{Rise, IsOrderedNode, IsSoundRow}
 use Rattle.match_tree.specs.Tries.{tried, tries_behind}
 use Rattle.match_tree.proofs.LeadLemmas.{lead_drop}
-use Rattle.match_tree.proofs.OrderLemmas.{later_numbers}
+use Rattle.tree_rows.proofs.OrderLemmas.{later_numbers}
 use Rattle.match_tree.proofs.TriesLemmas.{tries_append, tries_node, tried_further}
 use Rattle.match_tree.proofs.FirstLemmas.{least_both, first_is_least}
-use Rattle.match_tree.proofs.VisitLemmas.{Stays, Passed, row_append, stays_both, stays_same, passed_both}
+use Rattle.match_tree.proofs.VisitLemmas.{Stays, Passed, stays_both, stays_same, passed_both}
+use Rattle.tree_rows.proofs.ListLemmas.{row_append}
 pub use Rattle.join_base.proofs.EachLemmas.{each_drop as all_drop}
-
-pub all_at : {X : Type 0} (P : X → Type 0) (xs : List X) (i : ℕ) (d : X) → i < length xs → AllByRecursion P xs → P (get_or xs i d)
-all_at P [] i d within h = absurd (omega arith)
-all_at P (x ∷ xs) zero d within h = h.0
-all_at P (x ∷ xs) (suc i) d within h = all_at P xs i d (omega arith) h.1
-
--- what is left is the same one place on
-pub left_more : {X : Type 0} (xs ys : List X) (i : ℕ) → drop i xs ≡ drop i ys → drop (i + 1) xs ≡ drop (i + 1) ys
-left_more xs ys i e = sym (drop-drop 1 i xs) ∙ ap (drop 1) e ∙ drop-drop 1 i ys
-
-pub left_item : {X : Type 0} (xs ys : List X) (i : ℕ) (d : X) → drop i xs ≡ drop i ys → get_or xs i d ≡ get_or ys i d
-left_item {X} xs ys i d e =
-    let at : i + 0 ≡ i = omega arith in
-    let first : (zs : List X) → get_or (drop i zs) 0 d ≡ get_or zs i d = λ zs. get_or-drop i zs 0 d ∙ ap (λ (k : ℕ). get_or zs k d) at in
-    sym (first xs) ∙ ap (λ (zs : List X). get_or zs 0 d) e ∙ first ys
-
-pub split_at_place : {X : Type 0} (xs : List X) (i : ℕ) (d : X) → i < length xs → xs ≡ take i xs ++ get_or xs i d ∷ drop (i + 1) xs
-split_at_place {X} xs i d within = sym (take-append-drop i xs) ∙ ap (λ (ys : List X). take i xs ++ ys) (drop_more xs i d within)
+use Rattle.tree_rows.proofs.WalkLemmas.{left_more, split_at_place, row_length, rows_length}
 
 pub set_at_place : {X : Type 0} (xs : List X) (i : ℕ) (y : X) → i < length xs → set xs i y ≡ take i xs ++ y ∷ drop (i + 1) xs
 set_at_place {X} xs i y within = let more : suc i ≡ i + 1 = omega arith in set_split xs i y within ∙ ap (λ (k : ℕ). take i xs ++ y ∷ drop k xs) more
@@ -45,22 +29,6 @@ rise_at : (nodes : List Branch) (i : ℕ) (d : Branch) → i < length nodes → 
 rise_at [] i d within h = absurd (omega arith)
 rise_at (node ∷ nodes) zero d within h = later_numbers node.number nodes h.0
 rise_at (node ∷ nodes) (suc i) d within h = let more : suc i + 1 ≡ suc (i + 1) = omega arith in rw more (rise_at nodes i d (omega arith) h.1)
-
-pub node_length : (q : ℕ) (node : Branch) → length (node_routes q node) ≡ length node.routes + 1
-node_length q node = let e = length-map node.routes (λ (r : Route). step q node.number ∷ r) in omega arith
-
-pub row_length : (q : ℕ) (xs : List Branch) (node : Branch) → length (row_routes q (xs ++ node ∷ [])) ≡ length (row_routes q xs) + (length node.routes + 1)
-row_length q xs node =
-    ap (λ (rs : List Route). length rs) (row_append q xs (node ∷ []))
-    ∙ length-append (row_routes q xs) (row_routes q (node ∷ []))
-    ∙ ap (λ (n : ℕ). length (row_routes q xs) + n) (ap (λ (rs : List Route). length rs) (append-nil (node_routes q node)) ∙ node_length q node)
-
-pub rows_length : (q : ℕ) (xs : List Branch) (node : Branch) (ys : List Branch) → length (row_routes q (xs ++ node ∷ ys)) ≡ length (row_routes q xs) + (length node.routes + 1) + length (row_routes q ys)
-rows_length q xs node ys =
-    let a = ap (λ (rs : List Route). length rs) (row_append q xs (node ∷ ys)) ∙ length-append (row_routes q xs) (row_routes q (node ∷ ys)) in
-    let b = length-append (node_routes q node) (row_routes q ys) in
-    let c = node_length q node in
-    omega arith
 
 module _ (o : Offered) (slots : Assignment) (q : ℕ) (nodes items : List Branch) (i : ℕ) where
   -- a walk that stops at a node

@@ -2,7 +2,7 @@
 use Rattle.std.specs.Prelude.{◌<◌, ◌⊎◌, ℕ, List, map}
 use Rattle.std.specs.List.{AllByRecursion}
 use Rattle.pattern_core.specs.Members.{IsIn}
-use Rattle.match_tree.specs.Routes.{Route, Branch}
+use Rattle.tree_rows.specs.Routes.{Route, Branch}
 use Rattle.match_tree.specs.Growth.{steps_to}
 
 -- each node of the row has a lesser number

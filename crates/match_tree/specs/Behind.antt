@@ -4,10 +4,10 @@ use Rattle.std.specs.declared.vec.Vec.{Vec}
 use Rattle.std.specs.declared.alloc.Global.{Global}
 use Rattle.std.specs.declared.boxed.Box.{Box}
 use Rattle.guard_eval.specs.Meaning.{Assignment}
-use Rattle.match_tree.specs.Routes.{Route, Branch, rows_routes}
-use Rattle.match_tree.specs.Below.{AreOpen}
+use Rattle.tree_rows.specs.Routes.{Route, Branch, rows_routes}
+use Rattle.row_screens.specs.Below.{AreOpen}
 use Rattle.match_tree.specs.Growth.{Lasts}
-use Rattle.match_tree.specs.Order.{AreOrdered}
+use Rattle.tree_rows.specs.Order.{AreOrdered}
 
 -- the rows behind a leaf, if there are any
 abbrev pub Rows : Type 0

@@ -3,8 +3,8 @@ use Rattle.std.specs.Prelude.{◌≡◌, ◌⊎◌, List, [], ◌∷◌, map, tr
 use Rattle.std.specs.List.{filter, AllByRecursion}
 use Rattle.guard_eval.specs.Meaning.{Assignment}
 use Rattle.pattern_core.specs.Members.{IsIn}
-use Rattle.match_tree.specs.Routes.{Route, step, with_number, lacks}
-use Rattle.match_tree.specs.Offers.{Offered, seen, new_routes, takers}
+use Rattle.tree_rows.specs.Routes.{Route, step, with_number, lacks}
+use Rattle.row_screens.specs.Offers.{Offered, seen, new_routes, takers}
 
 -- without the new number the routes are as before
 abbrev pub Lasts : ℕ → List Route → List Route → Type 0

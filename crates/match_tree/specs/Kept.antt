@@ -3,14 +3,14 @@ use Rattle.std.specs.Prelude.{◌≡◌, ◌+◌, ◌≤◌, ℕ, List, [], ◌�
 use Rattle.std.specs.List.{filter, AllByRecursion}
 use Rattle.guard_eval.specs.Meaning.{Assignment}
 use Rattle.pattern_core.specs.declared.definition.Definition.{Definition}
-use Rattle.match_tree.specs.Routes.{Route, Branch, rows_routes, filled, lacks, is_seen}
+use Rattle.tree_rows.specs.Routes.{Route, Branch, rows_routes, filled, lacks, is_seen}
 use Rattle.pattern_core.specs.Window.{oldest_seen}
-use Rattle.match_tree.specs.Below.{AreOpen}
-use Rattle.match_tree.specs.Order.{AreSound}
+use Rattle.row_screens.specs.Below.{AreOpen}
+use Rattle.tree_rows.specs.Order.{AreSound}
 use Rattle.match_tree.specs.Tree.{Tree, Reserve, empty_of}
-use Rattle.match_tree.specs.Ties.{AreTied}
+use Rattle.row_screens.specs.Ties.{AreTied}
 use Rattle.match_tree.specs.declared.pending.Pending.{Pending}
-use Rattle.match_tree.specs.declared.ties.Ties.{Ties}
+use Rattle.row_screens.specs.declared.ties.Ties.{Ties}
 
 -- the routes without those that a reserve has added
 abbrev pub lasting : Option Pending → List Route → List Route

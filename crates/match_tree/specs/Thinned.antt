@@ -7,14 +7,14 @@ use Rattle.pattern_core.specs.declared.definition.Definition.{Definition}
 use Rattle.pattern_core.specs.Matches.{is_agreeable}
 use Rattle.pattern_core.specs.Suits.{SlotsSuit}
 use Rattle.value_index.specs.Index.{Index}
-use Rattle.match_tree.specs.Routes.{Route, Branch, filled, lacks, node_routes, with_number}
-use Rattle.match_tree.specs.Rows.{node_at}
-use Rattle.match_tree.specs.Below.{Climbs}
-use Rattle.match_tree.specs.Offers.{Offered, may_take}
-use Rattle.match_tree.specs.Offering.{AreIndexed, LeadsOn}
+use Rattle.tree_rows.specs.Routes.{Route, Branch, filled, lacks, node_routes, with_number}
+use Rattle.tree_rows.specs.Rows.{node_at}
+use Rattle.row_screens.specs.Below.{Climbs}
+use Rattle.row_screens.specs.Offers.{Offered, may_take}
+use Rattle.row_screens.specs.Offering.{AreIndexed, LeadsOn}
 use Rattle.match_tree.specs.Growth.{IsEarned}
-use Rattle.match_tree.specs.Screen.{IsOffered}
-use Rattle.match_tree.specs.Pruned.{pruned}
+use Rattle.row_screens.specs.Screen.{IsOffered}
+use Rattle.tree_rows.specs.Pruned.{pruned}
 
 -- the route climbs from the path, suits the messages, is agreeable, and the index has its numbers
 pub record ContinuesPath (messages : List Message) (index : Index) (definition : Definition) (slots : Assignment) (route : Route) : Type 0 where

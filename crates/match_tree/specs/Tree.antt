@@ -9,9 +9,9 @@ use Rattle.pattern_core.specs.Members.{IsIn}
 use Rattle.pattern_core.specs.Choice.{least}
 use Rattle.pattern_core.specs.Window.{oldest_seen}
 use Rattle.value_index.specs.Index.{no_index}
-use Rattle.match_tree.specs.Routes.{with_number}
+use Rattle.tree_rows.specs.Routes.{with_number}
 use Rattle.join_base.specs.Taken.{contains_number}
-use Rattle.match_tree.specs.Offers.{Offered, growing, matches_at}
+use Rattle.row_screens.specs.Offers.{Offered, growing, matches_at}
 
 -- what a reserve for a number has found: the least match that the number completes, and the paths that it adds
 pub record Reserve : Type 0 where

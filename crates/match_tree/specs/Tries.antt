@@ -3,8 +3,8 @@ use Rattle.std.specs.Prelude.{ℕ, List, [], ◌∷◌, map, length, max, Bool, 
 use Rattle.std.specs.List.{filter, list_any, sum_by}
 use Rattle.guard_eval.specs.Meaning.{Assignment, recorded_message, is_slot_filled}
 use Rattle.pattern_core.specs.Matches.{is_of_kind, is_agreeable, slot_is}
-use Rattle.match_tree.specs.Routes.{Route, with_number, filled}
-use Rattle.match_tree.specs.Offers.{Offered, places, is_free}
+use Rattle.tree_rows.specs.Routes.{Route, with_number, filled}
+use Rattle.row_screens.specs.Offers.{Offered, places, is_free}
 
 abbrev pub greatest : Assignment → ℕ
 greatest [] = 0

@@ -2,26 +2,24 @@
 ghost use Rattle.std.specs.Prelude.{◌≡◌, ◌+◌, ◌<◌, ◌≤◌, ◌++◌, [], ◌∷◌, ℕ, length, replicate, true, ◌==◌, None, OnOk, IfOk, OnErr, slice_set};
 ghost use Rattle.std.specs.List.{filter, AllByRecursion};
 ghost use Rattle.pattern_core.specs.Choice.{least};
-ghost use Rattle.match_tree.specs.Routes.{rows_routes, row_routes, lacks};
-ghost use Rattle.match_tree.specs.Rows.{leaf, node_at};
+ghost use Rattle.tree_rows.specs.Routes.{rows_routes, row_routes, lacks};
+ghost use Rattle.tree_rows.specs.Rows.{leaf, node_at};
 ghost use Rattle.match_tree.specs.Behind.{AreFewBehind, IsBehind, routes_behind};
 ghost use Rattle.join_base.specs.Taken.{contains_number};
-ghost use Rattle.match_tree.specs.Offers.{takers, may_take, growing, places, new_matches};
-ghost use Rattle.match_tree.specs.Below.{AreOpen};
-ghost use Rattle.match_tree.specs.Offering.{offered, CanOffer, MayTry};
-ghost use Rattle.match_tree.specs.Order.{IsSoundRow, AreSound};
+ghost use Rattle.row_screens.specs.Offers.{takers, may_take, growing, places, new_matches};
+ghost use Rattle.row_screens.specs.Below.{AreOpen};
+ghost use Rattle.row_screens.specs.Offering.{offered, CanOffer, MayTry};
+ghost use Rattle.tree_rows.specs.Order.{IsSoundRow, AreSound};
 ghost use Rattle.match_tree.specs.Growth.{Grows};
 ghost use Rattle.match_tree.specs.Begins.{AreLess, Begins, IsLess};
-ghost use Rattle.match_tree.specs.Trial.{AllStandOutside};
+ghost use Rattle.row_screens.specs.Trial.{AllStandOutside};
 
-use crate::offer::Offer;
-use crate::place_set::PlaceSet;
-use crate::row::Row;
-use crate::trial::{best_match, contains, leave_one_free, takers};
 use join_base::{NoMemory, Numbers, Slots, Steps};
 use pattern_core::Candidate;
+use row_screens::{Offer, PlaceSet, best_match, contains, leave_one_free, takers};
 use std::alloc::Global;
 use std::sync::ledger::Ledger;
+use tree_rows::Row;
 
 // Rows for so many patterns.
 fn grow_rows(rows: &mut Vec<Row>, count: usize) -> Result<(), NoMemory>

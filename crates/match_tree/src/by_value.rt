@@ -6,21 +6,18 @@ ghost use Rattle.guard_eval.specs.Meaning.{Assignment};
 ghost use Rattle.pattern_core.specs.Members.{IsIn};
 ghost use Rattle.pattern_core.specs.Suits.{IsRecorded};
 ghost use Rattle.value_index.specs.ValueRange.{Ascend};
-ghost use Rattle.match_tree.specs.Routes.{node_routes, rows_routes, row_routes, lacks, with_number};
-ghost use Rattle.match_tree.specs.Offers.{may_take};
-ghost use Rattle.match_tree.specs.Offering.{offered, CanOffer, LeadOn};
-ghost use Rattle.match_tree.specs.Order.{IsSoundRow, AreSound};
-ghost use Rattle.match_tree.specs.Pruned.{AreShort, NodesRise, pruned};
+ghost use Rattle.tree_rows.specs.Routes.{node_routes, rows_routes, row_routes, lacks, with_number};
+ghost use Rattle.row_screens.specs.Offers.{may_take};
+ghost use Rattle.row_screens.specs.Offering.{offered, CanOffer, LeadOn};
+ghost use Rattle.tree_rows.specs.Order.{IsSoundRow, AreSound};
+ghost use Rattle.tree_rows.specs.Pruned.{AreShort, NodesRise, pruned};
 ghost use Rattle.match_tree.specs.Thinned.{AreVisited, IsBarred, IsGuarded, IsThinned, NodesContinuePath};
 
-use crate::look::{FEWEST, found_at};
-use crate::node::Node;
-use crate::offer::Offer;
-use crate::prune::{prune_node, prune_nodes, remove_numbers};
-use crate::row::{Nodes, Row, place_of_node};
 use join_base::{Numbers, Slots};
 use pattern_core::has_kind;
+use row_screens::{FEWEST, Offer, found_at};
 use std::collections::VecDeque;
+use tree_rows::{Node, Nodes, Row, place_of_node, prune_node, prune_nodes, remove_numbers};
 use value_index::ValueRange;
 
 // How many routes went, and whether all went that take the number.

@@ -5,27 +5,24 @@ ghost use Rattle.guard_eval.specs.Meaning.{recorded_message};
 ghost use Rattle.pattern_core.specs.Choice.{least};
 ghost use Rattle.pattern_core.specs.Matches.{is_of_kind};
 ghost use Rattle.pattern_core.specs.Suits.{IsRecorded};
-ghost use Rattle.match_tree.specs.Routes.{rows_routes, lacks};
-ghost use Rattle.match_tree.specs.Offers.{places, growing, matches_at, may_take, seen, takers, new_matches};
-ghost use Rattle.match_tree.specs.Below.{AreOpen};
-ghost use Rattle.match_tree.specs.Offering.{offered, CanOffer, MayTry, LeadOn};
-ghost use Rattle.match_tree.specs.Order.{AreSound};
+ghost use Rattle.tree_rows.specs.Routes.{rows_routes, lacks};
+ghost use Rattle.row_screens.specs.Offers.{places, growing, matches_at, may_take, seen, takers, new_matches};
+ghost use Rattle.row_screens.specs.Below.{AreOpen};
+ghost use Rattle.row_screens.specs.Offering.{offered, CanOffer, MayTry, LeadOn};
+ghost use Rattle.tree_rows.specs.Order.{AreSound};
 ghost use Rattle.match_tree.specs.Growth.{Lasts, Grows};
-ghost use Rattle.match_tree.specs.Pruned.{AreRising, AreShort};
+ghost use Rattle.tree_rows.specs.Pruned.{AreRising, AreShort};
 ghost use Rattle.match_tree.specs.Thinned.{AreVisited};
 ghost use Rattle.match_tree.specs.Tries.{tried, tries_behind};
 
 use crate::by_value::take_back;
-use crate::offer::Offer;
-use crate::place_set::PlaceSet;
-use crate::prune::prune_rows;
-use crate::row::Row;
-use crate::trial::{best_match, takers};
 use crate::visit::visit_rows;
 use join_base::{Message, NoMemory, Numbers, Slots, Steps};
 use pattern_core::{Candidate, Definition, has_kind};
+use row_screens::{Offer, PlaceSet, best_match, takers};
 use std::alloc::Global;
 use std::sync::ledger::Ledger;
+use tree_rows::{Row, prune_rows};
 
 // The patterns of the message's kind.
 fn of_kind(definition: &Definition, number: u32, messages: &[Message]) -> Numbers

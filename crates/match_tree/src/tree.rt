@@ -3,22 +3,19 @@ ghost use Rattle.std.specs.Prelude.{◌≡◌, ◌+◌, ◌^◌, ◌-◌, ◌<�
 ghost use Rattle.std.specs.List.{filter, AllByRecursion};
 ghost use Rattle.match_tree.specs.Tree.{AreOnce, empty_of, offer_to, IsReserved, SameMembers, with_paths, is_path_seen, is_path_without};
 ghost use Rattle.pattern_core.specs.Window.{oldest_seen};
-ghost use Rattle.match_tree.specs.Offering.{AreIndexed, CanOffer};
+ghost use Rattle.row_screens.specs.Offering.{AreIndexed, CanOffer};
 ghost use Rattle.match_tree.specs.Tries.{tries};
 
 use crate::by_value::prune_values;
-use crate::expire::drop_unseen;
-use crate::offer::Offer;
 use crate::pending::Pending;
-use crate::prune::prune_rows;
 use crate::reserve::visit_all;
-use crate::row::Row;
-use crate::ties::Ties;
 use join_base::{Message, NoMemory, Numbers, Steps};
 use pattern_core::{Candidate, Definition, oldest_seen};
+use row_screens::{Offer, Ties};
 use std::alloc::Global;
 use std::marker::Model;
 use std::sync::ledger::Ledger;
+use tree_rows::{Row, drop_unseen, prune_rows};
 use value_index::ValueIndex;
 
 // A candidate like this one.
@@ -57,7 +54,7 @@ impl Model for MatchTree {
     ghost coded = { Prim.hlevel (codes, coded_condition) };
 
     ghost use Rattle.std.specs.Prelude.{[], ◌∷◌};
-    ghost use Rattle.match_tree.specs.Routes.{rows_routes};
+    ghost use Rattle.tree_rows.specs.Routes.{rows_routes};
     ghost use Rattle.match_tree.specs.Kept.{IsKept, lasting, paths_of, reserve_of};
 
     ghost view = { λ a. record {

@@ -2,29 +2,27 @@
 ghost use Rattle.std.specs.Prelude.{◌≡◌, ◌≢◌, ◌+◌, ◌<◌, ◌≤◌, [], ◌∷◌, length, map, not, nat_le, ◌==◌, None, OnOk, IfOk, slice_set};
 ghost use Rattle.std.specs.List.{filter, AllByRecursion};
 ghost use Rattle.pattern_core.specs.Choice.{least, lesser_of};
-ghost use Rattle.match_tree.specs.Routes.{rows_routes, row_routes};
-ghost use Rattle.match_tree.specs.Rows.{node_at};
-ghost use Rattle.match_tree.specs.Offers.{takers, may_take, growing, seen, new_matches};
-ghost use Rattle.match_tree.specs.Below.{AreOpen};
-ghost use Rattle.match_tree.specs.Offering.{offered, CanOffer, MayTry, LeadOn};
-ghost use Rattle.match_tree.specs.Order.{IsOrderedNode, IsSoundRow, AreSound};
+ghost use Rattle.tree_rows.specs.Routes.{rows_routes, row_routes};
+ghost use Rattle.tree_rows.specs.Rows.{node_at};
+ghost use Rattle.row_screens.specs.Offers.{takers, may_take, growing, seen, new_matches};
+ghost use Rattle.row_screens.specs.Below.{AreOpen};
+ghost use Rattle.row_screens.specs.Offering.{offered, CanOffer, MayTry, LeadOn};
+ghost use Rattle.tree_rows.specs.Order.{IsOrderedNode, IsSoundRow, AreSound};
 ghost use Rattle.match_tree.specs.Growth.{AreEarned, Lasts, Grows};
 ghost use Rattle.match_tree.specs.Begins.{AreLess};
-ghost use Rattle.match_tree.specs.Trial.{AllStandOutside};
+ghost use Rattle.row_screens.specs.Trial.{AllStandOutside};
 ghost use Rattle.match_tree.specs.Tries.{tries_behind};
 
 use crate::at_leaf::{AtLeaf, begin, visit_leaf, visit_leaf_at};
-use crate::look::looked_up;
-use crate::node::{Node, Shape};
-use crate::offer::Offer;
-use crate::place_set::PlaceSet;
-use crate::row::{Nodes, Row};
-use crate::screen::{left_to_ask, next_place, screen_of};
-use crate::trial::{best_match, is_only, takers, without};
 use join_base::{NoMemory, Numbers, Slots, Steps};
 use pattern_core::{Candidate, better};
+use row_screens::{
+    Offer, PlaceSet, best_match, is_only, left_to_ask, looked_up, next_place, screen_of, takers,
+    without,
+};
 use std::alloc::Global;
 use std::sync::ledger::Ledger;
+use tree_rows::{Node, Nodes, Row, Shape};
 
 /// Offers the number to a path and to all that go on from it. The answer is the least match that it completes there, in
 /// which case not all new nodes were added. Conjuncts outside the set stand where the path takes the number.

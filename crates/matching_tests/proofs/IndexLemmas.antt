@@ -8,7 +8,7 @@ use Rattle.guard_eval.specs.Meaning.{Assignment, number_at}
 use Rattle.pattern_core.specs.Suits.{IsRecorded, SlotsSuit}
 use Rattle.value_index.specs.declared.field.IndexedField.{IndexedField}
 use Rattle.value_index.specs.Index.{Index, Has, Keeps}
-use Rattle.match_tree.specs.Offering.{AreIndexed, CanOffer}
+use Rattle.row_screens.specs.Offering.{AreIndexed, CanOffer}
 use Rattle.match_tree.specs.Tree.{Tree, offer_to}
 use Rattle.matching_tests.specs.Samples.{HasAll, HasUpTo}
 

@@ -11,10 +11,10 @@ use Rattle.pattern_core.specs.Suits.{DefinitionSuits, KindHas, NeedSuits}
 use Rattle.pattern_core.proofs.SuitsLemmas.{suits_empty}
 use Rattle.pattern_core.proofs.AgreeLemmas.{agreeable_empty}
 use Rattle.value_index.specs.Index.{no_index}
-use Rattle.match_tree.proofs.LookLemmas.{unindexed}
+use Rattle.row_screens.proofs.LookLemmas.{unindexed}
 use Rattle.matching_tests.specs.Samples.{IsSampleNeed, AreSamples, AreInts}
-use Rattle.match_tree.specs.Below.{AreBelow}
-use Rattle.match_tree.specs.Offering.{CanOffer}
+use Rattle.row_screens.specs.Below.{AreBelow}
+use Rattle.row_screens.specs.Offering.{CanOffer}
 use Rattle.match_tree.specs.Tree.{Tree, offer_to, empty_of}
 
 kind_has : (messages : List Message) (kind field : ℕ) (sort : Sort) → field ≡ 0 → sort ≡ Sort.Int → AreInts messages → KindHas messages kind field sort

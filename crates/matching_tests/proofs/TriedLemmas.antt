@@ -9,9 +9,9 @@ use Rattle.pattern_core.specs.Suits.{DefinitionSuits}
 use Rattle.pattern_core.specs.Window.{oldest_seen}
 use Rattle.pattern_core.proofs.MembersLemmas.{IsIn-append_left, IsIn-append_right, IsIn-append_cases, IsIn-filter_from, IsIn-flat_map, IsIn-flat_map_from}
 use Rattle.value_index.specs.Index.{no_index}
-use Rattle.match_tree.specs.Routes.{with_number}
-use Rattle.match_tree.specs.Offers.{Offered, growing}
-use Rattle.match_tree.specs.Offering.{CanOffer}
+use Rattle.tree_rows.specs.Routes.{with_number}
+use Rattle.row_screens.specs.Offers.{Offered, growing}
+use Rattle.row_screens.specs.Offering.{CanOffer}
 use Rattle.match_tree.specs.Tree.{Tree, Reserve, AreOnce, IsReserved, SameMembers, empty_of, extensions, is_path_seen, offer_to, seen_paths}
 use Rattle.match_tree.specs.Tries.{tried, tries}
 use Rattle.tree_law.proofs.CountLemmas.{once_sum}

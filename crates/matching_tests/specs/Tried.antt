@@ -10,7 +10,7 @@ use Rattle.guard_eval.specs.Condition.{Condition, Compares, Either, Never}
 use Rattle.guard_eval.specs.Meaning.{Assignment}
 use Rattle.pattern_core.specs.declared.definition.Definition.{Definition}
 use Rattle.pattern_core.specs.Members.{IsIn}
-use Rattle.match_tree.specs.Offers.{Offered}
+use Rattle.row_screens.specs.Offers.{Offered}
 use Rattle.match_tree.specs.Tree.{extensions}
 
 abbrev pub variable : ℕ → Operand

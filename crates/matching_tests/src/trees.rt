@@ -5,7 +5,7 @@ ghost use Rattle.matching_tests.specs.Samples.{AreInts, AreSamples, HasAll};
 ghost use Rattle.matching_tests.specs.Tried.{GrowsBy};
 ghost use Rattle.pattern_core.specs.Window.{SeesLatest, oldest_seen};
 ghost use Rattle.match_tree.specs.Tree.{offer_to};
-ghost use Rattle.match_tree.specs.Offering.{CanOffer};
+ghost use Rattle.row_screens.specs.Offering.{CanOffer};
 
 use crate::listing::{Arrival, Join, Tie, is_listed, numbers};
 use crate::made;

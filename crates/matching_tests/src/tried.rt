@@ -6,7 +6,7 @@ ghost use Rattle.guard_eval.specs.Shape.{conjunct_condition};
 ghost use Rattle.matching_tests.specs.Samples.{HasAll};
 ghost use Rattle.matching_tests.specs.Tried.{AreAmong, equality, kept, one, pair, row, variable};
 ghost use Rattle.match_tree.specs.Tree.{empty_of, offer_to};
-ghost use Rattle.match_tree.specs.Offering.{CanOffer};
+ghost use Rattle.row_screens.specs.Offering.{CanOffer};
 
 use crate::made;
 use crate::trees::{arrive, index_of};

@@ -23,11 +23,11 @@ use Rattle.std.proofs.MapsCrossingOver.{BTreeSet-send}
 use denote.Model.Goals.{send, one_law, tied_goals, has_of, part_has, All}
 use denote.Model.Cut.{split_one}
 use denote.Model.Local.{Parts, rows}
-use Rattle.match_tree.specs.declared.node.Node.TheDeep.{the_members, member-Node, member-Row, split-Shape, join-Shape, joins-Shape, split-Node, join-Node, joins-Node, split-Nodes, join-Nodes, joins-Nodes, split-Row, join-Row, joins-Row}
-use Rattle.match_tree.specs.contracts.node.Node.TheKnot as knot
+use Rattle.tree_rows.specs.declared.node.Node.TheDeep.{the_members, member-Node, member-Row, split-Shape, join-Shape, joins-Shape, split-Node, join-Node, joins-Node, split-Nodes, join-Nodes, joins-Nodes, split-Row, join-Row, joins-Row}
+use Rattle.tree_rows.specs.contracts.node.Node.TheKnot as knot
 use Rattle.tiered_vec.proofs.CrossLemmas.{tiered-send}
 use Rattle.tiered_vec.specs.contracts.TieredVec as TieredVec
-use Rattle.match_tree.specs.contracts.row.Row as Row
+use Rattle.tree_rows.specs.contracts.row.Row as Row
 use Rattle.std.specs.contracts.vec.Vec as Vec
 use Rattle.std.specs.contracts.collections.VecDeque as VecDeque
 use Rattle.std.specs.contracts.collections.BTreeSet as BTreeSet
@@ -45,7 +45,7 @@ use Rattle.join_base.specs.contracts.message.Value as Value
 use Rattle.join_base.specs.contracts.message.Stamped as Stamped
 use Rattle.script_types.specs.contracts.plan.Statement as Statement
 use Rattle.script_types.specs.contracts.plan.Rule as Rule
-use Rattle.match_tree.specs.contracts.ties.Ties as Ties
+use Rattle.row_screens.specs.contracts.ties.Ties as Ties
 use Rattle.match_tree.specs.contracts.tree.MatchTree as MatchTree
 use Rattle.mailbox_core.specs.contracts.mailbox.Mailbox as Mailbox
 use Rattle.value_index.specs.contracts.valued.Valued as Valued

@@ -13,7 +13,7 @@ use Rattle.pattern_core.specs.Members.{IsIn}
 use Rattle.pattern_core.specs.Window.{SeesLatest}
 use Rattle.pattern_core.proofs.MembersLemmas.{IsIn-append_left, IsIn-append_right, IsIn-filter_from, IsIn-map}
 use Rattle.join_base.specs.Taken.{contains_number}
-use Rattle.match_tree.specs.Offers.{Offered}
+use Rattle.row_screens.specs.Offers.{Offered}
 use Rattle.match_tree.specs.Tree.{Tree, completions, empty_of, extensions, is_path_without, seen_paths}
 use Rattle.tree_law.specs.Partials.{AreLive, NoneWaits, left_of, messages_more, live_more, number_more, offer_more}
 use Rattle.tree_law.specs.Trees.{AreReservedFor, AreTreesOf, HoldAll, Holds}

@@ -12,8 +12,8 @@ use Rattle.pattern_core.specs.Members.{IsIn}
 use Rattle.pattern_core.specs.Matches.{is_of_kind, holds_number, slot_is, is_full}
 use Rattle.pattern_core.specs.Suits.{IsRecorded}
 use Rattle.pattern_core.proofs.MembersLemmas.{IsIn-append_left, IsIn-append_right, IsIn-append_cases, IsIn-filter, IsIn-filter_from}
-use Rattle.match_tree.specs.Routes.{with_number}
-use Rattle.match_tree.specs.Offers.{is_free}
+use Rattle.tree_rows.specs.Routes.{with_number}
+use Rattle.row_screens.specs.Offers.{is_free}
 use Rattle.tree_law.proofs.EvalLemmas.{AreRecorded}
 
 pub both_of : (a b : Bool) → a ≡ true → b ≡ true → (a && b) ≡ true

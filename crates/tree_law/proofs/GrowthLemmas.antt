@@ -21,11 +21,11 @@ use Rattle.pattern_core.proofs.AssignsLemmas.{IsIn-assignments, Assigns-from_IsI
 use Rattle.pattern_core.proofs.ChoiceLemmas.{least-IsChoice, least_from_IsChoice}
 use Rattle.pattern_core.proofs.MembersLemmas.{IsIn-append_left, IsIn-append_right, IsIn-append_cases, IsIn-map, IsIn-map_from, IsIn-filter, IsIn-filter_from, IsIn-flat_map, IsIn-flat_map_from}
 use Rattle.pattern_core.proofs.SeenLemmas.{seen_from_oldest}
-use Rattle.match_tree.specs.Routes.{with_number}
+use Rattle.tree_rows.specs.Routes.{with_number}
 use Rattle.join_base.specs.Taken.{contains_number}
-use Rattle.match_tree.specs.Offers.{Offered, places, is_free, may_take, takers, growing, completes, leaves_one_free, matches_at}
+use Rattle.row_screens.specs.Offers.{Offered, places, is_free, may_take, takers, growing, completes, leaves_one_free, matches_at}
 use Rattle.match_tree.specs.Tree.{SameMembers, is_slot_seen, is_path_seen, is_slot_without, is_path_without, seen_paths, extensions, completions}
-use Rattle.match_tree.proofs.SlotsLemmas.{agreeable_below, extends_one}
+use Rattle.row_screens.proofs.SlotsLemmas.{agreeable_below, extends_one}
 use Rattle.tree_law.specs.Partials.{ArePartial, NoneWaits, AreLive, messages_more, number_more, live_more, offer_more, left_of}
 use Rattle.tree_law.proofs.EvalLemmas.{recorded_message-more, message_of_slot-more, AreRecorded, agreeable-same, all_true-same}
 use Rattle.tree_law.proofs.AssignLemmas.{both_of, free_not_full, Assigns-mono, Assigns-recorded, Assigns-same, Assigns-apart, passing, passed, Takes, split, Assigns-further}

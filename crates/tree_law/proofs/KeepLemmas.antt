@@ -6,7 +6,7 @@ use Rattle.std.proofs.lemmas.List.{take_more, take_more_set, drop-set-lt, take_a
 use Rattle.join_base.specs.declared.message.Message.{Message}
 use Rattle.pattern_core.specs.Window.{SeesLatest, oldest_seen}
 use Rattle.match_tree.specs.Tree.{Tree, Reserve, SameMembers, IsReserved}
-use Rattle.match_tree.proofs.WalkLemmas.{all_at, left_item, left_more}
+use Rattle.tree_rows.proofs.WalkLemmas.{all_at, left_item, left_more}
 use Rattle.tree_law.specs.Partials.{number_more, offer_more}
 use Rattle.tree_law.specs.Trees.{HoldAll, HasReserve, IsKeptAt, AreKept, AreKeptAt, AreSettled, AreReservedFor, best_of, expired_tree, reserve_best}
 use Rattle.tree_law.proofs.TreesLemmas.{none_first}

@@ -5,7 +5,7 @@ use Rattle.std.specs.List.{AllByRecursion}
 use Rattle.pattern_core.specs.declared.candidate.Candidate.{Candidate}
 use Rattle.pattern_core.specs.Choice.{least, lesser_of}
 use Rattle.pattern_core.proofs.BestLemmas.{least-append}
-use Rattle.match_tree.proofs.WalkLemmas.{all_at, left_item, left_more}
+use Rattle.tree_rows.proofs.WalkLemmas.{all_at, left_item, left_more}
 use Rattle.match_tree.specs.Tree.{Tree, Reserve, IsReserved, offer_to}
 use Rattle.match_tree.specs.Tries.{tries}
 use Rattle.std.specs.Prelude.{MatchOption}

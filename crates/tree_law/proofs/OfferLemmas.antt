@@ -13,15 +13,15 @@ use Rattle.pattern_core.specs.Suits.{IsRecorded, SlotsSuit, DefinitionSuits}
 use Rattle.pattern_core.specs.Window.{is_seen, seen_of}
 use Rattle.pattern_core.proofs.AssignsLemmas.{Assigns-from_IsIn}
 use Rattle.pattern_core.proofs.MembersLemmas.{IsIn-filter_from}
-use Rattle.match_tree.specs.Below.{AreBelow}
-use Rattle.match_tree.specs.Offering.{CanOffer}
+use Rattle.row_screens.specs.Below.{AreBelow}
+use Rattle.row_screens.specs.Offering.{CanOffer}
 use Rattle.match_tree.specs.Tree.{Tree}
 use Rattle.value_index.specs.declared.field.IndexedField.{IndexedField}
 use Rattle.value_index.specs.Index.{Index, Has, Lacks, entry, no_index}
 use Rattle.value_index.specs.Values.{text_value}
-use Rattle.match_tree.specs.Offering.{AreIndexed}
+use Rattle.row_screens.specs.Offering.{AreIndexed}
 use Rattle.match_tree.proofs.FirstLemmas.{all_members}
-use Rattle.match_tree.proofs.LookLemmas.{unindexed}
+use Rattle.row_screens.proofs.LookLemmas.{unindexed}
 use Rattle.tree_law.specs.Partials.{AreLive, messages_more, number_more, offer_more}
 use Rattle.tree_law.specs.Trees.{HasPaths, Holds}
 use Rattle.tree_law.proofs.EvalLemmas.{recorded_message-more, message_of_slot-more, agreeable-same}

@@ -7,8 +7,8 @@ use Rattle.join_base.specs.declared.message.Message.{Message}
 use Rattle.guard_eval.specs.Meaning.{Assignment, recorded_message, is_slot_filled}
 use Rattle.guard_eval.proofs.ExtendLemmas.{both_true}
 use Rattle.pattern_core.specs.Matches.{is_of_kind, is_agreeable, partial_matches}
-use Rattle.match_tree.specs.Routes.{with_number}
-use Rattle.match_tree.specs.Offers.{Offered, places, is_free}
+use Rattle.tree_rows.specs.Routes.{with_number}
+use Rattle.row_screens.specs.Offers.{Offered, places, is_free}
 use Rattle.match_tree.specs.Tries.{is_tried, tried, tries, without_greatest}
 use Rattle.tree_law.specs.Laws.{AllTriesAreFew, TriesAreFew, pattern_count}
 use Rattle.tree_law.specs.Partials.{messages_more, number_more, offer_more}

@@ -10,7 +10,7 @@ use Rattle.pattern_core.specs.Matches.{assignments, holds_number, is_agreeable, 
 use Rattle.pattern_core.specs.Window.{seen_of}
 use Rattle.pattern_core.proofs.AssignsLemmas.{IsIn-assignments, Assigns-from_IsIn}
 use Rattle.pattern_core.proofs.MembersLemmas.{IsIn-filter, IsIn-filter_from}
-use Rattle.match_tree.proofs.SlotsLemmas.{agreeable_below}
+use Rattle.row_screens.proofs.SlotsLemmas.{agreeable_below}
 use Rattle.tree_law.specs.Laws.{PrefixesArePartial, up_to}
 use Rattle.tree_law.proofs.AssignLemmas.{both_of}
 

@@ -19,9 +19,9 @@ use Rattle.pattern_core.proofs.AgreeLemmas.{agreeable_empty}
 use Rattle.pattern_core.proofs.BestLemmas.{least-append}
 use Rattle.pattern_core.proofs.ChoiceLemmas.{least-IsChoice}
 use Rattle.pattern_core.proofs.MembersLemmas.{IsIn-append_left, IsIn-append_right, IsIn-append_cases, IsIn-map_from, IsIn-filter_from, IsIn-flat_map_from}
-use Rattle.match_tree.specs.Routes.{with_number}
+use Rattle.tree_rows.specs.Routes.{with_number}
 use Rattle.join_base.specs.Taken.{contains_number}
-use Rattle.match_tree.specs.Offers.{Offered, is_free, may_take, takers, completes, matches_at, places}
+use Rattle.row_screens.specs.Offers.{Offered, is_free, may_take, takers, completes, matches_at, places}
 use Rattle.match_tree.specs.Tree.{Tree, Reserve, SameMembers, IsReserved, seen_paths, extensions, completions, empty_of}
 use Rattle.tree_law.specs.Partials.{ArePartial, NoneWaits, AreLive, messages_more, number_more, live_more, offer_more, left_of}
 use Rattle.tree_law.specs.Trees.{Holds, HoldAll, AreTreesOf, IsReservedFor, AreReservedFor, reserve_best, best_of, KeepsSeenPaths, fired_tree, cleared_tree}

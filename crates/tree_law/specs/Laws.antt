@@ -6,7 +6,7 @@ use Rattle.guard_eval.specs.Meaning.{Assignment, recorded_message}
 use Rattle.pattern_core.specs.declared.definition.Definition.{Definition}
 use Rattle.pattern_core.specs.Matches.{is_of_kind, partial_matches}
 use Rattle.pattern_core.specs.Members.{IsIn}
-use Rattle.match_tree.specs.Offers.{Offered}
+use Rattle.row_screens.specs.Offers.{Offered}
 use Rattle.match_tree.specs.Tries.{tries}
 use Rattle.tree_law.specs.Trees.{tries_from}
 

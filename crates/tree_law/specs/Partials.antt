@@ -10,7 +10,7 @@ use Rattle.pattern_core.specs.Window.{oldest_seen}
 use Rattle.std.specs.List.{filter}
 use Rattle.join_base.specs.Taken.{contains_number}
 use Rattle.value_index.specs.Index.{no_index}
-use Rattle.match_tree.specs.Offers.{Offered}
+use Rattle.row_screens.specs.Offers.{Offered}
 use Rattle.match_tree.specs.Tree.{SameMembers}
 
 -- the paths are the partial matches of the recorded messages and live numbers

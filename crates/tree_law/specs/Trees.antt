@@ -9,7 +9,7 @@ use Rattle.pattern_core.specs.Matches.{partial_matches}
 use Rattle.pattern_core.specs.Window.{SeesLatest, oldest_seen}
 use Rattle.match_tree.specs.Tree.{Tree, AreOnce, Reserve, SameMembers, IsReserved, seen_paths, is_path_seen, is_path_without, empty_of, offer_to, with_paths}
 use Rattle.value_index.specs.Index.{Index}
-use Rattle.match_tree.specs.Offering.{AreIndexed, CanOffer}
+use Rattle.row_screens.specs.Offering.{AreIndexed, CanOffer}
 use Rattle.match_tree.specs.Tries.{tries}
 use Rattle.tree_law.specs.Partials.{ArePartial, NoneWaits, offer_more}
 

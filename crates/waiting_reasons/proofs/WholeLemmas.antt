@@ -12,7 +12,7 @@ use Rattle.pattern_core.specs.Assigns.{Assigns}
 use Rattle.pattern_core.specs.Matches.{is_of_kind, holds_number, is_agreeable, slot_is}
 use Rattle.pattern_core.specs.Members.{IsIn}
 use Rattle.pattern_core.proofs.MembersLemmas.{IsIn-append_left, IsIn-append_right, IsIn-flat_map}
-use Rattle.match_tree.proofs.SlotsLemmas.{agreeable_below}
+use Rattle.row_screens.proofs.SlotsLemmas.{agreeable_below}
 use Rattle.waiting_reasons.specs.Ways.{alone_at, grown, grown_at, longer, longer_at, may_stand, no_numbers, ways}
 use Rattle.waiting_reasons.proofs.SoundLemmas.{length-assigns}
 use Rattle.waiting_reasons.proofs.WaysLemmas.{may_from}

@@ -1,17 +1,17 @@
 use Rattle.std.proofs.Common.{◌≡◌, ◌∙◌, ◌≤◌, ◌+◌, ◌++◌, ◌∷◌, [], ℕ, List, ap, sym, subst, arith, take, drop, length}
 use Rattle.std.specs.List.{filter}
 use Rattle.std.proofs.lemmas.List.{take_at}
-use Rattle.match_tree.specs.Routes.{Route, Branch, rows_routes, lacks}
+use Rattle.tree_rows.specs.Routes.{Route, Branch, rows_routes, lacks}
 use Rattle.join_base.specs.Taken.{contains_number}
-use Rattle.match_tree.specs.Offers.{places, growing, takers}
-use Rattle.match_tree.specs.Below.{AreOpen}
-use Rattle.match_tree.specs.Offering.{offered}
-use Rattle.match_tree.specs.Order.{AreSound}
+use Rattle.row_screens.specs.Offers.{places, growing, takers}
+use Rattle.row_screens.specs.Below.{AreOpen}
+use Rattle.row_screens.specs.Offering.{offered}
+use Rattle.tree_rows.specs.Order.{AreSound}
 use Rattle.match_tree.specs.Begins.{AreLess, Begins}
-use Rattle.match_tree.proofs.VisitLemmas.{all_take}
+use Rattle.row_screens.proofs.MemberLemmas.{all_take}
 use Rattle.match_tree.proofs.BeginLemmas.{begins_nowhere}
 use Rattle.match_tree.proofs.RowsLemmas.{rows_more, sound_more, less_more, begins_in_rows}
-use Rattle.match_tree.proofs.FreeLemmas.{all_grow, none_grow}
+use Rattle.row_screens.proofs.FreeLemmas.{all_grow, none_grow}
 use Rattle.match_tree.proofs.at_leaf.begin.Goals.{After-grow_rows}
 use Rattle.match_tree.proofs.at_leaf.begin.Goals as goal
 

@@ -1,9 +1,9 @@
 use Rattle.std.proofs.Common.{Vec, ◌∙◌, [], ◌∷◌, List, ap, sym, subst}
 use Rattle.std.specs.declared.alloc.Global.{Global}
 use Rattle.std.specs.List.{filter}
-use Rattle.match_tree.specs.Routes.{Branch, rows_routes, lacks}
+use Rattle.tree_rows.specs.Routes.{Branch, rows_routes, lacks}
 use Rattle.match_tree.specs.Behind.{IsBehind}
-use Rattle.match_tree.proofs.OrderLemmas.{rows_ordered_behind}
+use Rattle.tree_rows.proofs.OrderLemmas.{rows_ordered_behind}
 use Rattle.match_tree.proofs.at_leaf.begin_leaf.Goals as goal
 
 pub returns-in-Ok-clause-behind : goal.returns-in-Ok-clause-behind

@@ -1,14 +1,14 @@
 use Rattle.std.proofs.Common.{◌≡◌, ◌∙◌, ◌+◌, ◌++◌, ◌∷◌, [], ℕ, List, Bool, cond, ap, sym, subst, refl, arith, length}
 use Rattle.std.specs.List.{filter}
-use Rattle.match_tree.specs.Routes.{Route, Branch, row_routes, lacks}
+use Rattle.tree_rows.specs.Routes.{Route, Branch, row_routes, lacks}
 use Rattle.join_base.specs.Taken.{contains_number}
-use Rattle.match_tree.specs.Below.{AreOpen}
-use Rattle.match_tree.specs.Offering.{offered}
-use Rattle.match_tree.specs.Order.{IsSoundRow}
+use Rattle.row_screens.specs.Below.{AreOpen}
+use Rattle.row_screens.specs.Offering.{offered}
+use Rattle.tree_rows.specs.Order.{IsSoundRow}
 use Rattle.match_tree.specs.Begins.{Begins}
 use Rattle.match_tree.proofs.BeginLemmas.{begins_nowhere}
 use Rattle.match_tree.proofs.OpenLemmas.{open_push}
-use Rattle.match_tree.specs.Rows.{leaf}
+use Rattle.tree_rows.specs.Rows.{leaf}
 use Rattle.match_tree.proofs.RowsLemmas.{push_sound, push_begins, push_same, push_count}
 use Rattle.match_tree.proofs.at_leaf.begin_row.Goals as goal
 

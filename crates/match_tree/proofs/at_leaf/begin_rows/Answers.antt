@@ -2,17 +2,18 @@ use Rattle.std.proofs.Common.{◌≡◌, ◌∙◌, ◌<◌, ◌+◌, ◌∷◌,
 use Rattle.std.specs.List.{filter}
 use Rattle.std.proofs.lemmas.List.{take_all, drop-set-lt}
 use Rattle.std.proofs.lemmas.Bool.{and_parts}
-use Rattle.match_tree.specs.Routes.{Branch, row_routes, rows_routes, lacks}
+use Rattle.tree_rows.specs.Routes.{Branch, row_routes, rows_routes, lacks}
 use Rattle.join_base.specs.Taken.{contains_number}
-use Rattle.match_tree.specs.Offers.{places}
-use Rattle.match_tree.specs.Below.{IsOpen, AreOpen}
-use Rattle.match_tree.specs.Order.{IsSoundRow, AreSound}
+use Rattle.row_screens.specs.Offers.{places}
+use Rattle.row_screens.specs.Below.{IsOpen, AreOpen}
+use Rattle.tree_rows.specs.Order.{IsSoundRow, AreSound}
 use Rattle.match_tree.specs.Begins.{IsLess, Begins}
 use Rattle.match_tree.proofs.LeadLemmas.{all_both}
-use Rattle.match_tree.proofs.PruneLemmas.{all_rows}
-use Rattle.match_tree.proofs.WalkLemmas.{all_at, left_item, left_more}
+use Rattle.tree_rows.proofs.PruneLemmas.{all_rows}
+use Rattle.tree_rows.proofs.WalkLemmas.{all_at, left_item, left_more}
 use Rattle.match_tree.proofs.BeginLemmas.{begins_nowhere}
-use Rattle.match_tree.proofs.RowsLemmas.{now_routes, sound_on, same_on, begins_on, counts_rows_on}
+use Rattle.tree_rows.proofs.RowsLemmas.{now_routes, counts_rows_on}
+use Rattle.match_tree.proofs.RowsLemmas.{sound_on, same_on, begins_on}
 use Rattle.match_tree.proofs.at_leaf.begin_rows.Goals as goal
 
 pub begin_row-fits-requires : goal.begin_row-fits-requires

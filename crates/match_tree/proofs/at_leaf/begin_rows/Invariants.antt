@@ -1,10 +1,10 @@
 use Rattle.std.proofs.Common.{◌≡◌, ◌+◌, ◌∷◌, [], true, length, take, drop}
 use Rattle.std.specs.List.{filter}
-use Rattle.match_tree.specs.Routes.{rows_routes, lacks}
+use Rattle.tree_rows.specs.Routes.{rows_routes, lacks}
 use Rattle.join_base.specs.Taken.{contains_number}
-use Rattle.match_tree.specs.Offers.{places}
-use Rattle.match_tree.specs.Below.{AreOpen}
-use Rattle.match_tree.specs.Order.{AreSound}
+use Rattle.row_screens.specs.Offers.{places}
+use Rattle.row_screens.specs.Below.{AreOpen}
+use Rattle.tree_rows.specs.Order.{AreSound}
 use Rattle.match_tree.specs.Begins.{Begins}
 use Rattle.match_tree.proofs.at_leaf.begin_rows.Given as goal
 

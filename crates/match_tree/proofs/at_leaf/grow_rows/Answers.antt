@@ -1,6 +1,6 @@
 use Rattle.std.proofs.Common.{◌∙◌, ◌+◌, List, [], ◌∷◌, ◌++◌, replicate, length, arith, ap, append_assoc}
 use Rattle.std.proofs.lemmas.List.{length_push, replicate_more}
-use Rattle.match_tree.specs.Routes.{Branch}
+use Rattle.tree_rows.specs.Routes.{Branch}
 use Rattle.match_tree.proofs.at_leaf.grow_rows.Goals as goal
 
 pub loop-rows-preserved : goal.loop-rows-preserved

@@ -1,9 +1,9 @@
 use Rattle.std.proofs.Common.{[], sym, subst, List, ℕ, ◌∙◌}
 use Rattle.std.specs.List.{AllByRecursion}
 use Rattle.match_tree.specs.Behind.{routes_behind}
-use Rattle.match_tree.specs.Offers.{places, growing}
-use Rattle.match_tree.specs.Offering.{offered, MayTake}
-use Rattle.match_tree.proofs.VisitLemmas.{all_take}
+use Rattle.row_screens.specs.Offers.{places, growing}
+use Rattle.row_screens.specs.Offering.{offered, MayTake}
+use Rattle.row_screens.proofs.MemberLemmas.{all_take}
 use Rattle.match_tree.proofs.GrowLemmas.{grows_none}
 use Rattle.match_tree.proofs.BeginLemmas.{grows_begun}
 use Rattle.match_tree.proofs.at_leaf.visit_leaf.Goals as goal

@@ -2,7 +2,7 @@ use Rattle.std.proofs.Common.{◌∙◌, ap, sym}
 use Rattle.std.proofs.lemmas.Option.{get_or_from_slice_get}
 use Rattle.guard_eval.specs.Meaning.{recorded_message}
 use Rattle.pattern_core.specs.Matches.{is_of_kind}
-use Rattle.match_tree.specs.Offering.{offered}
+use Rattle.row_screens.specs.Offering.{offered}
 use Rattle.match_tree.proofs.ThinLemmas.{itself_barred, kind_barred}
 use Rattle.match_tree.proofs.by_value.is_wanted.Goals as goal
 

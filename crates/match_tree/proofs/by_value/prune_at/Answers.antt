@@ -1,12 +1,12 @@
 use Rattle.std.proofs.Common.{◌≡◌, ◌≢◌, ◌∙◌, ◌<◌, ℕ, length, get_or, sym, subst, arith}
 use Rattle.std.proofs.lemmas.List.{get_or_default}
-use Rattle.match_tree.specs.Routes.{Branch}
-use Rattle.match_tree.specs.Order.{IsOrderedNode}
-use Rattle.match_tree.specs.Pruned.{AreShort, RiseFrom}
-use Rattle.match_tree.specs.Rows.{leaf, node_at}
-use Rattle.match_tree.proofs.CountLemmas.{counts_parts}
+use Rattle.tree_rows.specs.Routes.{Branch}
+use Rattle.tree_rows.specs.Order.{IsOrderedNode}
+use Rattle.tree_rows.specs.Pruned.{AreShort, RiseFrom}
+use Rattle.tree_rows.specs.Rows.{leaf, node_at}
+use Rattle.tree_rows.proofs.CountLemmas.{counts_parts}
 use Rattle.match_tree.proofs.ThinLemmas.{count_set, same_thinned, thinned_set}
-use Rattle.match_tree.proofs.WalkLemmas.{all_at}
+use Rattle.tree_rows.proofs.WalkLemmas.{all_at}
 use Rattle.match_tree.proofs.by_value.prune_at.Goals as goal
 
 pub index_mut-requires : goal.index_mut-requires

@@ -2,15 +2,15 @@ use Rattle.std.proofs.Common.{◌≡◌, ◌∙◌, ◌<◌, ◌^◌, ◌∷◌,
 use Rattle.std.specs.declared.collections.VecDeque.{VecDeque}
 use Rattle.std.specs.declared.alloc.Global.{Global}
 use Rattle.std.specs.List.{AllByRecursion}
-use Rattle.match_tree.specs.declared.node.Node.{Node}
-use Rattle.match_tree.specs.declared.row.Row.TheInside.{Inside}
-use Rattle.match_tree.specs.Shapes.{branches}
-use Rattle.match_tree.specs.Routes.{Branch, row_routes}
-use Rattle.match_tree.specs.Offering.{offered}
-use Rattle.match_tree.specs.Order.{IsSoundRow}
-use Rattle.match_tree.specs.Pruned.{AreShort, pruned}
+use Rattle.tree_rows.specs.declared.node.Node.{Node}
+use Rattle.tree_rows.specs.declared.row.Row.TheInside.{Inside}
+use Rattle.tree_rows.specs.Shapes.{branches}
+use Rattle.tree_rows.specs.Routes.{Branch, row_routes}
+use Rattle.row_screens.specs.Offering.{offered}
+use Rattle.tree_rows.specs.Order.{IsSoundRow}
+use Rattle.tree_rows.specs.Pruned.{AreShort, pruned}
 use Rattle.match_tree.specs.Thinned.{NodesContinuePath}
-use Rattle.match_tree.proofs.LeafLemmas.{leaves_kept}
+use Rattle.tree_rows.proofs.LeafLemmas.{leaves_kept}
 use Rattle.match_tree.proofs.by_value.prune_behind_values.Goals as goal
 use Rattle.match_tree.proofs.by_value.prune_behind_values.Goals.{in-Empty, in-One, in-Leaves, in-Many, in-Mixed}
 

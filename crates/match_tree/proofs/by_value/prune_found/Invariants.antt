@@ -1,6 +1,6 @@
 use Rattle.std.proofs.Common.{◌≡◌, ◌+◌, length}
 use Rattle.value_index.specs.ValueRange.{Ascend}
-use Rattle.match_tree.specs.Routes.{row_routes}
+use Rattle.tree_rows.specs.Routes.{row_routes}
 use Rattle.match_tree.specs.Thinned.{IsThinned}
 use Rattle.match_tree.proofs.ThinLemmas.{IsLeft}
 use Rattle.match_tree.proofs.by_value.prune_found.Given as goal

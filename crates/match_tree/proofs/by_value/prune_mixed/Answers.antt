@@ -2,10 +2,10 @@ use Rattle.std.proofs.Common.{◌≡◌, ◌∙◌, ◌+◌, ◌++◌, ◌∷◌
 use Rattle.std.specs.List.{AllByRecursion}
 use Rattle.std.proofs.lemmas.List.{nil_from_length, take_all, take_more}
 use Rattle.pattern_core.specs.Suits.{IsRecorded}
-use Rattle.match_tree.specs.Offering.{offered}
-use Rattle.match_tree.specs.Pruned.{pruned}
+use Rattle.row_screens.specs.Offering.{offered}
+use Rattle.tree_rows.specs.Pruned.{pruned}
 use Rattle.match_tree.proofs.ThinLemmas.{few_more, nodes_rise, pruned_none, thinned_go_on, thinned_more, thinned_short, thinned_sound}
-use Rattle.match_tree.proofs.WalkLemmas.{all_at}
+use Rattle.tree_rows.proofs.WalkLemmas.{all_at}
 use Rattle.match_tree.proofs.by_value.prune_mixed.Goals as goal
 
 pub prune_nodes-requires : goal.prune_nodes-requires

@@ -1,9 +1,9 @@
 use Rattle.std.proofs.Common.{◌≡◌, ◌+◌, ◌≤◌, length, map, take}
 use Rattle.std.specs.List.{AllByRecursion}
-use Rattle.match_tree.specs.Routes.{row_routes}
-use Rattle.match_tree.specs.Offering.{offered}
-use Rattle.match_tree.specs.Order.{IsSoundRow}
-use Rattle.match_tree.specs.Pruned.{AreShort, pruned}
+use Rattle.tree_rows.specs.Routes.{row_routes}
+use Rattle.row_screens.specs.Offering.{offered}
+use Rattle.tree_rows.specs.Order.{IsSoundRow}
+use Rattle.tree_rows.specs.Pruned.{AreShort, pruned}
 use Rattle.match_tree.specs.Thinned.{NodesContinuePath}
 use Rattle.match_tree.proofs.by_value.prune_mixed.Given as goal
 

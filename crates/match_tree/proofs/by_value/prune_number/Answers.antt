@@ -1,5 +1,5 @@
-use Rattle.match_tree.specs.Offers.{Offered}
-use Rattle.match_tree.specs.Offering.{offered}
+use Rattle.row_screens.specs.Offers.{Offered}
+use Rattle.row_screens.specs.Offering.{offered}
 use Rattle.match_tree.proofs.ThinLemmas.{all_guarded, can_number, nodes_rise}
 use Rattle.match_tree.proofs.by_value.prune_number.Goals as goal
 

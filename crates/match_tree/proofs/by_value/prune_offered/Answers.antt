@@ -1,6 +1,6 @@
 use Rattle.std.proofs.Common.{◌≡◌, ◌∷◌, [], ℕ, List, false, length, ap, sym, subst, refl, arith}
-use Rattle.match_tree.specs.Routes.{Branch, row_routes}
-use Rattle.match_tree.specs.Offering.{offered}
+use Rattle.tree_rows.specs.Routes.{Branch, row_routes}
+use Rattle.row_screens.specs.Offering.{offered}
 use Rattle.match_tree.specs.Thinned.{IsGuarded, IsThinned}
 use Rattle.match_tree.proofs.ThinLemmas.{AreBarred, barred_all, barred_more, guarded_pruned, same_thinned, thinned_each, thinned_rise, thinned_short, thinned_sound, weaker}
 use Rattle.match_tree.proofs.by_value.prune_offered.Goals as goal

@@ -1,6 +1,6 @@
 use Rattle.std.proofs.Common.{◌≡◌, ◌+◌, ◌∷◌, [], length}
-use Rattle.match_tree.specs.Routes.{row_routes}
-use Rattle.match_tree.specs.Offering.{offered}
+use Rattle.tree_rows.specs.Routes.{row_routes}
+use Rattle.row_screens.specs.Offering.{offered}
 use Rattle.match_tree.specs.Thinned.{IsThinned}
 use Rattle.match_tree.proofs.ThinLemmas.{AreBarred}
 use Rattle.match_tree.proofs.by_value.prune_offered.Given as goal

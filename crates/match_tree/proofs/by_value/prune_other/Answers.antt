@@ -1,7 +1,7 @@
 use Rattle.std.proofs.Common.{◌∷◌, []}
-use Rattle.match_tree.specs.Offering.{offered}
+use Rattle.row_screens.specs.Offering.{offered}
 use Rattle.match_tree.specs.Thinned.{IsBarred}
-use Rattle.match_tree.specs.Rows.{node_at}
+use Rattle.tree_rows.specs.Rows.{node_at}
 use Rattle.match_tree.proofs.ThinLemmas.{same_thinned}
 use Rattle.match_tree.proofs.by_value.prune_other.Goals as goal
 

@@ -1,5 +1,5 @@
 use Rattle.std.proofs.Common.{◌≡◌, ◌∙◌, ◌++◌, ◌∷◌, [], ℕ, List, ap}
-use Rattle.match_tree.specs.Offering.{offered}
+use Rattle.row_screens.specs.Offering.{offered}
 use Rattle.match_tree.proofs.ThinLemmas.{pair_thinned}
 use Rattle.match_tree.proofs.by_value.prune_pair.Goals as goal
 

@@ -1,13 +1,13 @@
 use Rattle.std.proofs.Common.{◌≡◌, ◌∙◌, ◌-◌, [], List, map, ap, sym, subst, arith}
 use Rattle.std.specs.List.{filter, AllByRecursion}
 use Rattle.std.proofs.lemmas.List.{nil_from_length}
-use Rattle.match_tree.specs.Routes.{Branch, row_routes, node_routes, lacks}
-use Rattle.match_tree.specs.Offering.{offered}
-use Rattle.match_tree.specs.Order.{IsOrderedNode, IsSoundRow}
-use Rattle.match_tree.specs.Pruned.{AreShort, pruned, without_numbers}
+use Rattle.tree_rows.specs.Routes.{Branch, row_routes, node_routes, lacks}
+use Rattle.row_screens.specs.Offering.{offered}
+use Rattle.tree_rows.specs.Order.{IsOrderedNode, IsSoundRow}
+use Rattle.tree_rows.specs.Pruned.{AreShort, pruned, without_numbers}
 use Rattle.match_tree.specs.Thinned.{ContinuePath, NodesContinuePath}
-use Rattle.match_tree.proofs.CountLemmas.{sound_filter}
-use Rattle.match_tree.proofs.PruneLemmas.{all_filtered, pruned_leaves, pruned_row, short_below}
+use Rattle.tree_rows.proofs.CountLemmas.{sound_filter}
+use Rattle.tree_rows.proofs.PruneLemmas.{all_filtered, pruned_leaves, pruned_row, short_below}
 use Rattle.match_tree.proofs.ThinLemmas.{nodes_go_on}
 use Rattle.match_tree.proofs.by_value.prune_pattern.Goals as goal
 

@@ -2,8 +2,8 @@ use Rattle.std.proofs.Common.{◌≡◌, ◌∙◌, ℕ, List, None, length, rep
 use Rattle.std.specs.List.{filter, AllByRecursion}
 use Rattle.guard_eval.specs.Meaning.{Assignment}
 use Rattle.pattern_core.specs.Suits.{IsRecorded}
-use Rattle.match_tree.specs.Routes.{rows_routes, lacks}
-use Rattle.match_tree.specs.Offering.{offered, CanOffer, LeadOn}
+use Rattle.tree_rows.specs.Routes.{rows_routes, lacks}
+use Rattle.row_screens.specs.Offering.{offered, CanOffer, LeadOn}
 use Rattle.match_tree.proofs.ThinLemmas.{filter_standing, recorded_standing}
 use Rattle.match_tree.proofs.by_value.prune_values.Goals as goal
 

@@ -2,15 +2,15 @@ use Rattle.std.proofs.Common.{◌≡◌, ◌∙◌, ◌+◌, ◌<◌, ◌≤◌,
 use Rattle.std.specs.List.{filter}
 use Rattle.std.proofs.lemmas.List.{drop-set-lt, get_or_default, take_all}
 use Rattle.std.proofs.lemmas.List.Elements.{filter-append}
-use Rattle.match_tree.specs.Routes.{Route, Branch, row_routes, rows_routes, lacks}
-use Rattle.match_tree.specs.Offering.{offered}
-use Rattle.match_tree.specs.Order.{IsSoundRow}
-use Rattle.match_tree.specs.Pruned.{AreShort}
+use Rattle.tree_rows.specs.Routes.{Route, Branch, row_routes, rows_routes, lacks}
+use Rattle.row_screens.specs.Offering.{offered}
+use Rattle.tree_rows.specs.Order.{IsSoundRow}
+use Rattle.tree_rows.specs.Pruned.{AreShort}
 use Rattle.match_tree.specs.Thinned.{AreVisited, IsVisited}
-use Rattle.match_tree.proofs.CountLemmas.{counts_row}
-use Rattle.match_tree.proofs.PruneLemmas.{all_rows, row_count, short_row}
-use Rattle.match_tree.proofs.RowsLemmas.{before_routes, counts_rows_on, now_routes}
-use Rattle.match_tree.proofs.WalkLemmas.{all_at, left_item, left_more}
+use Rattle.tree_rows.proofs.CountLemmas.{counts_row}
+use Rattle.tree_rows.proofs.PruneLemmas.{all_rows, row_count, short_row}
+use Rattle.tree_rows.proofs.RowsLemmas.{before_routes, counts_rows_on, now_routes}
+use Rattle.tree_rows.proofs.WalkLemmas.{all_at, left_item, left_more}
 use Rattle.match_tree.proofs.by_value.take_back.Goals as goal
 
 pub loop-place-init : goal.loop-place-init

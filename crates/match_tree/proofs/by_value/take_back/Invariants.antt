@@ -1,6 +1,6 @@
 use Rattle.std.proofs.Common.{◌≡◌, ◌+◌, ◌∷◌, [], length, take, drop}
 use Rattle.std.specs.List.{filter}
-use Rattle.match_tree.specs.Routes.{rows_routes, lacks}
+use Rattle.tree_rows.specs.Routes.{rows_routes, lacks}
 use Rattle.match_tree.proofs.by_value.take_back.Given as goal
 
 abbrev pub invariant-loop-place : goal.invariant-loop-place

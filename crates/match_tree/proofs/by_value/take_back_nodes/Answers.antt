@@ -1,6 +1,6 @@
 use Rattle.std.proofs.Common.{◌≡◌, ◌∙◌, ◌∷◌, [], ℕ, Bool, false, sym, arith}
-use Rattle.match_tree.specs.Offering.{offered}
-use Rattle.match_tree.specs.Pruned.{pruned}
+use Rattle.row_screens.specs.Offering.{offered}
+use Rattle.tree_rows.specs.Pruned.{pruned}
 use Rattle.match_tree.proofs.ThinLemmas.{all_visited_guarded, all_visited_rise, pruned_twice, thinned_all, thinned_map, thinned_rise, thinned_short, thinned_sound, weaker}
 use Rattle.match_tree.proofs.by_value.take_back_nodes.Goals as goal
 

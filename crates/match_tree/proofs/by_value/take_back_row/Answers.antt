@@ -1,13 +1,13 @@
 use Rattle.std.proofs.Common.{◌≡◌, ◌∙◌, ◌-◌, ◌++◌, ◌∷◌, [], ℕ, List, map, ap, sym, subst, arith}
 use Rattle.std.specs.List.{filter, AllByRecursion}
 use Rattle.std.proofs.lemmas.List.{nil_from_length}
-use Rattle.match_tree.specs.Routes.{Branch, row_routes, node_routes, lacks}
-use Rattle.match_tree.specs.Offering.{offered}
-use Rattle.match_tree.specs.Order.{IsOrderedNode, IsSoundRow}
-use Rattle.match_tree.specs.Pruned.{AreShort, pruned, without_numbers}
+use Rattle.tree_rows.specs.Routes.{Branch, row_routes, node_routes, lacks}
+use Rattle.row_screens.specs.Offering.{offered}
+use Rattle.tree_rows.specs.Order.{IsOrderedNode, IsSoundRow}
+use Rattle.tree_rows.specs.Pruned.{AreShort, pruned, without_numbers}
 use Rattle.match_tree.specs.Thinned.{AreVisited}
-use Rattle.match_tree.proofs.CountLemmas.{sound_filter}
-use Rattle.match_tree.proofs.PruneLemmas.{all_filtered, pruned_leaves, pruned_row, short_below}
+use Rattle.tree_rows.proofs.CountLemmas.{sound_filter}
+use Rattle.tree_rows.proofs.PruneLemmas.{all_filtered, pruned_leaves, pruned_row, short_below}
 use Rattle.match_tree.proofs.ThinLemmas.{visited_nodes}
 use Rattle.match_tree.proofs.by_value.take_back_row.Goals.{After-remove_numbers-gone}
 use Rattle.match_tree.proofs.by_value.take_back_row.Goals as goal

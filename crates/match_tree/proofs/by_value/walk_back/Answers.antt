@@ -1,5 +1,5 @@
 use Rattle.std.proofs.Common.{◌≡◌, ◌∙◌, ◌++◌, ◌∷◌, [], ℕ, List, map, ap}
-use Rattle.match_tree.specs.Pruned.{pruned}
+use Rattle.tree_rows.specs.Pruned.{pruned}
 use Rattle.match_tree.proofs.by_value.walk_back.Goals as goal
 
 pub prune_nodes-requires : goal.prune_nodes-requires

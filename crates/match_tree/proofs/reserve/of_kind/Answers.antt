@@ -1,6 +1,6 @@
 use Rattle.std.proofs.Common.{◌≡◌, ◌∙◌, ◌++◌, ◌∷◌, [], ◌<◌, ℕ, List, Bool, cond, length, ap, sym, arith, slice_index, take}
 use Rattle.std.specs.List.{filter}
-use Rattle.match_tree.specs.Offers.{places}
+use Rattle.row_screens.specs.Offers.{places}
 use Rattle.std.proofs.lemmas.List.{length_push, append-nil}
 use Rattle.std.proofs.lemmas.Option.{get_or_from_slice_get}
 use Rattle.guard_eval.specs.Meaning.{recorded_message}

@@ -2,7 +2,7 @@ use Rattle.std.proofs.Common.{◌≡◌, ◌≤◌, length, take, slice_index}
 use Rattle.std.specs.List.{filter}
 use Rattle.guard_eval.specs.Meaning.{recorded_message}
 use Rattle.pattern_core.specs.Matches.{is_of_kind}
-use Rattle.match_tree.specs.Offers.{places}
+use Rattle.row_screens.specs.Offers.{places}
 use Rattle.match_tree.proofs.reserve.of_kind.Given as goal
 
 abbrev pub invariant-loop-pattern : goal.invariant-loop-pattern

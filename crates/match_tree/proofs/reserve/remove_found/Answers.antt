@@ -1,10 +1,10 @@
 use Rattle.std.proofs.Common.{◌≡◌, ◌∙◌, ◌∷◌, [], List, length, drop, sym, subst, arith}
 use Rattle.std.specs.List.{filter}
 use Rattle.std.proofs.lemmas.List.{take_at}
-use Rattle.match_tree.specs.Routes.{Route, Branch, rows_routes, lacks}
-use Rattle.match_tree.specs.Order.{AreOrdered, AreSound}
-use Rattle.match_tree.specs.Offering.{offered}
-use Rattle.match_tree.proofs.OrderLemmas.{rows_ordered, rows_sound, ordered_filter}
+use Rattle.tree_rows.specs.Routes.{Route, Branch, rows_routes, lacks}
+use Rattle.tree_rows.specs.Order.{AreOrdered, AreSound}
+use Rattle.row_screens.specs.Offering.{offered}
+use Rattle.tree_rows.proofs.OrderLemmas.{rows_ordered, rows_sound, ordered_filter}
 use Rattle.match_tree.proofs.KeptLemmas.{all_kept}
 use Rattle.match_tree.proofs.reserve.remove_found.Goals as goal
 

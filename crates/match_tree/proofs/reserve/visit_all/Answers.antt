@@ -2,20 +2,20 @@ use Rattle.std.proofs.Common.{◌≡◌, ◌∙◌, ◌+◌, ◌-◌, ◌≤◌,
 use Rattle.std.proofs.lemmas.List.{nil_from_length}
 use Rattle.std.specs.List.{filter}
 use Rattle.guard_eval.specs.Meaning.{Assignment}
-use Rattle.match_tree.specs.Routes.{Branch, Route, rows_routes, lacks}
-use Rattle.match_tree.specs.Offers.{growing}
+use Rattle.tree_rows.specs.Routes.{Branch, Route, rows_routes, lacks}
+use Rattle.row_screens.specs.Offers.{growing}
 use Rattle.match_tree.specs.Growth.{Grows}
-use Rattle.match_tree.specs.Below.{AreOpen}
-use Rattle.match_tree.specs.Offering.{offered, LeadOn}
-use Rattle.match_tree.specs.Pruned.{AreShort}
+use Rattle.row_screens.specs.Below.{AreOpen}
+use Rattle.row_screens.specs.Offering.{offered, LeadOn}
+use Rattle.tree_rows.specs.Pruned.{AreShort}
 use Rattle.match_tree.specs.Tries.{tried, tries_behind}
 use Rattle.match_tree.proofs.EarnLemmas.{visited_routes}
 use Rattle.match_tree.proofs.GrowLemmas.{grows_none}
 use Rattle.match_tree.proofs.LeadLemmas.{lead_lasts}
 use Rattle.match_tree.proofs.RootLemmas.{alone_grows, open_short, root_free, root_takers, tried_empty}
-use Rattle.match_tree.proofs.PruneLemmas.{rising_open}
+use Rattle.match_tree.proofs.OpenLemmas.{rising_open}
 use Rattle.match_tree.proofs.ReserveLemmas.{reserve_counts}
-use Rattle.match_tree.proofs.TrialLemmas.{none_outside}
+use Rattle.row_screens.proofs.TrialLemmas.{none_outside}
 use Rattle.match_tree.proofs.reserve.visit_all.Goals.{After-visit_rows}
 use Rattle.match_tree.proofs.reserve.visit_all.Goals as goal
 

@@ -1,10 +1,10 @@
 use Rattle.std.proofs.Common.{◌∙◌, ℕ, List, ap, sym, subst}
 use Rattle.std.specs.List.{AllByRecursion}
 use Rattle.pattern_core.specs.Choice.{least}
-use Rattle.match_tree.specs.Offers.{matches_of, places}
-use Rattle.match_tree.specs.Offering.{offered, MayTake}
-use Rattle.match_tree.proofs.TrialLemmas.{none_outside}
-use Rattle.match_tree.proofs.VisitLemmas.{all_take}
+use Rattle.row_screens.specs.Offers.{matches_of, places}
+use Rattle.row_screens.specs.Offering.{offered, MayTake}
+use Rattle.row_screens.proofs.TrialLemmas.{none_outside}
+use Rattle.row_screens.proofs.MemberLemmas.{all_take}
 use Rattle.match_tree.proofs.reserve.visit_path.Goals as goal
 
 pub takers-able-requires-clause-outside : goal.takers-able-requires-clause-outside

@@ -4,47 +4,50 @@ use Rattle.std.specs.Prelude.{IfOk, IfSome, nat_le, ◌==◌, not, [], ◌∷◌
 use Rattle.std.specs.List.{filter, AllByRecursion}
 use Rattle.std.specs.declared.alloc.Global.{Global}
 use Rattle.guard_eval.specs.Meaning.{Assignment}
-use Rattle.match_tree.specs.Offers.{Offered, places, may_take, takers, growing, matches_of, matches_at, seen, new_matches}
+use Rattle.row_screens.specs.Offers.{Offered, places, may_take, takers, growing, matches_of, matches_at, seen, new_matches}
 use Rattle.match_tree.specs.Growth.{AreEarned, Grows, IsEarned, Lasts}
 use Rattle.match_tree.proofs.EarnLemmas.{all_set, earned_lead, earned_node}
 use Rattle.match_tree.specs.Begins.{AreLess}
 use Rattle.match_tree.specs.Behind.{routes_behind}
 use Rattle.match_tree.specs.Tries.{tries_behind}
 use Rattle.pattern_core.specs.Choice.{least}
-use Rattle.match_tree.specs.Order.{AreOrdered, IsSoundRow, AreSound, Rise}
+use Rattle.tree_rows.specs.Order.{AreOrdered, IsSoundRow, AreSound, Rise}
 use Rattle.std.proofs.lemmas.List.{nil_from_length, take_all, take_at, append-nil, drop-set-lt, get_or_default, length-set}
 use Rattle.match_tree.proofs.GrowLemmas.{grows_none}
 use Rattle.match_tree.proofs.BeginLemmas.{grows_begun, no_value, no_ok}
-use Rattle.match_tree.proofs.RowsLemmas.{before_all, now_routes, now_all, numbers_below, sound_on, less_on, sound_all, lasts_on, lasts_all, lesser_none, best_on, grows_on, counts_rows_on, tries_rows_on, tries_rows_most}
-use Rattle.match_tree.specs.Routes.{Route, Branch, node_routes, row_routes, rows_routes, with_number}
-use Rattle.match_tree.specs.Below.{IsOpen, AreOpen}
+use Rattle.tree_rows.proofs.RowsLemmas.{before_all, now_routes, counts_rows_on}
+use Rattle.match_tree.proofs.RowsLemmas.{now_all, numbers_below, sound_on, less_on, sound_all, lasts_on, lasts_all, lesser_none, best_on, grows_on, tries_rows_on, tries_rows_most}
+use Rattle.tree_rows.specs.Routes.{Route, Branch, node_routes, row_routes, rows_routes, with_number}
+use Rattle.row_screens.specs.Below.{IsOpen, AreOpen}
 use Rattle.match_tree.proofs.LeadLemmas.{all_both}
-use Rattle.match_tree.proofs.PruneLemmas.{all_rows, all_rows_drop}
+use Rattle.tree_rows.proofs.PruneLemmas.{all_rows, all_rows_drop}
 use Rattle.match_tree.proofs.OpenLemmas.{open_below, open_now}
-use Rattle.match_tree.specs.Offering.{offered, CanOffer, MayTry, MayTake, LeadOn}
+use Rattle.row_screens.specs.Offering.{offered, CanOffer, MayTry, MayTake, LeadOn}
 use Rattle.match_tree.proofs.LeadLemmas.{lead_lasts, lead_row}
-use Rattle.match_tree.proofs.VisitLemmas.{passed_seen, passed_unseen, stays_node, matches_node, quiet_row, quiet_least, quiet_grows, tries_further, all_take, nothing_here, nothing_grows}
-use Rattle.match_tree.proofs.WalkLemmas.{some_of, none_of, steps_behind, all_at, left_item, left_more, found_first}
-use Rattle.match_tree.specs.Screen.{AreWorthless, IsWorthless, Screens}
-use Rattle.match_tree.proofs.LookLemmas.{left_alike, numbers_set}
+use Rattle.match_tree.proofs.VisitLemmas.{passed_seen, passed_unseen, stays_node, matches_node, quiet_row, quiet_least, quiet_grows, tries_further, nothing_here, nothing_grows}
+use Rattle.row_screens.proofs.MemberLemmas.{all_take}
+use Rattle.match_tree.proofs.WalkLemmas.{some_of, none_of, steps_behind, found_first}
+use Rattle.tree_rows.proofs.WalkLemmas.{all_at, left_item, left_more}
+use Rattle.row_screens.specs.Screen.{AreWorthless, IsWorthless, Screens}
+use Rattle.row_screens.proofs.LookLemmas.{left_alike, numbers_set}
 use Rattle.match_tree.proofs.SkipLemmas.{Reached, Stopped, Walked, go_on, reach, stop_at, walk_first, walk_to, walked_offers}
-use Rattle.match_tree.proofs.OrderLemmas.{rows_ordered_behind, rows_sound}
-use Rattle.match_tree.proofs.SlotsLemmas.{free_is_none}
-use Rattle.match_tree.proofs.TakeLemmas.{takers_further}
-use Rattle.match_tree.proofs.TrialLemmas.{free_small, outside_behind}
-use Rattle.match_tree.proofs.AskLemmas.{outside_asked}
-use Rattle.match_tree.specs.Trial.{AllStandOutside}
+use Rattle.tree_rows.proofs.OrderLemmas.{rows_ordered_behind, rows_sound}
+use Rattle.row_screens.proofs.SlotsLemmas.{free_is_none}
+use Rattle.row_screens.proofs.TakeLemmas.{takers_further}
+use Rattle.row_screens.proofs.TrialLemmas.{free_small, outside_behind}
+use Rattle.row_screens.proofs.AskLemmas.{outside_asked}
+use Rattle.row_screens.specs.Trial.{AllStandOutside}
 use Rattle.match_tree.proofs.visit.+visit.Goals as goal
 use Rattle.match_tree.proofs.visit.+visit.Goals.{visit_node-in-Some, visit_node-in_default, visit_nodes-After-visit_at, visit_nodes-In_ok-found, visit_only-After-visit_at, visit_at-After-visit_leaf_at-in-Leaves, visit_at-After-visit_leaf_at-in-Many, visit_rows-After-visit_each, visit_rows-In_ok-best}
 use denote.Param.Weighed.{at_most}
-use Rattle.match_tree.specs.declared.node.Shape.{Shape}
-use Rattle.match_tree.specs.Shapes.{rows_behind, branches}
-use Rattle.match_tree.specs.declared.node.Node.TheDeep.{size-Node, size-Row}
+use Rattle.tree_rows.specs.declared.node.Shape.{Shape}
+use Rattle.tree_rows.specs.Shapes.{rows_behind, branches}
+use Rattle.tree_rows.specs.declared.node.Node.TheDeep.{size-Node, size-Row}
 use denote.Param.Weighed.{most}
-use Rattle.match_tree.specs.declared.node.Node.{Node}
-use Rattle.match_tree.specs.Rows.{leaf, node_at}
-use Rattle.match_tree.proofs.LeafLemmas.{leaf_routes}
-use Rattle.match_tree.proofs.FallLemmas.{node_weighs, nodes_fall, rows_fall}
+use Rattle.tree_rows.specs.declared.node.Node.{Node}
+use Rattle.tree_rows.specs.Rows.{leaf, node_at}
+use Rattle.tree_rows.proofs.LeafLemmas.{leaf_routes}
+use Rattle.tree_rows.proofs.FallLemmas.{node_weighs, nodes_fall, rows_fall}
 
 -- the patterns that are wanted behind a row
 wanted_are : (o : Offered) (slots : Assignment) (q : ℕ) (able wanted : List ℕ) → able ≡ takers o slots → wanted ≡ filter (λ p. not (p == q)) able → wanted ≡ filter (λ p. not (p == q)) (takers o slots)

@@ -1,17 +1,17 @@
 use Rattle.std.proofs.Common.{◌≡◌, ◌<◌, true, nat_le, ◌+◌, ◌-◌, ◌*◌, ◌≤◌, [], ◌∷◌, length, take, drop, map, None}
 use Rattle.pattern_core.specs.Choice.{least}
-use Rattle.match_tree.specs.declared.node.Node.TheDeep.{size-Node}
-use Rattle.match_tree.specs.Routes.{row_routes, rows_routes}
-use Rattle.match_tree.specs.Rows.{node_at}
-use Rattle.match_tree.specs.Offers.{seen, new_matches}
-use Rattle.match_tree.specs.Below.{AreOpen}
+use Rattle.tree_rows.specs.declared.node.Node.TheDeep.{size-Node}
+use Rattle.tree_rows.specs.Routes.{row_routes, rows_routes}
+use Rattle.tree_rows.specs.Rows.{node_at}
+use Rattle.row_screens.specs.Offers.{seen, new_matches}
+use Rattle.row_screens.specs.Below.{AreOpen}
 use Rattle.std.specs.Prelude.{IfSome}
-use Rattle.match_tree.specs.Look.{HasLeft}
-use Rattle.match_tree.specs.Offering.{offered}
-use Rattle.match_tree.specs.Order.{AreSound}
+use Rattle.row_screens.specs.Look.{HasLeft}
+use Rattle.row_screens.specs.Offering.{offered}
+use Rattle.tree_rows.specs.Order.{AreSound}
 use Rattle.match_tree.specs.Growth.{AreEarned, Lasts, Grows}
 use Rattle.match_tree.specs.Begins.{AreLess}
-use Rattle.match_tree.specs.Screen.{AreAsked}
+use Rattle.row_screens.specs.Screen.{AreAsked}
 use Rattle.match_tree.specs.Tries.{tries_behind}
 use Rattle.match_tree.proofs.SkipLemmas.{Walked}
 use Rattle.match_tree.proofs.visit.+visit.Given as goal

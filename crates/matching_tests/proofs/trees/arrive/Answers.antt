@@ -1,7 +1,7 @@
 use Rattle.std.proofs.Common.{◌≡◌, ◌∙◌, ◌+◌, ℕ, Bool, Option, ap, sym, subst}
 use Rattle.std.specs.List.{filter, AllByRecursion}
 use Rattle.guard_eval.specs.Meaning.{Assignment}
-use Rattle.match_tree.specs.Offering.{CanOffer}
+use Rattle.row_screens.specs.Offering.{CanOffer}
 use Rattle.match_tree.specs.Tree.{Tree, Reserve, offer_to, is_path_seen, is_path_without, IsReserved}
 use Rattle.pattern_core.specs.Window.{oldest_seen}
 use Rattle.match_tree.proofs.NextLemmas.{both_gains, fewer_can, kept_can, left_can}

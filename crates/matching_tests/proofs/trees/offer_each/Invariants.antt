@@ -1,7 +1,7 @@
 use Rattle.std.proofs.Common.{◌≡◌, None}
 use Rattle.std.specs.List.{AllByRecursion}
 use Rattle.match_tree.specs.Tree.{offer_to}
-use Rattle.match_tree.specs.Offering.{CanOffer}
+use Rattle.row_screens.specs.Offering.{CanOffer}
 use Rattle.matching_tests.proofs.trees.offer_each.Given as goal
 
 -- the tree may be offered the number

@@ -4,8 +4,8 @@ use Rattle.std.specs.List.{filter}
 use Rattle.std.proofs.lemmas.List.{take_at}
 use Rattle.pattern_core.specs.Window.{oldest_seen}
 use Rattle.match_tree.specs.declared.pending.Pending.{Pending}
-use Rattle.match_tree.specs.Routes.{Route, Branch, rows_routes, is_seen}
-use Rattle.match_tree.specs.Pruned.{seen_nodes}
+use Rattle.tree_rows.specs.Routes.{Route, Branch, rows_routes, is_seen}
+use Rattle.tree_rows.specs.Pruned.{seen_nodes}
 use Rattle.match_tree.specs.Tree.{Tree, empty_of}
 use Rattle.match_tree.specs.Kept.{IsKept}
 use Rattle.match_tree.proofs.KeptLemmas.{kept_short}

@@ -1,6 +1,6 @@
 use Rattle.std.proofs.Common.{◌≡◌, ◌∷◌, ◌++◌, [], None, sym, subst}
 use Rattle.std.specs.Prelude.{MatchOption}
-use Rattle.match_tree.specs.Routes.{rows_routes}
+use Rattle.tree_rows.specs.Routes.{rows_routes}
 use Rattle.match_tree.specs.Tree.{Tree, SameMembers}
 use Rattle.match_tree.specs.Kept.{paths_of}
 use Rattle.match_tree.proofs.KeptLemmas.{gains_at}

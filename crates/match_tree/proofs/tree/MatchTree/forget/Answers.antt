@@ -3,12 +3,12 @@ use Rattle.std.specs.Prelude.{Option}
 use Rattle.std.specs.List.{filter}
 use Rattle.std.proofs.lemmas.List.{take_at}
 use Rattle.match_tree.specs.declared.pending.Pending.{Pending}
-use Rattle.match_tree.specs.Routes.{Route, Branch, rows_routes, lacks}
+use Rattle.tree_rows.specs.Routes.{Route, Branch, rows_routes, lacks}
 use Rattle.match_tree.specs.Kept.{IsKept, tree_of}
 use Rattle.match_tree.proofs.KeptLemmas.{kept_short, kept_aside, kept_fewer, forgotten, none_added}
-use Rattle.match_tree.specs.Pruned.{AreRising}
+use Rattle.tree_rows.specs.Pruned.{AreRising}
 use Rattle.match_tree.specs.Tree.{empty_of}
-use Rattle.match_tree.proofs.PruneLemmas.{rising_open}
+use Rattle.match_tree.proofs.OpenLemmas.{rising_open}
 use Rattle.match_tree.proofs.tree.MatchTree.forget.Goals as goal
 
 pub prune_rows-requires-clause-few : goal.prune_rows-requires-clause-few

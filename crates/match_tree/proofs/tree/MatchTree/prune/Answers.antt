@@ -3,14 +3,14 @@ use Rattle.std.specs.Prelude.{Option}
 use Rattle.std.specs.List.{filter}
 use Rattle.std.proofs.lemmas.List.{take_at}
 use Rattle.match_tree.specs.declared.pending.Pending.{Pending}
-use Rattle.match_tree.specs.Routes.{Route, Branch, rows_routes, lacks}
+use Rattle.tree_rows.specs.Routes.{Route, Branch, rows_routes, lacks}
 use Rattle.match_tree.specs.Tree.{Tree}
 use Rattle.match_tree.specs.Kept.{IsKept}
 use Rattle.match_tree.proofs.KeptLemmas.{kept_short, kept_fewer, settled_none, pruned_tree}
 use Rattle.value_index.specs.Index.{no_index}
 use Rattle.match_tree.specs.Kept.{tree_of}
-use Rattle.match_tree.specs.Offers.{Offered}
-use Rattle.match_tree.specs.Offering.{CanOffer, LeadOn}
+use Rattle.row_screens.specs.Offers.{Offered}
+use Rattle.row_screens.specs.Offering.{CanOffer, LeadOn}
 use Rattle.match_tree.specs.Tree.{empty_of, offer_to}
 use Rattle.match_tree.proofs.ReserveLemmas.{bare, reserve_lead}
 use Rattle.match_tree.proofs.tree.MatchTree.prune.Goals.{After-oldest_seen}

@@ -1,7 +1,7 @@
 use Rattle.std.proofs.Common.{◌≡◌, ◌+◌, ◌-◌, ◌≤◌, List, None, refl, arith}
 use Rattle.value_index.specs.Index.{no_index}
-use Rattle.match_tree.specs.Routes.{Route, rows_routes}
-use Rattle.match_tree.specs.Offers.{Offered}
+use Rattle.tree_rows.specs.Routes.{Route, rows_routes}
+use Rattle.row_screens.specs.Offers.{Offered}
 use Rattle.match_tree.specs.Kept.{tree_of}
 use Rattle.match_tree.specs.Tree.{offer_to}
 use Rattle.match_tree.specs.Tries.{tries}

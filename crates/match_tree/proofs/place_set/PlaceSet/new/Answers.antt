@@ -1,5 +1,0 @@
-use Rattle.match_tree.proofs.PlaceSetLemmas.{none_has}
-use Rattle.match_tree.proofs.place_set.PlaceSet.new.Goals as goal
-
-pub returns : goal.returns
-returns c = record { empty = λ k. none_has k }

@@ -1,5 +1,0 @@
-use Rattle.match_tree.proofs.PlaceSetLemmas.{bit_more}
-use Rattle.match_tree.proofs.place_set.PlaceSet.with.Goals as goal
-
-pub returns : goal.returns
-returns c = λ k. bit_more c.args.self.bits c.args.place k c.requires.within

@@ -1,6 +1,0 @@
-use Rattle.std.proofs.Common.{rules}
-use Rattle.match_tree.proofs.PlaceSetLemmas.{bit_without}
-use Rattle.match_tree.proofs.place_set.PlaceSet.without.Goals as goal
-
-pub returns : goal.returns
-returns c = λ k small. bit_without c.args.self.bits c.args.other.bits k (search rules) small
