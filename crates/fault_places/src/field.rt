@@ -3,16 +3,13 @@ use crate::cause::{RowCause, row_cause};
 use crate::part::{Part, push_parts};
 use crate::sentence::{feed_sentence, row_sentence};
 use csv::ByteRecord;
-use join_base::{Bytes, NoMemory, Sort, read_integer};
+use join_base::{Bytes, Fields, NoMemory, Sort, read_integer};
 use script_hints::Script;
 
 // The most bytes of a text, and of a field that is shown.
 const MAX_TEXT: usize = 120;
 
 const MAX_FIELD: usize = 64;
-
-// The most fields of a message.
-const MAX_FIELDS: usize = 8;
 
 fn field_at(record: &ByteRecord, place: usize) -> &[u8] {
     match record.get(place) {
@@ -60,7 +57,7 @@ fn wrong_field(
     record: &ByteRecord,
     cause: RowCause,
 ) -> Result<Option<usize>, NoMemory> {
-    for field in 0..record.len().saturating_sub(2).min(MAX_FIELDS) {
+    for field in 0..record.len().saturating_sub(2).min(Fields::MAX) {
         if is_wrong_at(script, record, cause, field)? {
             return Ok(Some(field));
         }
