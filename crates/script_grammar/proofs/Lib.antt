@@ -4,8 +4,8 @@
 --   DeclarationLemmas, ScriptLemmas
 -- - a loop that reads a list, turn by turn, whatever its reader (`IsLeft`: `begun`, `goes_on`, `stops`, `ends`,
 --   `turns_end`): LoopLemmas
--- - the same of a loop that keeps not all of its list (`IsKept`): KeptLoops; and what each reader gives then, from what
---   it gives of the whole (`Kept`): KeptReaders
+-- - what passing over a rule leaves, by its parts (`Passes`): PassedLemmas, of each rule: PassedRules; and the loops
+--   that pass over lists (`IsPassing`): PassedLoops
 -- - one mark more around an atom, as a prefix holds it: PrefixLemmas
 -- - a term of one leaf, which is kept without a list: OperandLemmas
 -- - from a rule of the grammar to a fact of each value of its list (`each_all`, `separated_all`, `listed_all`), and
@@ -19,8 +19,9 @@ pub mod AtomLemmas
 pub mod StatementLemmas
 pub mod ScriptLemmas
 pub mod LoopLemmas
-pub mod KeptLoops
-pub mod KeptReaders
+pub mod PassedLemmas
+pub mod PassedRules
+pub mod PassedLoops
 pub mod GroupLemmas
 pub mod PrefixLemmas
 pub mod OperandLemmas

@@ -4,10 +4,10 @@ use Rattle.script_grammar.specs.declared.stop.Stop.{Stop}
 use Rattle.script_grammar.specs.declared.stop.Stop.TheVariants.{NoMemory, Refused}
 use Rattle.script_tokens.specs.declared.token.Token.{Token}
 use Rattle.script_grammar.specs.declared.tree.Tree.{Tree}
-use Rattle.script_grammar.specs.Bounds.{cut_lists}
-use Rattle.script_grammar.specs.Cut.{kept_tree}
+use Rattle.script_grammar.specs.declared.outline.Outline.{Outline}
 use Rattle.script_grammar.specs.Phrases.{IsViable}
 use Rattle.script_grammar.specs.Grammar.{Tokens, IsScript}
+use Rattle.script_grammar.specs.Outlines.{outline_of}
 
 -- The tokens are no script. `rest` begins at the first token at which no continuation is a script, and is
 -- empty where the tokens end too early.
@@ -30,17 +30,18 @@ OneRefusal = (tokens rest other : Tokens) → Refuses tokens rest → Refuses to
 abbrev pub RefusalStays : Type 0
 RefusalStays = (tokens rest more : Tokens) (t : Token) → Refuses tokens (t ∷ rest) → Refuses (tokens ++ more) (t ∷ rest ++ more)
 
--- the tree of the tokens, or where they are refused: this rest is left then, unless there was no memory
+-- where the tokens are refused, this rest is left, unless there was no memory
 abbrev pub IsStop : Tokens → Tokens → Stop → Type 0
 IsStop tokens rest NoMemory = Unit {0}
 IsStop tokens rest Refused = Refuses tokens rest
 
--- the tree is that of the tokens, of which the lists are cut
-pub record IsRead (tree : Tree) (tokens : Tokens) : Type 0 where
-  pub whole : Tree
-  pub script : IsScript whole tokens
-  pub kept : tree ≡ kept_tree cut_lists whole
+-- the tokens are a script, and this is its outline
+pub record IsRead (outline : Outline) (tokens : Tokens) : Type 0 where
+  pub tree : Tree
+  pub script : IsScript tree tokens
+  pub outline_is : outline ≡ outline_of tree
 
-abbrev pub Answers : Tokens → Tokens → Result Tree Stop → Type 0
-Answers tokens rest (Ok tree) = IsRead tree tokens
+-- the outline of the tokens, or where they are refused
+abbrev pub Answers : Tokens → Tokens → Result Outline Stop → Type 0
+Answers tokens rest (Ok outline) = IsRead outline tokens
 Answers tokens rest (Err stop) = IsStop tokens rest stop

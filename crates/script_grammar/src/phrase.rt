@@ -31,8 +31,8 @@ pub trait Repeated: Phrase {
         ensures { result ≡ next_is begins (head tokens.now) };
 }
 
-/// A list of one item. Most lists have no more, so that there is no room for more.
-pub fn only<X: Drop>(alloc: Global, item: X) -> Result<Items<X>, NoMemory>
+// A list of one item. Most lists have no more, so that there is no room for more.
+fn only<X: Drop>(alloc: Global, item: X) -> Result<Items<X>, NoMemory>
     ensures one { IfOk result (λ list. list ≡ item ∷ []) }
 {
     let mut rows = Vec::with_capacity(alloc, 1)?;
@@ -40,8 +40,8 @@ pub fn only<X: Drop>(alloc: Global, item: X) -> Result<Items<X>, NoMemory>
     Ok(Items::from_vec(rows))
 }
 
-/// The same list, with no room for more.
-pub fn fitted<X>(list: Items<X>) -> Items<X>
+// The same list, with no room for more.
+fn fitted<X>(list: Items<X>) -> Items<X>
     ensures same { result ≡ list }
 {
     let mut rows = list.into_vec();
@@ -56,6 +56,20 @@ pub fn repeated_at<X: Repeated>(alloc: Global, tokens: &mut Tokens<'_>) -> Resul
     ensures no_longer { IfOk result (λ _. length tokens.new ≤ length tokens.old) }
 {
     behind_at(alloc, Items::new(alloc), tokens)
+}
+
+/// The same behind a first one.
+pub fn behind_first_at<X: Repeated>(
+    alloc: Global,
+    first: X,
+    tokens: &mut Tokens<'_>,
+) -> Result<Items<X>, Stop>
+    ensures gives { Gives (λ x. x) result tokens.new
+        (with_front (first ∷ []) (repeated (next_is X.begins) X.reader tokens.old)) }
+    ensures no_longer { IfOk result (λ _. length tokens.new ≤ length tokens.old) }
+{
+    let front = only(alloc, first)?;
+    behind_at(alloc, front, tokens)
 }
 
 // The same behind some.

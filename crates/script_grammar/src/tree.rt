@@ -15,7 +15,8 @@ pub struct Spelt {
     pub place: u64,
 }
 
-/// A script: its messages and its actors, each in the order of the text.
+/// A script: its messages and its actors, each in the order of the text. Only clauses speak of a whole one: a script is
+/// read definition by definition, so that no more of it is held.
 #[derive(Drop)]
 pub struct Tree {
     pub messages: Items<MessageDecl>,
@@ -36,7 +37,7 @@ pub struct FieldDecl {
     pub sort: Sort,
 }
 
-/// `actor NAME { DEFINITIONS }`.
+/// `actor NAME { DEFINITIONS }`, of which only clauses speak.
 #[derive(Drop)]
 pub struct ActorDecl {
     pub name: Spelt,

@@ -5,6 +5,7 @@ use Rattle.std.specs.Str.{IsUtf8, IsValidUpTo}
 use Rattle.script_tokens.specs.declared.token.Token.{Token}
 use Rattle.script_tokens.specs.Tokens.{AreTokens}
 use Rattle.script_tokens.specs.Tokens as tokens_of
+use Rattle.script_grammar.specs.declared.outline.Outline.{Outline}
 use Rattle.script_grammar.specs.declared.tree.Tree.{Tree}
 use Rattle.script_grammar.specs.Grammar.{IsScript}
 use Rattle.script_grammar.specs.Filled.{ScriptsAreFilled}
@@ -12,9 +13,9 @@ use Rattle.script_grammar.specs.Refusal.{Refuses}
 use Rattle.script_grammar.specs.Refusal as refusal
 use Rattle.script_grammar.specs.declared.fault.ScriptCause.{ScriptCause}
 use Rattle.script_grammar.specs.declared.fault.ScriptCause.TheVariants.{NotText, BadToken, BadSyntax, TooMany, TwiceDeclared, UnknownMessage, UnknownActor, UnknownName, WrongCount, WrongType, StopNotLast, BadWindow, BadReply}
-use Rattle.script_grammar.specs.declared.fault.ScriptFault.{ScriptFault}
 use Rattle.script_grammar.specs.declared.fault.ScriptFault.TheVariants.{Bad}
-use Rattle.script_reader.specs.Spells.{Spells, IsNoText, IsRefused, IsFault, FaultIs, SpellsCut, place_of, cause_of, OneTree, NoBoth, OneFault}
+use Rattle.script_grammar.proofs.ScriptLemmas.{script_complete}
+use Rattle.script_reader.specs.Spells.{Spells, IsNoText, IsRefused, IsFault, FaultIs, SpellsOutline, ReadsTree, place_of, cause_of, OneTree, NoBoth, OneFault}
 
 -- a fault of reading is no text, or a refusal
 fault_sort : (bytes : List ℕ) (place : ℕ) (cause : ScriptCause) → IsFault bytes place cause → ((cause ≡ NotText) × IsNoText bytes place) ⊎ IsRefused bytes place cause
@@ -76,12 +77,17 @@ refused_is bytes tokens rest text cut refused =
     by_rest bytes (place_of (length bytes) rest) rest
     (record { text = text; tokens = tokens; rest = rest; cut = cut; refused = refused; place_is = refl; cause_is = refl })
 
--- ---- a tree that was read
+-- ---- what was read
 
-pub spells_cut : ScriptsAreFilled → (bytes : List ℕ) (tokens : List Token) (tree : Tree) → IsUtf8 bytes → AreTokens (length bytes) bytes tokens → refusal.IsRead tree tokens → SpellsCut bytes tree
-spells_cut filled bytes tokens tree text cut read = record {
-  whole = read.whole;
+pub spells_outline : ScriptsAreFilled → (bytes : List ℕ) (tokens : List Token) (outline : Outline) → IsUtf8 bytes → AreTokens (length bytes) bytes tokens
+    → refusal.IsRead outline tokens → SpellsOutline bytes outline
+spells_outline filled bytes tokens outline text cut read = record {
+  tree = read.tree;
   spells = record { text = text; tokens = tokens; cut = cut; script = read.script };
-  filled = filled read.whole tokens read.script;
-  kept = read.kept;
+  filled = filled read.tree tokens read.script;
+  outline_is = read.outline_is;
 }
+
+pub reads_tree : tokens_of.OneList → (bytes : List ℕ) (tokens : List Token) → AreTokens (length bytes) bytes tokens → ReadsTree bytes tokens
+reads_tree one_list bytes tokens cut tree h =
+    script_complete tree tokens (subst (λ (ts : List Token). IsScript tree ts) (one_list bytes h.tokens tokens h.cut cut) h.script)

@@ -4,10 +4,11 @@ use Rattle.std.specs.Str.{IsUtf8, IsValidUpTo}
 use Rattle.script_tokens.specs.declared.token.Token.{Token}
 use Rattle.script_tokens.specs.Tokens.{AreTokens, is_bad}
 use Rattle.script_grammar.specs.declared.tree.Tree.{Tree}
-use Rattle.script_grammar.specs.Bounds.{cut_lists}
-use Rattle.script_grammar.specs.Cut.{kept_tree}
+use Rattle.script_grammar.specs.declared.outline.Outline.{Outline}
 use Rattle.script_grammar.specs.Filled.{IsFilled}
 use Rattle.script_grammar.specs.Grammar.{IsScript}
+use Rattle.script_grammar.specs.Outlines.{outline_of}
+use Rattle.script_grammar.specs.ScriptReading.{script_read}
 use Rattle.script_grammar.specs.Refusal.{Refuses}
 use Rattle.script_grammar.specs.declared.fault.ScriptCause.{ScriptCause}
 use Rattle.script_grammar.specs.declared.fault.ScriptCause.TheVariants.{NotText, BadToken, BadSyntax, TooMany, TwiceDeclared, UnknownMessage, UnknownActor, UnknownName, WrongCount, WrongType, StopNotLast, BadWindow, BadReply}
@@ -65,17 +66,21 @@ abbrev pub FaultIs : List ℕ → ScriptFault → Type 0
 FaultIs bytes (Bad place cause) = IsFault bytes place cause
 FaultIs bytes NoMemory = Unit {0}
 
--- the tree is the one that the bytes spell, of which the lists are cut; that one has no gaps
-pub record SpellsCut (bytes : List ℕ) (tree : Tree) : Type 0 where
-  pub whole : Tree
-  pub spells : Spells bytes whole
-  pub filled : IsFilled whole
-  pub kept : tree ≡ kept_tree cut_lists whole
+-- the outline is that of the tree that the bytes spell; the tree has no gaps
+pub record SpellsOutline (bytes : List ℕ) (outline : Outline) : Type 0 where
+  pub tree : Tree
+  pub spells : Spells bytes tree
+  pub filled : IsFilled tree
+  pub outline_is : outline ≡ outline_of tree
 
--- the tree that the bytes spell, with its lists cut, or their fault, unless there was no memory
-abbrev pub Reads : List ℕ → Result Tree ScriptFault → Type 0
-Reads bytes (Ok tree) = SpellsCut bytes tree
+-- the outline of the tree that the bytes spell, or their fault, unless there was no memory
+abbrev pub Reads : List ℕ → Result Outline ScriptFault → Type 0
+Reads bytes (Ok outline) = SpellsOutline bytes outline
 Reads bytes (Err fault) = FaultIs bytes fault
+
+-- reading these tokens gives the tree that the bytes spell, where they spell one
+abbrev pub ReadsTree : List ℕ → List Token → Type 0
+ReadsTree bytes tokens = (tree : Tree) → Spells bytes tree → script_read tokens ≡ Ok tree
 
 -- bytes spell one tree at the most, and none where they have a fault
 abbrev pub OneTree : Type 0

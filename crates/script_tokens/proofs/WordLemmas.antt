@@ -1,6 +1,7 @@
 -- The bytes in front that pass a test, and how long a token is.
 use Rattle.std.proofs.Common.{◌≡◌, ℕ, ◌<◌, ◌≤◌, Bool, true, false, not, suc, ◌&&◌, ◌==◌, List, [], ◌∷◌, take, length, get_or, refl, ◌∙◌, ⊎_elim, arith}
-use Rattle.std.specs.Prelude.{if◌then◌else◌}
+use Rattle.std.specs.Prelude.{codes, if◌then◌else◌}
+use Rattle.std.specs.Str.{bytes_eq}
 use Rattle.std.proofs.lemmas.Bool.{cases_Bool}
 use Rattle.std.proofs.Math.Numerals.{one-add}
 use Rattle.std.specs.List.{prefix_len, list_all}
@@ -13,7 +14,8 @@ use Rattle.script_tokens.specs.declared.token.Kind.TheVariants as kind
 use Rattle.join_base.specs.Integer.{are_digits, value_of, positive, integer_of}
 use Rattle.join_base.specs.Text.{begins_word, goes_on_word}
 use Rattle.script_tokens.specs.declared.token.Kind.{Kind}
-use Rattle.script_tokens.specs.Tokens.{number_kind, is_blank, skip_from, skip, symbol_at, plain_at}
+use Rattle.script_tokens.specs.Tokens.{word_kind, number_kind, is_blank, skip_from, skip, symbol_at, plain_at}
+use Rattle.script_tokens.specs.Listed.{name_or}
 
 all_in_front : (p : ℕ → Bool) (xs : List ℕ) → list_all p (take (prefix_len p xs) xs) ≡ true
 all_in_front p [] = refl
@@ -87,6 +89,56 @@ plain_some (x ∷ xs) h =
     (λ (d : is_ascii_digit x ≡ false). rw d (symbol_some x (get_or (x ∷ xs) 1 0)))
     (cases_Bool (is_ascii_digit x))))
     (cases_Bool (begins_word x))
+
+-- ---- a name is all of its token
+
+each_named : (b : Bool) (word : List ℕ) (p q : Kind) → name_or word p ≡ word → name_or word q ≡ word → name_or word (if b then p else q) ≡ word
+each_named true word p q h k = h
+each_named false word p q h k = k
+
+pub word_named : (w : List ℕ) → name_or w (word_kind w) ≡ w
+unfolding word_kind
+word_named w =
+    each_named (bytes_eq w (codes "message")) w _ _ refl (
+    each_named (bytes_eq w (codes "actor")) w _ _ refl (
+    each_named (bytes_eq w (codes "when")) w _ _ refl (
+    each_named (bytes_eq w (codes "if")) w _ _ refl (
+    each_named (bytes_eq w (codes "print")) w _ _ refl (
+    each_named (bytes_eq w (codes "post")) w _ _ refl (
+    each_named (bytes_eq w (codes "stop")) w _ _ refl (
+    each_named (bytes_eq w (codes "int")) w _ _ refl (
+    each_named (bytes_eq w (codes "text")) w _ _ refl (
+    each_named (bytes_eq w (codes "within")) w _ _ refl (
+    each_named (bytes_eq w (codes "reply")) w _ _ refl (
+    each_named (bytes_eq w (codes "_")) w _ _ refl (
+    each_named (nat_le (length w) 64) w _ _ refl refl))))))))))))
+
+-- the bytes of a token, by its length
+abbrev named_by : List ℕ → Kind × ℕ → Type 0
+named_by text p = name_or (take p.1 text) p.0 ≡ take p.1 text
+
+each_front : (b : Bool) (text : List ℕ) (p q : Kind × ℕ) → named_by text p → named_by text q → named_by text (if b then p else q)
+each_front true text p q h k = h
+each_front false text p q h k = k
+
+pub symbol_named : (a b : ℕ) (text : List ℕ) → named_by text (symbol_at a b)
+unfolding symbol_at
+symbol_named a b text =
+    each_front (a == 123) text _ _ refl (
+    each_front (a == 125) text _ _ refl (
+    each_front (a == 40) text _ _ refl (
+    each_front (a == 41) text _ _ refl (
+    each_front (a == 44) text _ _ refl (
+    each_front (a == 58) text _ _ refl (
+    each_front (a == 59) text _ _ refl (
+    each_front (a == 43) text _ _ refl (
+    each_front (a == 45) text _ _ refl (
+    each_front (a == 38) text _ _ (each_front (b == 38) text _ _ refl refl) (
+    each_front (a == 33) text _ _ (each_front (b == 61) text _ _ refl refl) (
+    each_front (a == 60) text _ _ (each_front (b == 61) text _ _ refl refl) (
+    each_front (a == 62) text _ _ (each_front (b == 61) text _ _ refl refl) (
+    each_front (a == 124 && b == 124) text _ _ refl (
+    each_front (a == 61 && b == 61) text _ _ refl refl))))))))))))))
 
 -- ---- what separates tokens
 

@@ -62,7 +62,32 @@ abbrev pub tokens_left : Option Token → ℕ → List ℕ → List Token
 tokens_left None size rest = []
 tokens_left (Some t) size rest = t ∷ (if is_bad t.kind then [] else tokens_of size rest)
 
+-- the name that a token is
+abbrev pub kind_name : Kind → Option (List ℕ)
+kind_name (kind.Name name) = Some name
+kind_name (kind.Mark mark) = None
+kind_name (kind.Number value) = None
+kind_name (kind.Words text) = None
+kind_name kind.Bad = None
+
+-- the name that the next token is
+abbrev pub next_name : List Token → Option (List ℕ)
+next_name [] = None
+next_name (t ∷ ts) = kind_name t.kind
+
 -- the next token
 abbrev pub head : {T : Type 0} → List T → Option T
 head [] = None
 head (t ∷ ts) = Some t
+
+-- the name that a token is, or else its bytes
+abbrev pub name_or : List ℕ → Kind → List ℕ
+name_or word (kind.Name name) = name
+name_or word (kind.Mark mark) = word
+name_or word (kind.Number value) = word
+name_or word (kind.Words text) = word
+name_or word kind.Bad = word
+
+abbrev pub next_word : List ℕ → Option Token → List ℕ
+next_word word None = word
+next_word word (Some t) = name_or word t.kind

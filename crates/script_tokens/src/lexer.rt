@@ -5,6 +5,7 @@ ghost use Rattle.std.specs.Str.{bytes_eq};
 ghost use Rattle.std.specs.Char.{is_ascii_digit};
 ghost use Rattle.join_base.specs.Integer.{are_digits, value_of};
 ghost use Rattle.join_base.specs.Text.{begins_word, goes_on_word};
+ghost use Rattle.script_tokens.specs.Listed.{name_or};
 ghost use Rattle.script_tokens.specs.Tokens.{is_blank, skip, word_kind, number_kind, symbol_at, plain_at, IsToken, IsQuotedToken, is_bad, AreTokens, AreFront, SomeList, OneList};
 
 use crate::name::ScriptName;
@@ -181,6 +182,7 @@ fn plain_at(alloc: Global, text: &[u8]) -> Result<(Kind, usize), NoMemory>
     requires { 0 < length text.now }
     ensures value { IfOk result (λ p. p ≡ plain_at text.now) }
     ensures fits { IfOk result (λ p. (0 < p.1) × (p.1 ≤ length text.now)) }
+    ensures name { IfOk result (λ p. name_or (take p.1 text.now) p.0 ≡ take p.1 text.now) }
 {
     let first = byte_at(text, 0);
     if begins_word(first) {
@@ -200,6 +202,7 @@ fn quoted_at(alloc: Global, text: &[u8]) -> Result<(Kind, usize), NoMemory>
     requires { 0 < length text.now }
     ensures token { IfOk result (λ p. IsQuotedToken text.now p.0 (drop p.1 text.now)) }
     ensures fits { IfOk result (λ p. (0 < p.1) × (p.1 ≤ length text.now)) }
+    ensures name { IfOk result (λ p. name_or (take p.1 text.now) p.0 ≡ take p.1 text.now) }
 {
     match read_quoted_text(alloc, text, 0) {
         Ok((words, end)) => Ok((Kind::Words(words), end)),
@@ -208,11 +211,12 @@ fn quoted_at(alloc: Global, text: &[u8]) -> Result<(Kind, usize), NoMemory>
     }
 }
 
-// The token at the front of a text, and its length.
+// The token at the front of a text, and its length. A name is all of it.
 pub fn token_at(alloc: Global, text: &[u8]) -> Result<(Kind, usize), NoMemory>
     requires { 0 < length text.now }
     ensures token { IfOk result (λ p. IsToken text.now p.0 (drop p.1 text.now)) }
     ensures fits { IfOk result (λ p. (0 < p.1) × (p.1 ≤ length text.now)) }
+    ensures name { IfOk result (λ p. name_or (take p.1 text.now) p.0 ≡ take p.1 text.now) }
 {
     if byte_at(text, 0) == b'"' {
         quoted_at(alloc, text)

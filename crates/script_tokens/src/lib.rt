@@ -1,6 +1,6 @@
 //! The tokens of a script: words, numbers, quoted texts and signs, each with its place.
 //!
-//! - `Tokens` reads them one after the other, and holds the next one alone.
+//! - `Tokens` reads them one after the other, and holds the next one alone. `name` is where a name stands in the text.
 //! - `push_tokens` appends the tokens at the front of a text, as many as it is told, and answers with the rest.
 //! - `ScriptName` is a name, as tokens and trees hold it.
 //! - `one_list` says that each text has one list of tokens.

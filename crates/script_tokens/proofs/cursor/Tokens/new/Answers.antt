@@ -1,4 +1,4 @@
-use Rattle.std.proofs.Common.{◌≤◌, List, length, subst, sym, arith}
+use Rattle.std.proofs.Common.{List, length, subst, sym, arith}
 use Rattle.script_tokens.specs.Tokens.{AreTokens}
 use Rattle.script_tokens.specs.declared.token.Token.{Token}
 use Rattle.script_tokens.proofs.CursorLemmas.{are_tokens}

@@ -1,5 +1,0 @@
-use Rattle.script_grammar.proofs.FilledLemmas.{scripts_are_filled}
-use Rattle.script_grammar.proofs.script.filled_law.Goals as goal
-
-pub returns : goal.returns
-returns c = scripts_are_filled
