@@ -1,15 +1,24 @@
 -- The lemmas by topic:
--- - a list with too many items, without those behind the one too many (`cut_faults`): CutLemmas
--- - lists of faults of which the same is reported (`Same`), and a list that is cut (`cut_same`): SameLemmas; that faults
---   lie behind a place: LaterLemmas; the fault of a tree of which the lists are cut (`cut_first`): KeptFaults
--- - an operand by what is read of it, with a leaf alone in place: OperandLemmas
+-- - the first fault of a list, item by item: FirstLemmas; in any order: OrderLemmas; lists of which the same is reported
+--   (`Same`), and lists with a most (`numbered_same`): SameLemmas
+-- - what is noted of a list, turn by turn (`IsNoted`): WalkLemmas
+-- - each part of a script, from the faults of its parts as they are read: TermLemmas, PrintLemmas, PostLemmas,
+--   StatementLemmas, BodyLemmas, GuardLemmas, PatternLemmas, RuleLemmas, FindingLemmas
+-- - names that are bound more than once: BindingLemmas; variables of which each name means the same: MeaningLemmas
 -- - from marks of the patterns that are still open to the replies that are wrong: ReplyLemmas
 pub mod FirstLemmas
-pub mod OperandLemmas
-pub mod CutLemmas
+pub mod OrderLemmas
 pub mod SameLemmas
-pub mod LaterLemmas
-pub mod KeptFaults
-pub mod GuardLemmas
+pub mod WalkLemmas
+pub mod TermLemmas
+pub mod PrintLemmas
+pub mod PostLemmas
+pub mod StatementLemmas
 pub mod ReplyLemmas
+pub mod BodyLemmas
+pub mod GuardLemmas
+pub mod BindingLemmas
+pub mod PatternLemmas
+pub mod MeaningLemmas
 pub mod RuleLemmas
+pub mod FindingLemmas

@@ -18,8 +18,7 @@ use Rattle.script_grammar.specs.declared.tree.Part.TheVariants as part
 use Rattle.script_grammar.specs.declared.tree.LeafDecl.{LeafDecl}
 use Rattle.script_grammar.specs.declared.operand.OperandDecl.{OperandDecl}
 use Rattle.script_grammar.specs.Operands as operand
-pub use Rattle.script_grammar.specs.Operands.{operand_place}
-pub use Rattle.script_grammar.specs.Bounds.{item_place}
+pub use Rattle.script_grammar.specs.Operands.{item_place, operand_place}
 use Rattle.script_grammar.specs.declared.tree.ItemDecl.{ItemDecl}
 use Rattle.script_grammar.specs.declared.tree.ItemDecl.TheVariants as item
 use Rattle.script_grammar.specs.declared.tree.StatementDecl.{StatementDecl}

@@ -1,8 +1,10 @@
 //! The fault that is reported.
-ghost use Rattle.std.specs.Prelude.{◌≡◌, ◌==◌};
+ghost use Rattle.std.specs.Prelude.{◌≡◌, ◌==◌, ◌+◌, IfOk, OnOk};
 ghost use Rattle.script_faults.specs.First.{earlier, fault_if, first_of, is_before, rank, too_many};
+ghost use Rattle.script_faults.specs.Noted.{at_most};
 
 use crate::placed::Placed;
+use join_base::NoMemory;
 use script_grammar::ScriptCause;
 
 /// A place of the text at which a rule of names or types is broken, and which.
@@ -71,4 +73,37 @@ pub(crate) fn note_too_many<T: Placed>(found: &mut Option<Fault>, most: usize, i
     if let Some(item) = items.get(most) {
         note(found, ScriptCause::TooMany, item.place());
     }
+}
+
+// One more. What a `usize` can't count takes more than the memory.
+fn one_more(number: usize) -> Result<usize, NoMemory>
+    ensures { IfOk result (λ next. next ≡ number + 1) }
+{
+    match number.checked_add(1) {
+        Some(next) => Ok(next),
+        None => Err(NoMemory),
+    }
+}
+
+/// Notes the item of this number where it is one too many, and counts it.
+pub(crate) fn note_number(
+    found: &mut Option<Fault>,
+    most: usize,
+    number: &mut usize,
+    place: u64,
+) -> Result<(), NoMemory>
+    ensures found { found.new ≡ first_of found.old (at_most most number.old place) }
+    ensures number { OnOk result (number.new ≡ number.old + 1) }
+{
+    note_if(found, *number == most, ScriptCause::TooMany, place);
+    *number = one_more(*number)?;
+    Ok(())
+}
+
+/// Counts an item.
+pub(crate) fn count(number: &mut usize) -> Result<(), NoMemory>
+    ensures { OnOk result (number.new ≡ number.old + 1) }
+{
+    *number = one_more(*number)?;
+    Ok(())
 }

@@ -1,83 +1,30 @@
 //! Faults of guards.
-ghost use Rattle.std.specs.Prelude.{◌≡◌, ◌++◌, map, IfOk, OnOk};
-ghost use Rattle.std.specs.List.{flat_map};
-ghost use Rattle.script_grammar.specs.AtomViews.{atom_view, atoms_view, conjunct_view};
-ghost use Rattle.script_faults.specs.First.{first_of};
-ghost use Rattle.script_faults.specs.Seen.{seen, all_seen};
-ghost use Rattle.script_faults.specs.Faults.{atom_comparisons, comparison_faults, comparisons, guard_comparisons, guard_faults, is_order, operand_place};
+ghost use Rattle.std.specs.Prelude.{◌≡◌, ◌++◌, ◌&&◌, ◌<◌, ◌≤◌, fold, length, not, IfOk};
+ghost use Rattle.script_tokens.specs.declared.token.Mark.TheVariants as m;
+ghost use Rattle.script_grammar.specs.Atoms.{Atoms};
+ghost use Rattle.script_grammar.specs.ScriptReading.{after_mark, atom_read, compare_read, conjunct_read, further, group_read, guard_read, not_read, separated_read};
+ghost use Rattle.script_faults.specs.declared.guard.Compared.{Compared};
+ghost use Rattle.script_faults.specs.First.{fault_if, first_of};
+ghost use Rattle.script_faults.specs.Noted.{Notes};
+ghost use Rattle.script_faults.specs.Steps.{atom_after, conjunct_after};
+ghost use Rattle.script_faults.specs.Faults.{guard_comparisons, guard_faults, is_order, is_same, is_words};
+ghost use Rattle.script_grammar.specs.declared.fault.ScriptCause.TheVariants.{WrongType};
 
-use crate::first::{Fault, note_if, note_too_many};
-use crate::placed::Placed;
-use crate::term::{is_same, is_words, note_operand, operand_sort};
-use join_base::{Items, NoMemory, Relation};
-use script_grammar::{AtomDecl, ConjunctDecl, OperandDecl, ScriptCause};
-use script_names::{NameTable, Slot};
+use crate::first::{Fault, note_if, note_number};
+use crate::noter::{Noter, note_separated};
+use crate::term::{is_same, is_words, note_operand};
+use join_base::{Relation, Sort};
+use script_grammar::{ScriptCause, Stop, is_next, mark_at, relation_at};
+use script_names::Variables;
+use script_tokens::{Mark, Tokens};
 use std::alloc::Global;
 
-// Two operands and what is between them.
-#[derive(Clone, Copy, Drop)]
-pub(crate) struct Comparison<'a> {
-    pub(crate) left: &'a OperandDecl,
-    pub(crate) relation: Relation,
-    pub(crate) right: &'a OperandDecl,
-}
-
-impl<'a> Placed for Comparison<'a> {
-    ghost place = { λ c. operand_place c.left.now };
-
-    fn place(&self) -> u64 {
-        self.left.place()
-    }
-}
-
-// Appends the comparisons of an atom.
-#[cycle(push)]
-#[tactic(auto, using(crate::proofs::GuardLemmas::comparisons_under))]
-fn push_atom<'a>(out: &mut Items<Comparison<'a>>, atom: &'a AtomDecl) -> Result<(), NoMemory>
-    ensures { OnOk result (all_seen out.new ≡ all_seen out.old ++ atom_comparisons (atom_view atom.now)) }
-{
-    match atom {
-        AtomDecl::Compare {
-            left,
-            relation,
-            right,
-            ..
-        } => out.push(Comparison {
-            left,
-            relation: *relation,
-            right,
-        }),
-        AtomDecl::Not(inner) => push_atom(out, inner),
-        AtomDecl::Group { conjunct, .. } => push_conjunct(out, conjunct),
-    }
-}
-
-// Appends the comparisons of a conjunct.
-#[cycle(push)]
-fn push_conjunct<'a>(
-    out: &mut Items<Comparison<'a>>,
-    conjunct: &'a ConjunctDecl,
-) -> Result<(), NoMemory>
-    ensures { OnOk result (all_seen out.new ≡ all_seen out.old ++ comparisons (conjunct_view conjunct.now)) }
-{
-    for atom in &conjunct.atoms {
-        push_atom(out, atom)?;
-    }
-    Ok(())
-}
-
-// The comparisons of a guard, in order.
-fn comparisons_of<'a>(
-    alloc: Global,
-    guard: &'a [ConjunctDecl],
-) -> Result<Items<Comparison<'a>>, NoMemory>
-    ensures { IfOk result (λ cs. all_seen cs ≡ guard_comparisons (map conjunct_view guard.now)) }
-{
-    let mut out = Items::new(alloc);
-    for conjunct in guard {
-        push_conjunct(&mut out, conjunct)?;
-    }
-    Ok(out)
+// The comparisons of a guard.
+#[derive(Drop)]
+struct Compared<'a, 'b> {
+    variables: &'b Variables<'a>,
+    number: usize,
+    found: Option<Fault>,
 }
 
 fn is_order(relation: Relation) -> bool
@@ -89,54 +36,190 @@ fn is_order(relation: Relation) -> bool
     }
 }
 
-// Notes the faults of a comparison.
-fn note_comparison(found: &mut Option<Fault>, variables: &NameTable<Slot>, comparison: &Comparison)
-    ensures { found.new ≡ first_of found.old (comparison_faults variables.now (seen comparison.now)) }
+// Notes texts between which there is an order, and operands of two types. An operand comes with its place.
+fn note_sorts(found: &mut Option<Fault>, left: (u64, Sort), relation: Relation, right: (u64, Sort))
+    ensures { found.new ≡ first_of found.old (fault_if (is_order relation && is_words left.1) WrongType left.0
+        ++ fault_if (not (is_same left.1 right.1)) WrongType right.0) }
 {
-    note_operand(found, variables, comparison.left);
-    note_operand(found, variables, comparison.right);
-    let left = operand_sort(variables, comparison.left);
-    let right = operand_sort(variables, comparison.right);
-    let no_order = is_order(comparison.relation) && is_words(left);
+    let no_order = is_order(relation) && is_words(left.1);
+    note_if(found, no_order, ScriptCause::WrongType, left.0);
     note_if(
         found,
-        no_order,
+        !is_same(left.1, right.1),
         ScriptCause::WrongType,
-        comparison.left.place(),
-    );
-    note_if(
-        found,
-        !is_same(left, right),
-        ScriptCause::WrongType,
-        comparison.right.place(),
+        right.0,
     );
 }
 
-// Notes the faults of each comparison.
-fn note_comparisons(
-    found: &mut Option<Fault>,
-    variables: &NameTable<Slot>,
-    comparisons: &[Comparison],
-)
-    ensures { found.new ≡ first_of found.old (flat_map (comparison_faults variables.now) (all_seen comparisons.now)) }
+// Notes the faults of a comparison.
+#[tactic(auto, unfolding(script_grammar::specs::ScriptReading::compare_read))]
+fn note_compare<'a>(
+    alloc: Global,
+    compared: &mut Compared<'a, '_>,
+    tokens: &mut Tokens<'a>,
+) -> Result<(), Stop>
+    ensures gives { Notes (λ atom _. compared.new ≡ atom_after compared.old atom) result tokens.new
+        (compare_read tokens.old) }
+    ensures shorter { IfOk result (λ _. length tokens.new < length tokens.old) }
 {
-    for comparison in comparisons {
-        note_comparison(found, variables, comparison);
+    let left = note_operand(alloc, &mut compared.found, compared.variables, tokens)?;
+    let relation = relation_at(alloc, tokens)?;
+    let right = note_operand(alloc, &mut compared.found, compared.variables, tokens)?;
+    note_sorts(&mut compared.found, left, relation, right);
+    note_number(&mut compared.found, 64, &mut compared.number, left.0)?;
+    Ok(())
+}
+
+/// Notes the faults of an atom under at most `depth` more `!` and `(`.
+#[cycle(atoms)]
+#[tactic(auto, unfolding(script_grammar::specs::ScriptReading::atom_read))]
+fn note_atom<'a>(
+    alloc: Global,
+    depth: u32,
+    compared: &mut Compared<'a, '_>,
+    tokens: &mut Tokens<'a>,
+) -> Result<(), Stop>
+    ensures gives { Notes (λ atom _. compared.new ≡ atom_after compared.old atom) result tokens.new
+        (atom_read depth tokens.old) }
+    ensures shorter { IfOk result (λ _. length tokens.new < length tokens.old) }
+{
+    if depth == 0 {
+        return note_compare(alloc, compared, tokens);
+    }
+    if is_next(tokens, Mark::Not) {
+        return note_not(alloc, depth - 1, compared, tokens);
+    }
+    if is_next(tokens, Mark::Open) {
+        return note_group(alloc, depth - 1, compared, tokens);
+    }
+    note_compare(alloc, compared, tokens)
+}
+
+/// A `!` and the atom behind it.
+#[cycle(atoms)]
+fn note_not<'a>(
+    alloc: Global,
+    depth: u32,
+    compared: &mut Compared<'a, '_>,
+    tokens: &mut Tokens<'a>,
+) -> Result<(), Stop>
+    ensures gives { Notes (λ atom _. compared.new ≡ atom_after compared.old atom) result tokens.new
+        (not_read (atom_read depth) tokens.old) }
+    ensures shorter { IfOk result (λ _. length tokens.new < length tokens.old) }
+{
+    mark_at(alloc, tokens, Mark::Not)?;
+    note_atom(alloc, depth, compared, tokens)?;
+    Ok(())
+}
+
+/// Atoms in parentheses.
+#[cycle(atoms)]
+fn note_group<'a>(
+    alloc: Global,
+    depth: u32,
+    compared: &mut Compared<'a, '_>,
+    tokens: &mut Tokens<'a>,
+) -> Result<(), Stop>
+    ensures gives { Notes (λ atom _. compared.new ≡ atom_after compared.old atom) result tokens.new
+        (group_read (atom_read depth) tokens.old) }
+    ensures shorter { IfOk result (λ _. length tokens.new < length tokens.old) }
+{
+    mark_at(alloc, tokens, Mark::Open)?;
+    note_atoms(alloc, depth, compared, tokens)?;
+    mark_at(alloc, tokens, Mark::Close)?;
+    Ok(())
+}
+
+/// Atoms with `||` between them.
+#[cycle(atoms)]
+fn note_atoms<'a>(
+    alloc: Global,
+    depth: u32,
+    compared: &mut Compared<'a, '_>,
+    tokens: &mut Tokens<'a>,
+) -> Result<(), Stop>
+    ensures gives { Notes (λ atoms _. compared.new ≡ fold atom_after compared.old atoms) result tokens.new
+        (separated_read m.Or (atom_read depth) tokens.old) }
+    ensures shorter { IfOk result (λ _. length tokens.new < length tokens.old) }
+{
+    note_atom(alloc, depth, compared, tokens)?;
+    note_further_atoms(alloc, depth, compared, tokens)?;
+    Ok(())
+}
+
+#[cycle(atoms)]
+fn note_further_atoms<'a>(
+    alloc: Global,
+    depth: u32,
+    compared: &mut Compared<'a, '_>,
+    tokens: &mut Tokens<'a>,
+) -> Result<(), Stop>
+    ensures gives { Notes (λ atoms _. compared.new ≡ fold atom_after compared.old atoms) result tokens.new
+        (further m.Or (atom_read depth) tokens.old) }
+    ensures no_longer { IfOk result (λ _. length tokens.new ≤ length tokens.old) }
+{
+    'list: while is_next(tokens, Mark::Or) {
+        note_further_atom(alloc, depth, compared, tokens)?;
+    }
+    Ok(())
+}
+
+#[cycle(atoms)]
+fn note_further_atom<'a>(
+    alloc: Global,
+    depth: u32,
+    compared: &mut Compared<'a, '_>,
+    tokens: &mut Tokens<'a>,
+) -> Result<(), Stop>
+    ensures gives { Notes (λ atom _. compared.new ≡ atom_after compared.old atom) result tokens.new
+        (after_mark m.Or (atom_read depth) tokens.old) }
+    ensures shorter { IfOk result (λ _. length tokens.new < length tokens.old) }
+{
+    mark_at(alloc, tokens, Mark::Or)?;
+    note_atom(alloc, depth, compared, tokens)?;
+    Ok(())
+}
+
+impl<'a, 'b> Noter<'a> for Compared<'a, 'b> {
+    ghost Phrase = { Atoms };
+
+    ghost reader = { conjunct_read };
+
+    ghost Known = { Compared };
+
+    ghost known = { λ s. s };
+
+    ghost after = { conjunct_after };
+
+    #[tactic(auto, unfolding(script_grammar::specs::ScriptReading::conjunct_read))]
+    fn note(&mut self, alloc: Global, tokens: &mut Tokens<'a>) -> Result<(), Stop> {
+        note_atoms(alloc, 32, self, tokens)?;
+        Ok(())
     }
 }
 
 /// Notes the faults of a guard.
-pub(crate) fn note_guard(
+#[tactic(auto, unfolding(script_grammar::specs::ScriptReading::guard_read))]
+pub(crate) fn note_guard<'a>(
     alloc: Global,
     found: &mut Option<Fault>,
-    variables: &NameTable<Slot>,
-    guard: &[ConjunctDecl],
-) -> Result<(), NoMemory>
-    ensures { OnOk result (found.new ≡ first_of found.old (guard_faults variables.now
-        (guard_comparisons (map conjunct_view guard.now)))) }
+    variables: &Variables<'a>,
+    tokens: &mut Tokens<'a>,
+) -> Result<(), Stop>
+    ensures gives { Notes (λ guard _. found.new ≡ first_of found.old (guard_faults variables.now
+        (guard_comparisons guard))) result tokens.new (guard_read tokens.old) }
+    ensures no_longer { IfOk result (λ _. length tokens.new ≤ length tokens.old) }
 {
-    let comparisons = comparisons_of(alloc, guard)?;
-    note_too_many(found, 64, comparisons.as_slice());
-    note_comparisons(found, variables, comparisons.as_slice());
+    if !is_next(tokens, Mark::If) {
+        return Ok(());
+    }
+    mark_at(alloc, tokens, Mark::If)?;
+    let mut compared = Compared {
+        variables,
+        number: 0,
+        found: *found,
+    };
+    note_separated(alloc, Mark::And, &mut compared, tokens)?;
+    *found = compared.found;
     Ok(())
 }

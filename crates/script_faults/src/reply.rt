@@ -1,20 +1,27 @@
-//! Faults of replies.
-ghost use Rattle.std.specs.Prelude.{◌≡◌, IfOk, OnOk, [], replicate, true, unsigned_abs};
+//! Which patterns may still be replied to.
+ghost use Rattle.std.specs.Prelude.{◌≡◌, IfOk, replicate, true, unsigned_abs};
 ghost use Rattle.script_faults.specs.First.{first_of};
-ghost use Rattle.script_faults.specs.Faults.{reply_faults};
-ghost use Rattle.script_faults.specs.Open.{closed, is_open, open_after, open_fault, open_faults};
+ghost use Rattle.script_faults.specs.Open.{closed, is_open};
+ghost use Rattle.script_faults.specs.Statements.{reply_closed, reply_noted};
 
 use crate::first::{Fault, note_if};
 use join_base::NoMemory;
-use script_grammar::{ScriptCause, StatementDecl};
+use script_grammar::ScriptCause;
 use std::alloc::Global;
+use std::marker::Model;
 
-// A mark for each pattern: all may be replied to.
-fn all_open(alloc: Global, patterns: usize) -> Result<Vec<bool>, NoMemory>
-    ensures { IfOk result (λ marks. marks.items ≡ replicate patterns true) }
-{
-    let marks = vec![in alloc; true; patterns]?;
-    Ok(marks)
+/// A mark for each pattern, whether it may be replied to.
+#[derive(Drop)]
+pub(crate) struct Marks {
+    open: Vec<bool>,
+}
+
+impl Model for Marks {
+    ghost use Rattle.std.specs.Prelude.{Bool, List};
+
+    ghost Value = { List Bool };
+
+    ghost view = { λ a. a.open.items };
 }
 
 // Whether the pattern of this number may be replied to, and then no more.
@@ -32,42 +39,31 @@ fn close(marks: &mut [bool], number: i64) -> bool
     is_open
 }
 
-// Notes a reply to a pattern that may not be replied to.
-fn note_reply(found: &mut Option<Fault>, marks: &mut [bool], statement: &StatementDecl)
-    ensures found { found.new ≡ first_of found.old (open_fault marks.old statement.now) }
-    ensures closed { marks.new ≡ open_after marks.old statement.now }
-{
-    if let StatementDecl::Reply {
-        number_place,
-        pattern,
-        ..
-    } = statement
+impl Marks {
+    /// All of so many patterns may be replied to.
+    pub(crate) fn new(alloc: Global, patterns: usize) -> Result<Marks, NoMemory>
+        ensures { IfOk result (λ marks. marks ≡ replicate patterns true) }
     {
-        let is_open = close(marks, *pattern);
-        note_if(found, !is_open, ScriptCause::BadReply, *number_place);
+        let open = vec![in alloc; true; patterns]?;
+        Ok(Marks { open })
     }
-}
 
-// Notes the replies that name a pattern that is not open.
-fn note_closed(found: &mut Option<Fault>, marks: &mut [bool], body: &[StatementDecl])
-    ensures { found.new ≡ first_of found.old (open_faults marks.old body.now) }
-{
-    for statement in body {
-        note_reply(found, marks, statement);
+    // Whether the pattern of this number may be replied to, and then no more.
+    fn close(&mut self, number: i64) -> bool
+        ensures open { result ≡ is_open self.old (unsigned_abs number) }
+        ensures closed { self.new ≡ closed self.old (unsigned_abs number) }
+    {
+        close(self.open.as_mut_slice(), number)
     }
-}
 
-/// Notes each reply to a number that no pattern has, or that an earlier reply named.
-#[tactic(auto, using(crate::proofs::ReplyLemmas::replies_first))]
-pub(crate) fn note_replies(
-    alloc: Global,
-    found: &mut Option<Fault>,
-    patterns: usize,
-    body: &[StatementDecl],
-) -> Result<(), NoMemory>
-    ensures { OnOk result (found.new ≡ first_of found.old (reply_faults patterns [] body.now)) }
-{
-    let mut marks = all_open(alloc, patterns)?;
-    note_closed(found, &mut marks, body);
-    Ok(())
+    /// Notes a reply to a pattern that may not be replied to.
+    pub(crate) fn note_reply(&mut self, found: &mut Option<Fault>, reply: Option<(u64, i64)>)
+        ensures found { found.new ≡ first_of found.old (reply_noted self.old reply) }
+        ensures closed { self.new ≡ reply_closed self.old reply }
+    {
+        if let Some((place, number)) = reply {
+            let is_open = self.close(number);
+            note_if(found, !is_open, ScriptCause::BadReply, place);
+        }
+    }
 }

@@ -1,34 +1,25 @@
-//! Faults of definitions, of actors and of a whole script.
-ghost use Rattle.std.specs.Prelude.{◌≡◌, IfOk, OnOk};
-ghost use Rattle.std.specs.List.{flat_map};
+//! Faults of definitions and of actors.
+ghost use Rattle.std.specs.Prelude.{◌≡◌, ◌<◌, ◌≤◌, length, IfOk};
+ghost use Rattle.script_tokens.specs.Marks.{kind_is};
+ghost use Rattle.script_tokens.specs.declared.token.Mark.TheVariants as m;
+ghost use Rattle.script_grammar.specs.ScriptReading.{actor_read, definition_read, window_read};
+ghost use Rattle.script_grammar.specs.declared.tree.RuleDecl.{RuleDecl};
+ghost use Rattle.script_faults.specs.declared.rule.Rules.{Rules};
 ghost use Rattle.script_faults.specs.First.{first_of};
-ghost use Rattle.script_faults.specs.Faults.{actor_faults, first_fault, pattern_faults, patterns_faults, rule_faults, window_faults};
+ghost use Rattle.script_faults.specs.Noted.{Notes};
+ghost use Rattle.script_faults.specs.Steps.{rule_after};
+ghost use Rattle.script_faults.specs.Faults.{actor_faults, rule_faults, window_faults};
 
-use crate::body::{Scope, note_body, note_count};
-use crate::declared::{note_messages, note_twice};
-use crate::first::{Fault, note_if, note_too_many};
+use crate::body::note_body;
+use crate::first::{Fault, note_if, note_number};
 use crate::guard::note_guard;
-use crate::reply::note_replies;
-use join_base::NoMemory;
-use script_grammar::{ActorDecl, PatternDecl, RuleDecl, ScriptCause, Tree};
-use script_names::{Messages, NameTable, actor_names, variables_of};
+use crate::noter::{Noter, Repeats, note_repeated};
+use crate::pattern::note_patterns;
+use crate::statement::Scope;
+use script_grammar::{ScriptCause, Stop, is_next, mark_at, name_at, window_at};
+use script_names::{Messages, NameTable};
+use script_tokens::{Mark, Tokens};
 use std::alloc::Global;
-
-fn note_pattern(found: &mut Option<Fault>, messages: &Messages, pattern: &PatternDecl)
-    ensures { found.new ≡ first_of found.old (pattern_faults messages.now.decls.now pattern.now) }
-{
-    let fields = messages.fields_of(pattern.kind.name.bytes());
-    note_count(found, fields, &pattern.kind, pattern.variables.len());
-}
-
-fn note_patterns(found: &mut Option<Fault>, messages: &Messages, patterns: &[PatternDecl])
-    ensures { found.new ≡ first_of found.old (patterns_faults messages.now.decls.now patterns.now) }
-{
-    note_too_many(found, 8, patterns);
-    for pattern in patterns {
-        note_pattern(found, messages, pattern);
-    }
-}
 
 // Notes a window of 0 or of more than 1,000,000.
 fn note_window(found: &mut Option<Fault>, window: Option<(u64, i64)>)
@@ -41,83 +32,95 @@ fn note_window(found: &mut Option<Fault>, window: Option<(u64, i64)>)
     }
 }
 
-// Notes the faults of a definition.
+// Notes the faults of a definition: where it begins.
+#[tactic(auto, unfolding(script_grammar::specs::ScriptReading::definition_read))]
 fn note_rule<'a>(
     alloc: Global,
     found: &mut Option<Fault>,
-    messages: &Messages<'a>,
-    actors: &NameTable<'a, u64>,
-    rule: &'a RuleDecl,
-) -> Result<(), NoMemory>
-    ensures { OnOk result (found.new ≡ first_of found.old (rule_faults messages.now.decls.now actors.now rule.now)) }
+    messages: &Messages<'_>,
+    actors: &NameTable<'_, u64>,
+    tokens: &mut Tokens<'a>,
+) -> Result<u64, Stop>
+    ensures gives { Notes (λ rule place. (place ≡ rule.place)
+        × (found.new ≡ first_of found.old (rule_faults messages.now.decls.now actors.now rule))) result tokens.new
+        (definition_read tokens.old) }
+    ensures shorter { IfOk result (λ _. length tokens.new < length tokens.old) }
 {
-    note_patterns(found, messages, rule.patterns.as_slice());
-    let variables = variables_of(alloc, messages, rule)?;
-    note_twice(found, &variables);
-    note_guard(alloc, found, &variables, rule.guard.as_slice())?;
+    let place = mark_at(alloc, tokens, Mark::When)?;
+    let (patterns, variables) = note_patterns(alloc, found, messages, tokens)?;
+    let window = window_at(alloc, tokens)?;
+    note_window(found, window);
+    note_guard(alloc, found, &variables, tokens)?;
+    mark_at(alloc, tokens, Mark::OpenBrace)?;
     let scope = Scope {
         messages,
         actors,
         variables: &variables,
     };
-    note_body(found, &scope, rule.body.as_slice());
-    note_window(found, rule.window);
-    note_replies(alloc, found, rule.patterns.len(), rule.body.as_slice())?;
-    Ok(())
+    note_body(alloc, found, &scope, patterns, tokens)?;
+    mark_at(alloc, tokens, Mark::CloseBrace)?;
+    Ok(place)
 }
 
-// Notes the faults of an actor's definitions.
-fn note_actor<'a>(
+// The definitions of an actor.
+#[derive(Drop)]
+struct Rules<'o, 'b> {
+    messages: &'b Messages<'o>,
+    actors: &'b NameTable<'o, u64>,
+    number: usize,
+    found: Option<Fault>,
+}
+
+impl<'a, 'o, 'b> Noter<'a> for Rules<'o, 'b> {
+    ghost Phrase = { RuleDecl };
+
+    ghost reader = { definition_read };
+
+    ghost Known = { Rules };
+
+    ghost known = { λ s. s };
+
+    ghost after = { rule_after };
+
+    fn note(&mut self, alloc: Global, tokens: &mut Tokens<'a>) -> Result<(), Stop> {
+        let place = note_rule(alloc, &mut self.found, self.messages, self.actors, tokens)?;
+        note_number(&mut self.found, 16, &mut self.number, place)?;
+        Ok(())
+    }
+}
+
+impl<'a, 'o, 'b> Repeats<'a> for Rules<'o, 'b> {
+    ghost begins = { kind_is m.When };
+
+    fn is_next(tokens: &Tokens<'a>) -> bool {
+        is_next(tokens, Mark::When)
+    }
+}
+
+/// Notes the faults of an actor's definitions.
+#[tactic(auto, unfolding(script_grammar::specs::ScriptReading::actor_read))]
+pub(crate) fn note_actor<'a>(
     alloc: Global,
     found: &mut Option<Fault>,
-    messages: &Messages<'a>,
-    actors: &NameTable<'a, u64>,
-    actor: &'a ActorDecl,
-) -> Result<(), NoMemory>
-    ensures { OnOk result (found.new ≡ first_of found.old (actor_faults messages.now.decls.now actors.now actor.now)) }
+    messages: &Messages<'_>,
+    actors: &NameTable<'_, u64>,
+    tokens: &mut Tokens<'a>,
+) -> Result<(), Stop>
+    ensures gives { Notes (λ actor _. found.new ≡ first_of found.old (actor_faults messages.now.decls.now actors.now
+        actor)) result tokens.new (actor_read tokens.old) }
+    ensures shorter { IfOk result (λ _. length tokens.new < length tokens.old) }
 {
-    note_too_many(found, 16, actor.rules.as_slice());
-    for rule in actor.rules.as_slice() {
-        note_rule(alloc, found, messages, actors, rule)?;
-    }
+    mark_at(alloc, tokens, Mark::Actor)?;
+    name_at(alloc, tokens)?;
+    mark_at(alloc, tokens, Mark::OpenBrace)?;
+    let mut rules = Rules {
+        messages,
+        actors,
+        number: 0,
+        found: *found,
+    };
+    note_repeated(alloc, &mut rules, tokens)?;
+    mark_at(alloc, tokens, Mark::CloseBrace)?;
+    *found = rules.found;
     Ok(())
-}
-
-fn note_actors<'a>(
-    alloc: Global,
-    found: &mut Option<Fault>,
-    messages: &Messages<'a>,
-    actors: &NameTable<'a, u64>,
-    decls: &'a [ActorDecl],
-) -> Result<(), NoMemory>
-    ensures { OnOk result (found.new ≡ first_of found.old (flat_map (actor_faults messages.now.decls.now
-        actors.now) decls.now)) }
-{
-    for actor in decls {
-        note_actor(alloc, found, messages, actors, actor)?;
-    }
-    Ok(())
-}
-
-/// The fault of a script's names and types that is reported, if there is one: the one at the least place, and of those
-/// at one place the first in the order of `ScriptCause`.
-pub fn first_fault(alloc: Global, tree: &Tree) -> Result<Option<Fault>, NoMemory>
-    ensures { IfOk result (λ found. found ≡ first_fault tree.now) }
-{
-    let mut found = None;
-    let messages = Messages::new(alloc, tree.messages.as_slice())?;
-    let actors = actor_names(alloc, tree.actors.as_slice())?;
-    note_too_many(&mut found, 64, tree.messages.as_slice());
-    note_twice(&mut found, messages.names());
-    note_messages(alloc, &mut found, tree.messages.as_slice())?;
-    note_too_many(&mut found, 32, tree.actors.as_slice());
-    note_twice(&mut found, &actors);
-    note_actors(
-        alloc,
-        &mut found,
-        &messages,
-        &actors,
-        tree.actors.as_slice(),
-    )?;
-    Ok(found)
 }

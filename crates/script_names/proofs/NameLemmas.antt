@@ -28,7 +28,7 @@ number_of-push name (first ∷ others) new = by-test (bytes_eq name first) (numb
     by-test true e = refl
     by-test false e = ap (option_map (λ (n : ℕ). n + 1)) e ∙ later (bytes_eq name new) (length others) (number_of name others)
 
-same_name : (a b : List ℕ) (t : Bool) → Decides t (a ≡ b) → t ≡ true → a ≡ b
+pub same_name : (a b : List ℕ) (t : Bool) → Decides t (a ≡ b) → t ≡ true → a ≡ b
 same_name a b t d is = d.0 is
 
 -- a name that was there keeps its number

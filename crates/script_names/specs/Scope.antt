@@ -6,6 +6,7 @@ use Rattle.std.specs.Option.{option_map, option_and_then}
 use Rattle.join_base.specs.declared.message.Sort.{Sort}
 use Rattle.join_base.specs.declared.message.Sort.TheVariants as sort
 use Rattle.script_names.specs.declared.scope.Slot.{Slot}
+use Rattle.script_grammar.specs.declared.tree.Spelt.{Spelt}
 use Rattle.script_grammar.specs.declared.tree.MessageDecl.{MessageDecl}
 use Rattle.script_grammar.specs.declared.tree.FieldDecl.{FieldDecl}
 use Rattle.script_grammar.specs.declared.tree.ActorDecl.{ActorDecl}
@@ -21,6 +22,9 @@ use Rattle.script_names.specs.Names.{item_of, names_of, number_of}
 -- names with their places in the text
 abbrev pub message_rows : List MessageDecl → List (List ℕ × ℕ)
 message_rows messages = map (λ (m : MessageDecl). (m.name.name, m.name.place)) messages
+
+abbrev pub spelt_rows : List Spelt → List (List ℕ × ℕ)
+spelt_rows names = map (λ (s : Spelt). (s.name, s.place)) names
 
 abbrev pub actor_rows : List ActorDecl → List (List ℕ × ℕ)
 actor_rows actors = map (λ (a : ActorDecl). (a.name.name, a.name.place)) actors

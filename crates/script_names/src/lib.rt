@@ -4,12 +4,15 @@
 //! - `Messages::fields_of` gives the fields of the message of a name.
 //! - `actor_names`, `field_names` and `variables_of` make the tables of actors, of the fields of a message, and of the
 //!   variables of a definition.
+//! - `Variables` holds variables while a definition is read, of each name the first alone.
 //!
 //! A contract sees a table as the list of its rows, a name and an item each.
 #![tactic(auto)]
 
 mod scope;
 mod table;
+mod variables;
 
-pub use scope::{Messages, Slot, actor_names, field_names, variables_of};
+pub use scope::{Messages, Slot, actor_names, field_names, sort_of_field, variables_of};
 pub use table::NameTable;
+pub use variables::Variables;

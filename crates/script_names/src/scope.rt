@@ -1,11 +1,11 @@
 //! What the names of a script mean: its messages, its actors, and the variables of a definition.
 ghost use Rattle.std.specs.Prelude.{◌≡◌, ◌++◌, IfOk, OnOk, map};
 ghost use Rattle.std.specs.Option.{option_map};
-ghost use Rattle.script_names.specs.Scope.{actor_rows, field_rows, message_of, message_rows, sort_at, sorts_among, sorts_of, variable_at, variables_from, variables_in, variables_of};
+ghost use Rattle.script_names.specs.Scope.{field_rows, message_of, message_rows, sort_at, sorts_among, sorts_of, spelt_rows, variable_at, variables_from, variables_in, variables_of};
 
 use crate::table::NameTable;
 use join_base::{NoMemory, Sort};
-use script_grammar::{ActorDecl, FieldDecl, MessageDecl, PatternDecl, RuleDecl};
+use script_grammar::{FieldDecl, MessageDecl, PatternDecl, RuleDecl, Spelt};
 use script_tokens::ScriptName;
 use std::alloc::Global;
 
@@ -58,15 +58,12 @@ impl<'a> Messages<'a> {
 }
 
 /// The actors' names, each with its place in the text.
-pub fn actor_names<'a>(
-    alloc: Global,
-    actors: &'a [ActorDecl],
-) -> Result<NameTable<'a, u64>, NoMemory>
-    ensures { IfOk result (λ names. names ≡ actor_rows actors.now) }
+pub fn actor_names<'a>(alloc: Global, actors: &'a [Spelt]) -> Result<NameTable<'a, u64>, NoMemory>
+    ensures { IfOk result (λ names. names ≡ spelt_rows actors.now) }
 {
     let mut names = NameTable::new(alloc);
     for actor in actors {
-        names.push(actor.name.name.bytes(), actor.name.place)?;
+        names.push(actor.name.bytes(), actor.place)?;
     }
     Ok(names)
 }
@@ -85,8 +82,8 @@ pub fn field_names<'a>(
     Ok(names)
 }
 
-// The type of a field; one that the message has not counts as an integer.
-fn sort_of_field(fields: Option<&[FieldDecl]>, field: usize) -> Sort
+/// The type of a field; one that the message has not counts as an integer.
+pub fn sort_of_field(fields: Option<&[FieldDecl]>, field: usize) -> Sort
     ensures { result ≡ sort_at (sorts_among fields.entry) field }
 {
     let Some(fields) = fields else {

@@ -1,15 +1,12 @@
-use Rattle.std.proofs.Common.{refl}
-use Rattle.script_faults.proofs.OperandLemmas.{noted_fixed, noted_name, noted_number, noted_sum}
+use Rattle.std.proofs.Common.{sym, ◌∙◌}
+use Rattle.script_faults.proofs.TermLemmas.{noted_fixed, noted_sum}
 use Rattle.script_faults.proofs.term.note_operand.Goals as goal
 
-pub returns-in-Fixed : goal.returns-in-Fixed
-returns-in-Fixed c = noted_fixed c.args.variables.now c.args.found.now c.args.found.now c.args.operand.now c.seen.result c.seen.ensures _ _ c.in-Fixed.is refl
+pub returns-then-is_next_words-clause-gives : goal.returns-then-is_next_words-clause-gives
+returns-then-is_next_words-clause-gives c =
+    noted_fixed c.args.variables.now _ _ c.args.tokens.now c.words_at.new.tokens c.args.found.now (sym c.is_next_words.ensures ∙ c.if-is_next_words.true) c.in_ok-place.ensures.gives
 
-pub returns-in-Number : goal.returns-in-Number
-returns-in-Number c = noted_number c.args.variables.now c.args.found.now c.args.found.now c.args.operand.now c.seen.result c.seen.ensures _ _ c.in-Number.is refl
-
-pub returns-in-Named : goal.returns-in-Named
-returns-in-Named c = noted_name c.args.variables.now c.args.found.now c.note_name.new.found c.args.operand.now c.seen.result c.seen.ensures _ _ c.in-Named.is c.note_name.ensures
-
-pub returns-in-Sum : goal.returns-in-Sum
-returns-in-Sum c = noted_sum c.args.variables.now c.args.found.now c.note_term.new.found c.args.operand.now c.seen.result c.seen.ensures _ _ c.in-Sum.is c.note_term.ensures
+pub returns-clause-gives : goal.returns-clause-gives
+returns-clause-gives c =
+    noted_sum c.args.variables.now c.in_ok-term.term c.args.tokens.now c.note_term.new.tokens c.args.found.now c.note_term.new.found
+    (sym c.is_next_words.ensures ∙ c.if-is_next_words.false) c.in_ok-term.ensures.gives

@@ -1,0 +1,15 @@
+use Rattle.std.proofs.Common.{◌≤◌, length}
+use Rattle.script_tokens.specs.Marks.{kind_is}
+use Rattle.script_grammar.specs.ScriptReading.{after_mark, further}
+use Rattle.script_faults.proofs.WalkLemmas.{IsNoted}
+use Rattle.script_faults.proofs.noter.note_further.Given as goal
+
+abbrev pub invariant-list : goal.invariant-list
+invariant-list g l = record {
+  noted : IsNoted g.N.Noter.after (kind_is l.fn.mark) (after_mark l.fn.mark g.N.Noter.reader) (g.N.Noter.known l.initial.noter) (g.N.Noter.known l.noter) l.tokens
+      (further l.fn.mark g.N.Noter.reader l.initial.tokens);
+  no_longer : length l.tokens ≤ length l.initial.tokens;
+}
+
+abbrev pub decreases-list : goal.decreases-list
+decreases-list g l = length l.tokens
