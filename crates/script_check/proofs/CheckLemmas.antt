@@ -1,47 +1,62 @@
 -- A tree has one plan or one fault.
-use Rattle.std.proofs.Common.{◌≡◌, ◌∙◌, List, [], false, None, Some, sym, ap, subst, arith}
+use Rattle.std.proofs.Common.{inr, ◌≡◌, ◌∙◌, ℕ, List, [], false, Option, None, Some, Ok, sym, subst, arith}
 use Rattle.std.specs.Prelude.{Contains}
+use Rattle.script_tokens.specs.declared.token.Token.{Token}
+use Rattle.script_grammar.specs.Outlines.{Outlines}
+use Rattle.script_grammar.specs.ScriptReading.{script_read}
+use Rattle.script_grammar.specs.declared.outline.Outline.{Outline}
 use Rattle.script_grammar.specs.declared.tree.Tree.{Tree}
+use Rattle.script_reader.specs.Spells.{ReadsTree, Spells, SpellsOutline}
 use Rattle.script_types.specs.declared.plan.Plan.{Plan}
 use Rattle.script_faults.specs.declared.first.Fault.{Fault}
 use Rattle.script_faults.specs.First.{fault, is_before}
-use Rattle.script_faults.specs.Faults.{faults_of, first_fault}
+use Rattle.script_faults.specs.Faults.{faults_of}
+use Rattle.script_faults.specs.Finding.{Finds}
 use Rattle.script_plan.specs.PlanOf.{plan_of}
-use Rattle.script_plan.specs.Small.{IsSmall}
-use Rattle.script_check.specs.Types.{IsCutOf, IsFaultOf, NoBoth, OneFault, OnePlan, Types}
+use Rattle.script_plan.specs.Planned.{AllSmall, IsPlanOf}
+use Rattle.script_check.specs.Script.{GivesPlan, IsFirstFault, IsScriptFault}
+use Rattle.script_check.specs.Types.{IsFaultOf, NoBoth, OneFault, OnePlan, Types}
 use Rattle.script_check.proofs.LeastLemmas.{at_member, least_first, none_first, one_fault}
 use Rattle.script_types.specs.Names.{HasNames}
 use Rattle.script_types.specs.Typed.{IsTyped}
 use Rattle.script_check.proofs.SmallLemmas.{small_tree}
-use Rattle.script_check.proofs.KeptLemmas.{cut_none}
-use Rattle.script_faults.proofs.KeptFaults.{cut_first}
 use Rattle.script_check.proofs.PlanLemmas.{plan_typed}
 
--- ---- the tree may have its lists cut
+-- ---- a script that is read once more
 
-module _ (whole tree : Tree) (cut : IsCutOf whole tree) where
-  same_first : first_fault tree ≡ first_fault whole
-  same_first = ap first_fault cut.1 ∙ cut_first whole
+pub first_found : (bytes : List ℕ) (tokens : List Token) → ReadsTree bytes tokens → (found : Option Fault) → Finds (script_read tokens) (Ok found) → IsFirstFault bytes found
+first_found bytes tokens reads found finds = λ tree spells. rw (reads tree spells) at finds
 
-  no_faults : None ≡ first_fault tree → faults_of whole ≡ []
-  no_faults none = none_first (faults_of whole) (sym (none ∙ same_first))
+module _ (bytes : List ℕ) (outline : Outline) (spelt : SpellsOutline bytes outline) where
+  no_fault : IsFirstFault bytes None → faults_of spelt.tree ≡ []
+  no_fault none = none_first (faults_of spelt.tree) (sym (none spelt.tree spelt.spells))
 
-  same_tree : None ≡ first_fault tree → tree ≡ whole
-  same_tree none = cut.1 ∙ cut_none whole (no_faults none)
+  module _ (tokens : List Token) (reads : ReadsTree bytes tokens) where
+    same_read : script_read tokens ≡ Ok spelt.tree
+    same_read = reads spelt.tree spelt.spells
 
-  pub small : None ≡ first_fault tree → IsSmall tree
-  small none = subst IsSmall (sym (same_tree none)) (small_tree whole cut.0 (no_faults none))
+    pub outlined : Outlines outline (script_read tokens)
+    outlined = rw same_read spelt.outline_is
 
-  pub typed : (plan : Plan) → None ≡ first_fault tree → plan ≡ plan_of tree → Types whole plan
-  typed plan none is = record { no_fault = no_faults none; plan_is = is ∙ ap plan_of (same_tree none) }
+    pub all_small : IsFirstFault bytes None → AllSmall (script_read tokens)
+    all_small none = rw same_read (small_tree spelt.tree spelt.filled (no_fault none))
 
-  pub faulty : (f : Fault) → Some f ≡ first_fault tree → IsFaultOf whole f.place f.cause
-  faulty f is = let l = least_first (faults_of whole) f (sym (is ∙ same_first)) in record { stands = l.stands; least = l.least }
+    -- the plan of the tokens is the plan of the tree
+    plan_read : (plan : Plan) → IsPlanOf plan (script_read tokens) → plan ≡ plan_of spelt.tree
+    plan_read plan is = rw same_read at is
 
-  pub typed_plan : (plan : Plan) → None ≡ first_fault tree → plan ≡ plan_of tree → HasNames plan → IsTyped plan
-  typed_plan plan none is names =
-      let same : plan ≡ plan_of whole = is ∙ ap plan_of (same_tree none) in
-      subst IsTyped (sym same) (plan_typed whole cut.0 (no_faults none) (subst HasNames same names))
+    pub gives_plan : (plan : Plan) → IsFirstFault bytes None → IsPlanOf plan (script_read tokens) → GivesPlan bytes plan
+    gives_plan plan none is = (spelt.tree, spelt.spells, record { no_fault = no_fault none; plan_is = plan_read plan is })
+
+    pub typed_plan : (plan : Plan) → IsFirstFault bytes None → IsPlanOf plan (script_read tokens) → HasNames plan → IsTyped plan
+    typed_plan plan none is names =
+        let same = plan_read plan is in
+        subst IsTyped (sym same) (plan_typed spelt.tree spelt.filled (no_fault none) (subst HasNames same names))
+
+  pub faulty : (f : Fault) → IsFirstFault bytes (Some f) → IsScriptFault bytes f.place f.cause
+  faulty f first =
+      let l = least_first (faults_of spelt.tree) f (sym (first spelt.tree spelt.spells)) in
+      inr (spelt.tree, spelt.spells, record { stands = l.stands; least = l.least })
 
 no_member : (faults : List Fault) (f : Fault) → faults ≡ [] → Contains faults f → ⊥
 no_member faults f is c = let e : Contains [] f = subst (λ (fs : List Fault). Contains fs f) is c in omega (arith, e.1)

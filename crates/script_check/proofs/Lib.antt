@@ -4,14 +4,13 @@
 -- - from no name declared twice to names that differ: NameLemmas
 -- - a guard of the plan makes as many comparisons as that of the tree: CountLemmas
 -- - from no fault to the sizes of a tree: SmallLemmas
--- - from no fault to a tree that cutting its lists leaves as it is: KeptLemmas
 -- - from no fault to a well typed plan: what a variable stands for, operands and guards, the rest: VariableLemmas,
 --   TypedLemmas, PlanLemmas
+-- - a script that is read once more: CheckLemmas
 -- - from trees to the bytes that spell them: ScriptLemmas
 pub mod LeastLemmas
 pub mod NumberLemmas
 pub mod SmallLemmas
-pub mod KeptLemmas
 pub mod NameLemmas
 pub mod CountLemmas
 pub mod CheckLemmas

@@ -1,12 +1,10 @@
 -- From trees to the bytes that spell them.
-use Rattle.std.proofs.Common.{inl, inr, ℕ, List, subst}
-use Rattle.std.specs.Prelude.{Result, Ok, Err}
+use Rattle.std.proofs.Common.{inl, inr, ℕ, List, subst, Err}
 use Rattle.script_grammar.specs.declared.tree.Tree.{Tree}
 use Rattle.script_grammar.specs.declared.fault.ScriptFault.{ScriptFault}
 use Rattle.script_grammar.specs.declared.fault.ScriptFault.TheVariants as fault
 use Rattle.script_reader.specs.Spells as reader
-use Rattle.script_types.specs.declared.plan.Plan.{Plan}
-use Rattle.script_check.specs.Types.{Checks, IsFaultOf, NoBoth, OneFault, OnePlan, Types}
+use Rattle.script_check.specs.Types.{IsFaultOf, NoBoth, OneFault, OnePlan, Types}
 use Rattle.script_check.specs.Script.{NoPlanAndFault, OneScriptFault, OneScriptPlan, ReadsPlan}
 
 -- ---- what is read
@@ -14,11 +12,6 @@ use Rattle.script_check.specs.Script.{NoPlanAndFault, OneScriptFault, OneScriptP
 pub unread : (bytes : List ℕ) (f : ScriptFault) → reader.FaultIs bytes f → ReadsPlan bytes (Err f)
 unread bytes (fault.Bad place cause) is = inl is
 unread bytes fault.NoMemory is = tt
-
-pub checked : (bytes : List ℕ) (tree : Tree) (result : Result Plan ScriptFault) → reader.Spells bytes tree → Checks tree result → ReadsPlan bytes result
-checked bytes tree (Ok plan) spells is = (tree, spells, is)
-checked bytes tree (Err (fault.Bad place cause)) spells is = inr (tree, spells, is)
-checked bytes tree (Err fault.NoMemory) spells is = tt
 
 -- ---- one answer
 

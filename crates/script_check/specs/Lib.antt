@@ -1,3 +1,3 @@
--- the answer of the checker, and what a script comes to
+-- the plan or the fault of a tree, and of a script
 pub mod Types
 pub mod Script

@@ -1,11 +1,13 @@
 -- Which plan the bytes of a script come to, and the fault of those that come to none.
-use Rattle.std.specs.Prelude.{◌≡◌, ◌⊎◌, ℕ, List, Result, Ok, Err}
+use Rattle.std.specs.Prelude.{◌≡◌, ◌⊎◌, ℕ, List, Option, Result, Ok, Err}
 use Rattle.script_grammar.specs.declared.tree.Tree.{Tree}
 use Rattle.script_grammar.specs.declared.fault.ScriptCause.{ScriptCause}
 use Rattle.script_grammar.specs.declared.fault.ScriptFault.{ScriptFault}
 use Rattle.script_grammar.specs.declared.fault.ScriptFault.TheVariants.{Bad, NoMemory}
 use Rattle.script_reader.specs.Spells.{IsFault, Spells}
 use Rattle.script_types.specs.declared.plan.Plan.{Plan}
+use Rattle.script_faults.specs.declared.first.Fault.{Fault}
+use Rattle.script_faults.specs.Faults.{first_fault}
 use Rattle.script_check.specs.Types.{IsFaultOf, Types}
 
 -- the bytes spell a tree without a fault, which has this plan
@@ -15,6 +17,10 @@ GivesPlan bytes plan = (tree : Tree) × Spells bytes tree × Types tree plan
 -- the fault of bytes that spell no tree, or of the tree that they spell
 abbrev pub IsScriptFault : List ℕ → ℕ → ScriptCause → Type 0
 IsScriptFault bytes place cause = IsFault bytes place cause ⊎ ((tree : Tree) × Spells bytes tree × IsFaultOf tree place cause)
+
+-- this is the first fault of names and types of the tree that the bytes spell, if it has any
+abbrev pub IsFirstFault : List ℕ → Option Fault → Type 0
+IsFirstFault bytes found = (tree : Tree) → Spells bytes tree → found ≡ first_fault tree
 
 -- the plan of the bytes, or their fault, unless there was no memory
 abbrev pub ReadsPlan : List ℕ → Result Plan ScriptFault → Type 0

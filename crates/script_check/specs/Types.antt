@@ -1,13 +1,8 @@
 -- Which plan a tree has, and the fault of a tree that has none.
-use Rattle.std.specs.Prelude.{◌≡◌, ℕ, [], false, Result, Ok, Err, Contains}
+use Rattle.std.specs.Prelude.{◌≡◌, ℕ, [], false, Contains}
 use Rattle.std.specs.List.{AllByRecursion}
-use Rattle.script_grammar.specs.Bounds.{cut_lists}
-use Rattle.script_grammar.specs.Cut.{kept_tree}
-use Rattle.script_grammar.specs.Filled.{IsFilled}
 use Rattle.script_grammar.specs.declared.tree.Tree.{Tree}
 use Rattle.script_grammar.specs.declared.fault.ScriptCause.{ScriptCause}
-use Rattle.script_grammar.specs.declared.fault.ScriptFault.{ScriptFault}
-use Rattle.script_grammar.specs.declared.fault.ScriptFault.TheVariants.{Bad, NoMemory}
 use Rattle.script_types.specs.declared.plan.Plan.{Plan}
 use Rattle.script_faults.specs.declared.first.Fault.{Fault}
 use Rattle.script_faults.specs.First.{fault, is_before}
@@ -20,27 +15,10 @@ pub record Types (tree : Tree) (plan : Plan) : Type 0 where
   pub no_fault : faults_of tree ≡ []
   pub plan_is : plan ≡ plan_of tree
 
--- the tree has no gaps, and the other is the same with its lists cut
-abbrev pub IsCutOf : Tree → Tree → Type 0
-IsCutOf whole tree = IsFilled whole × (tree ≡ kept_tree cut_lists whole)
-
-abbrev pub IsCut : Tree → Type 0
-IsCut tree = (whole : Tree) × IsCutOf whole tree
-
 -- one of the faults, and no other comes before it: it is at the least place, and there the first cause
 pub record IsFaultOf (tree : Tree) (place : ℕ) (cause : ScriptCause) : Type 0 where
   pub stands : Contains (faults_of tree) (fault cause place)
   pub least : AllByRecursion (λ (other : Fault). is_before other (fault cause place) ≡ false) (faults_of tree)
-
--- the plan of the tree, or its fault, unless there was no memory
-abbrev pub Checks : Tree → Result Plan ScriptFault → Type 0
-Checks tree (Ok plan) = Types tree plan
-Checks tree (Err (Bad place cause)) = IsFaultOf tree place cause
-Checks tree (Err NoMemory) = Unit {0}
-
--- the same of the tree that this one is when its lists are not cut
-abbrev pub ChecksCut : Tree → Result Plan ScriptFault → Type 0
-ChecksCut tree result = (whole : Tree) → IsCutOf whole tree → Checks whole result
 
 -- a tree has one plan at the most, and none where it has a fault, of which one is its fault
 abbrev pub OnePlan : Type 0

@@ -1,28 +1,45 @@
-//! Checking a script's names and types.
-ghost use Rattle.std.specs.Prelude.{IfOk};
+//! Reading a script once more: for the first fault of its names and types, and for its plan.
+ghost use Rattle.std.specs.Prelude.{None, IfOk};
+ghost use Rattle.script_reader.specs.Spells.{SpellsOutline};
 ghost use Rattle.script_types.specs.Typed.{IsTyped};
-ghost use Rattle.script_check.specs.Types.{ChecksCut, IsCut, NoBoth, OneFault, OnePlan};
+ghost use Rattle.script_check.specs.Script.{GivesPlan, IsFirstFault};
+ghost use Rattle.script_check.specs.Types.{NoBoth, OneFault, OnePlan};
 
-use script_faults::first_fault;
-use script_grammar::{ScriptFault, Tree};
-use script_plan::plan_of;
+use join_base::NoMemory;
+use script_faults::{Fault, first_fault_at};
+use script_grammar::Outline;
+use script_plan::plan_at;
+use script_reader::tokens_of;
 use script_types::Plan;
 use std::alloc::Global;
 
-/// The plan of a tree, in which each name is replaced by the number of its declaration; it is well typed. Otherwise the
-/// fault of its names and types at the least place, and of several at that place the first in the order of
-/// `ScriptCause`. The tree may have its lists cut: the answer is that for the whole.
-pub fn check_script(alloc: Global, tree: &Tree) -> Result<Plan, ScriptFault>
-    requires cut { IsCut tree.now }
-    ensures checks { ChecksCut tree.now result }
+/// The first fault of the names and types of a script with this outline.
+pub(crate) fn fault_of(
+    alloc: Global,
+    bytes: &[u8],
+    outline: &Outline,
+) -> Result<Option<Fault>, NoMemory>
+    requires outline { SpellsOutline bytes.now outline.now }
+    ensures { IfOk result (λ found. IsFirstFault bytes.now found) }
+{
+    let mut tokens = tokens_of(alloc, bytes)?;
+    match first_fault_at(alloc, outline, &mut tokens) {
+        Ok(found) => Ok(found),
+        Err(_) => Err(NoMemory),
+    }
+}
+
+/// The plan of a script with this outline and without a fault.
+pub(crate) fn plan_of(alloc: Global, bytes: &[u8], outline: &Outline) -> Result<Plan, NoMemory>
+    requires outline { SpellsOutline bytes.now outline.now }
+    requires no_fault { IsFirstFault bytes.now None }
+    ensures plan { IfOk result (λ plan. GivesPlan bytes.now plan) }
     ensures typed { IfOk result IsTyped }
 {
-    match first_fault(alloc, tree)? {
-        Some(fault) => Err(ScriptFault::Bad {
-            place: fault.place,
-            cause: fault.cause,
-        }),
-        None => Ok(plan_of(alloc, tree)?),
+    let mut tokens = tokens_of(alloc, bytes)?;
+    match plan_at(alloc, outline, &mut tokens) {
+        Ok(plan) => Ok(plan),
+        Err(_) => Err(NoMemory),
     }
 }
 

@@ -2,6 +2,7 @@
 ghost use Rattle.std.specs.Prelude.{◌≡◌, ◌≤◌, IfOk, map, unsigned_abs};
 ghost use Rattle.std.specs.List.{AllByRecursion};
 ghost use Rattle.script_plan.specs.PlanOf.{operand_of, pattern_number, print_item, statement_of};
+ghost use Rattle.script_plan.specs.Planned.{outline_tree};
 ghost use Rattle.script_plan.specs.Small.{IsSmallItem, IsSmallOperand, IsSmallStatement};
 
 use crate::names::{Script, Variables};
@@ -79,7 +80,8 @@ fn statement_of(
     decl: &StatementDecl,
 ) -> Result<Statement, NoMemory>
     requires { IsSmallStatement decl.now }
-    ensures { IfOk result (λ statement. statement ≡ statement_of script.now.tree.now variables.now decl.now) }
+    ensures { IfOk result (λ statement. statement ≡ statement_of (outline_tree script.now.outline.now) variables.now
+        decl.now) }
 {
     match decl {
         StatementDecl::Print { items, .. } => {
@@ -121,7 +123,8 @@ pub(crate) fn body_of(
     decls: &[StatementDecl],
 ) -> Result<Items<Statement>, NoMemory>
     requires { AllByRecursion IsSmallStatement decls.now }
-    ensures { IfOk result (λ body. body ≡ map (statement_of script.now.tree.now variables.now) decls.now) }
+    ensures { IfOk result (λ body. body ≡ map (statement_of (outline_tree script.now.outline.now) variables.now)
+        decls.now) }
 {
     let mut body = Items::new(alloc);
     for decl in decls {

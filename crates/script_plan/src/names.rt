@@ -2,43 +2,44 @@
 ghost use Rattle.std.specs.Prelude.{◌≡◌, ◌≤◌, length, IfOk};
 ghost use Rattle.script_names.specs.Scope.{actor_rows, sort_of, variables_of};
 ghost use Rattle.script_plan.specs.PlanOf.{kind_number, place_of, target_number};
+ghost use Rattle.script_plan.specs.Planned.{outline_tree};
 ghost use Rattle.script_plan.specs.Small.{IsSmallRule};
 
 use guard_eval::Place;
 use join_base::{NoMemory, Sort};
-use script_grammar::{RuleDecl, Tree};
+use script_grammar::{Outline, RuleDecl};
 use script_names::{Messages, NameTable, Slot, actor_names, variables_of};
 use std::alloc::Global;
 use std::marker::Model;
 
-/// A script, with its messages and its actors found by their names.
+/// The outline of a script, with its messages and its actors found by their names.
 #[derive(Drop)]
 pub(crate) struct Script<'a> {
-    pub(crate) tree: &'a Tree,
+    pub(crate) outline: &'a Outline,
     messages: Messages<'a>,
     actors: NameTable<'a, u64>,
-    ghost messages_named: { messages.decls.now ≡ tree.now.messages },
-    ghost actors_named: { actors ≡ actor_rows tree.now.actors },
-    ghost few_messages: { length tree.now.messages ≤ 64 },
-    ghost few_actors: { length tree.now.actors ≤ 32 },
+    ghost messages_named: { messages.decls.now ≡ outline.now.messages },
+    ghost actors_named: { actors ≡ actor_rows (outline_tree outline.now).actors },
+    ghost few_messages: { length outline.now.messages ≤ 64 },
+    ghost few_actors: { length outline.now.actors ≤ 32 },
 }
 
 impl<'a> Script<'a> {
-    pub(crate) fn new(alloc: Global, tree: &'a Tree) -> Result<Script<'a>, NoMemory>
-        requires messages { length tree.now.messages ≤ 64 }
-        requires actors { length tree.now.actors ≤ 32 }
-        ensures { IfOk result (λ s. s.tree.now ≡ tree.now) }
+    pub(crate) fn new(alloc: Global, outline: &'a Outline) -> Result<Script<'a>, NoMemory>
+        requires messages { length outline.now.messages ≤ 64 }
+        requires actors { length outline.now.actors ≤ 32 }
+        ensures { IfOk result (λ s. s.outline.now ≡ outline.now) }
     {
         Ok(Script {
-            tree,
-            messages: Messages::new(alloc, tree.messages.as_slice())?,
-            actors: actor_names(alloc, tree.actors.as_slice())?,
+            outline,
+            messages: Messages::new(alloc, outline.messages.as_slice())?,
+            actors: actor_names(alloc, outline.actors.as_slice())?,
         })
     }
 
     /// The number of the message of a name, and 0 where there is none.
     pub(crate) fn kind_number(&self, name: &[u8]) -> u32
-        ensures { result ≡ kind_number self.now.tree.now name.now }
+        ensures { result ≡ kind_number (outline_tree self.now.outline.now) name.now }
     {
         match self.messages.names().number_of(name) {
             Some(number) => number as u32,
@@ -48,7 +49,7 @@ impl<'a> Script<'a> {
 
     /// The number of the actor of a name, and 0 where there is none.
     pub(crate) fn target_number(&self, name: &[u8]) -> u32
-        ensures { result ≡ target_number self.now.tree.now name.now }
+        ensures { result ≡ target_number (outline_tree self.now.outline.now) name.now }
     {
         match self.actors.number_of(name) {
             Some(number) => number as u32,
@@ -83,7 +84,7 @@ impl<'a> Variables<'a> {
         rule: &'a RuleDecl,
     ) -> Result<Variables<'a>, NoMemory>
         requires { IsSmallRule rule.now }
-        ensures { IfOk result (λ v. v ≡ variables_of script.now.tree.now.messages rule.now) }
+        ensures { IfOk result (λ v. v ≡ variables_of script.now.outline.now.messages rule.now) }
     {
         let slots = variables_of(alloc, &script.messages, rule)?;
         Ok(Variables { slots })

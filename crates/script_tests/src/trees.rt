@@ -1,14 +1,14 @@
-//! Trees of scripts, and the places in them.
+//! Outlines of scripts, trees of definitions, and the places in them.
 
 use crate::given::{INT, joined};
-use join_base::{NoMemory, Sort};
+use join_base::Sort;
 use script_grammar::{
-    ActorDecl, FieldDecl, ItemDecl, LeafDecl, MessageDecl, OperandDecl, OperandRef, Part,
-    PatternDecl, RuleDecl, Spelt, StatementDecl, Tree,
+    FieldDecl, ItemDecl, LeafDecl, MessageDecl, OperandDecl, OperandRef, Part, PatternDecl,
+    RuleDecl, Spelt, StatementDecl, Stop, mark_at, name_at, rule_at, skip_message,
 };
-use script_reader::read_script;
+use script_reader::read_outline;
+use script_tokens::{Mark, Tokens};
 use std::alloc::Global;
-use std::test::Fail;
 
 const SCRIPT: &[u8] =
     b"message a(x: int, s: text) message b() actor m { when a(x, _) & b() if x - 2 == 1 && !(x < 1 || \"k\" != x) { print \"t\" x (-x + 1); post m b(\"k\", 3); stop; } }";
@@ -149,14 +149,11 @@ fn is_rule(rule: &RuleDecl) -> bool {
         && is_stop(stop)
 }
 
-fn are_actors(actors: &[ActorDecl]) -> bool {
-    let [m] = actors else {
-        return false;
-    };
-    let [rule] = m.rules.as_slice() else {
-        return false;
-    };
-    is_spelt(&m.name, b"m", 45) && is_rule(rule)
+fn are_actors(actors: &[Spelt]) -> bool {
+    match actors {
+        [m] => is_spelt(m, b"m", 45),
+        _ => false,
+    }
 }
 
 fn is_reply(statement: &StatementDecl, places: [u64; 3], number: i64) -> bool {
@@ -179,38 +176,59 @@ fn are_replies(body: &[StatementDecl]) -> bool {
     }
 }
 
-fn has_windows(tree: &Tree) -> bool {
-    let [m] = tree.actors.as_slice() else {
-        return false;
-    };
-    match m.rules.as_slice() {
-        [first, second] => {
-            first.window == Some((45, 3))
-                && second.window.is_none()
-                && are_replies(first.body.as_slice())
+fn has_outline(alloc: Global, script: &[u8]) -> bool {
+    match read_outline(alloc, script) {
+        Ok(outline) => {
+            are_messages(outline.messages.as_slice()) && are_actors(outline.actors.as_slice())
         }
-        _ => false,
-    }
-}
-
-fn has_windows_behind(alloc: Global, rest: &[u8]) -> Result<bool, NoMemory> {
-    let script = joined(alloc, INT, b"", 0, rest)?;
-    match read_script(alloc, script.bytes()) {
-        Ok(tree) => Ok(has_windows(&tree)),
-        Err(_) => Ok(false),
-    }
-}
-
-fn has_parts(alloc: Global, script: &[u8]) -> bool {
-    match read_script(alloc, script) {
-        Ok(tree) => are_messages(tree.messages.as_slice()) && are_actors(tree.actors.as_slice()),
         Err(_) => false,
     }
 }
 
-#[test]
-fn parts_of_a_script_have_their_places(rt: HostRuntime) -> Result<(), Fail> {
-    let rest = b"when a(x) within 03 { reply 1 x + 2; reply 12 \"k\"; } when a(x) { } }";
-    assert!(rt; has_parts(rt.alloc(), SCRIPT) && has_windows_behind(rt.alloc(), rest)?);
+// Passes over so many messages, and what an actor begins with.
+fn skip_front(alloc: Global, messages: u32, tokens: &mut Tokens<'_>) -> Result<(), Stop> {
+    for _ in 0..messages {
+        skip_message(alloc, tokens)?;
+    }
+    mark_at(alloc, tokens, Mark::Actor)?;
+    name_at(alloc, tokens)?;
+    mark_at(alloc, tokens, Mark::OpenBrace)?;
     Ok(())
+}
+
+fn has_rule(alloc: Global, script: &[u8]) -> Result<bool, Stop> {
+    let mut tokens = Tokens::new(alloc, script)?;
+    skip_front(alloc, 2, &mut tokens)?;
+    let rule = rule_at(alloc, &mut tokens)?;
+    Ok(is_rule(&rule))
+}
+
+fn are_windows(first: &RuleDecl, second: &RuleDecl) -> bool {
+    first.window == Some((45, 3)) && second.window.is_none() && are_replies(first.body.as_slice())
+}
+
+fn have_windows(alloc: Global, rest: &[u8]) -> Result<bool, Stop> {
+    let script = joined(alloc, INT, b"", 0, rest)?;
+    let mut tokens = Tokens::new(alloc, script.bytes())?;
+    skip_front(alloc, 1, &mut tokens)?;
+    let first = rule_at(alloc, &mut tokens)?;
+    let second = rule_at(alloc, &mut tokens)?;
+    Ok(are_windows(&first, &second))
+}
+
+fn whole_script() -> &'static [u8] {
+    SCRIPT
+}
+
+#[test]
+fn parts_of_a_script_have_their_places(rt: HostRuntime) {
+    let alloc = rt.alloc();
+    let script = whole_script();
+    assert!(rt; has_outline(alloc, script) && matches!(has_rule(alloc, script), Ok(true)));
+}
+
+#[test]
+fn windows_and_replies_have_their_places(rt: HostRuntime) {
+    let rest = b"when a(x) within 03 { reply 1 x + 2; reply 12 \"k\"; } when a(x) { } }";
+    assert!(rt; matches!(have_windows(rt.alloc(), rest), Ok(true)));
 }

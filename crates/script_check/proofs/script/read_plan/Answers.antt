@@ -1,9 +1,11 @@
-use Rattle.script_check.proofs.ScriptLemmas.{checked}
+use Rattle.std.proofs.Common.{subst}
+use Rattle.script_check.specs.Script.{IsFirstFault}
+use Rattle.script_check.proofs.CheckLemmas.{faulty}
 use Rattle.script_check.proofs.script.read_plan.Goals as goal
 
-pub check_script-requires : goal.check_script-requires
-check_script-requires c = let read = c.in_ok-tree.ensures in record { cut = (read.whole, (read.filled, read.kept)) }
+pub plan_of-requires : goal.plan_of-requires
+plan_of-requires c = record { outline = c.in_ok-outline.ensures; no_fault = subst (IsFirstFault c.args.bytes.now) c.in-None.is c.in_ok-found.ensures }
 
-pub returns-clause-plan : goal.returns-clause-plan
-returns-clause-plan c =
-    let read = c.in_ok-tree.ensures in checked c.args.bytes.now read.whole c.check_script.result read.spells (c.check_script.ensures.checks read.whole (read.filled, read.kept))
+pub returns-in-Some-clause-plan : goal.returns-in-Some-clause-plan
+returns-in-Some-clause-plan c =
+    faulty c.args.bytes.now c.in_ok-outline.outline c.in_ok-outline.ensures c.in-Some.fault (subst (IsFirstFault c.args.bytes.now) c.in-Some.is c.in_ok-found.ensures)

@@ -1,6 +1,0 @@
-use Rattle.std.proofs.Common.{◌≡◌, map, take}
-use Rattle.script_plan.specs.PlanOf.{rule_of}
-use Rattle.script_plan.proofs.plan.rules_of.Given as goal
-
-abbrev pub invariant-loop-decl : goal.invariant-loop-decl
-invariant-loop-decl l = l.rules ≡ map (rule_of l.script.tree.now) (take l.decl-index l.decls)

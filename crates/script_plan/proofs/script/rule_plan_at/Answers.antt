@@ -1,0 +1,4 @@
+use Rattle.script_plan.proofs.script.rule_plan_at.Goals as goal
+
+pub rule_of-requires : goal.rule_of-requires
+rule_of-requires c = rw c.in_ok-rule.ensures.gives at c.requires.small
