@@ -4,7 +4,7 @@
 //! - `one_answer` says that a tree has one plan or one fault, and never both, and `one_script` says it of bytes.
 //!
 //! A script is read three times: for its outline, for the first fault of its names and types, and for its plan. No
-//! reading holds more than one definition, so that a script takes little more memory than its plan.
+//! reading holds the tree of more than one definition. No bound of memory is proved.
 //!
 //! A contract says by `ReadsPlan` what an answer means: the plan of a tree without faults, its fault, or want of
 //! memory. Only tested: which cause comes at which place of a script, by tables.
