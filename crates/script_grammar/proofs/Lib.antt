@@ -4,6 +4,7 @@
 --   DeclarationLemmas, ScriptLemmas
 -- - a loop that reads a list, turn by turn, whatever its reader (`IsLeft`: `begun`, `goes_on`, `stops`, `ends`,
 --   `turns_end`): LoopLemmas
+-- - what is noted of a list while a loop reads it, turn by turn, whatever its phrases (`IsNoted`): WalkLemmas
 -- - what passing over a rule leaves, by its parts (`Passes`): PassedLemmas, of each rule: PassedRules; and the loops
 --   that pass over lists (`IsPassing`): PassedLoops
 -- - one mark more around an atom, as a prefix holds it: PrefixLemmas
@@ -19,6 +20,7 @@ pub mod AtomLemmas
 pub mod StatementLemmas
 pub mod ScriptLemmas
 pub mod LoopLemmas
+pub mod WalkLemmas
 pub mod PassedLemmas
 pub mod PassedRules
 pub mod PassedLoops
