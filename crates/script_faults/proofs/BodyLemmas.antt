@@ -1,19 +1,18 @@
 -- The faults of a body, from those of its statements as they are read.
-use Rattle.std.proofs.Common.{◌≡◌, ◌∙◌, ◌++◌, ◌+◌, ◌-◌, ℕ, ℤ, suc, Bool, true, List, [], ◌∷◌, length, take, replicate, Option, None, Some, refl, sym, ap, append_assoc, arith}
+use Rattle.std.proofs.Common.{◌≡◌, ◌∙◌, ◌++◌, ◌+◌, ◌-◌, ℕ, suc, Bool, true, List, [], ◌∷◌, length, take, replicate, Option, None, refl, sym, ap, append_assoc, arith}
 use Rattle.std.specs.Prelude.{fold}
 use Rattle.std.specs.List.{flat_map}
 use Rattle.script_tokens.specs.declared.token.Token.{Token}
 use Rattle.script_grammar.specs.Reading.{Outcome}
-use Rattle.script_grammar.specs.declared.tree.MessageDecl.{MessageDecl}
 use Rattle.script_grammar.specs.declared.tree.StatementDecl.{StatementDecl}
 use Rattle.script_grammar.specs.declared.tree.StatementDecl.TheVariants as statement_is
-use Rattle.script_names.specs.Scope.{Variable}
 use Rattle.script_faults.specs.declared.body.Body.{Body}
 use Rattle.script_faults.specs.declared.first.Fault.{Fault}
 use Rattle.script_faults.specs.declared.statement.Said.{Said}
 use Rattle.script_faults.specs.declared.statement.Scope.{Scope}
 use Rattle.script_faults.specs.First.{first_of, too_many}
-use Rattle.script_faults.specs.Noted.{Noted, at_most, numbered_faults}
+use Rattle.script_grammar.specs.Gives.{Noted}
+use Rattle.script_faults.specs.Numbered.{at_most, numbered_faults}
 use Rattle.script_faults.specs.Open.{open_after, open_fault, open_faults}
 use Rattle.script_faults.specs.Statements.{reply_closed, reply_noted, said_of, stop_before}
 use Rattle.script_faults.specs.Steps.{spoken_faults, statement_after}

@@ -1,14 +1,13 @@
 -- The fault of a script, from its outline and its actors as they are read.
-use Rattle.std.proofs.Common.{inl, inr, ◌≡◌, ◌∙◌, ◌++◌, ℕ, zero, suc, Bool, true, false, cond, List, [], ◌∷◌, map, Bor, Option, None, Some, Result, Ok, Err, refl, sym, ap, subst}
+use Rattle.std.proofs.Common.{inl, inr, ◌≡◌, ◌∙◌, ◌++◌, ℕ, zero, suc, Bool, true, false, List, [], ◌∷◌, map, Option, None, Result, Ok, Err, refl, sym, ap, subst}
 use Rattle.std.specs.Prelude.{fold, if◌then◌else◌}
 use Rattle.std.specs.List.{flat_map}
-use Rattle.std.proofs.lemmas.List.{append-nil}
 use Rattle.script_tokens.specs.declared.token.Token.{Token}
 use Rattle.script_tokens.specs.declared.token.Mark.TheVariants as m
 use Rattle.script_grammar.specs.Grammar.{Declaration, actors_of, tree_of}
-use Rattle.script_grammar.specs.Gives.{Fails}
+use Rattle.script_grammar.specs.Gives.{Fails, Noted}
 use Rattle.script_grammar.specs.Outlines.{Outlines, actor_name, outline_of}
-use Rattle.script_grammar.specs.Reading.{Outcome, and_then, head, passed, pure, repeated}
+use Rattle.script_grammar.specs.Reading.{Outcome, head, passed, repeated}
 use Rattle.script_grammar.specs.ScriptReading.{actor_read, begins_declaration, declaration_read, finish, finish_of, has_actor, is_mark, message_read, next_is, script_read}
 use Rattle.script_grammar.specs.declared.outline.Outline.{Outline}
 use Rattle.script_grammar.specs.declared.stop.Stop.{Stop}
@@ -20,12 +19,11 @@ use Rattle.script_grammar.specs.declared.tree.Tree.{Tree}
 use Rattle.script_names.specs.Scope.{actor_rows, message_rows, spelt_rows}
 use Rattle.script_faults.specs.declared.first.Fault.{Fault}
 use Rattle.script_faults.specs.declared.script.Declarations.{Declarations}
-use Rattle.script_faults.specs.Finding.{Finds, declaration_after, declaration_faults, outline_faults}
+use Rattle.script_faults.specs.Finding.{Finds, declaration_after, outline_faults}
 use Rattle.script_faults.specs.First.{first_of, too_many}
-use Rattle.script_faults.specs.Noted.{Noted}
 use Rattle.script_faults.specs.Faults.{actor_faults, faults_of, first_fault, message_faults, own_place, twice_declared}
 use Rattle.script_faults.proofs.FirstLemmas.{first_of-append, first_of-then}
-use Rattle.script_faults.proofs.WalkLemmas.{one_ok}
+use Rattle.script_grammar.proofs.WalkLemmas.{one_ok}
 
 -- ---- one declaration
 

@@ -17,7 +17,7 @@ drop_suc [] i x within is = absurd (omega (arith, within))
 drop_suc {X} (y ∷ xs) zero x within is = ap (λ (z : X). z ∷ xs) is
 drop_suc (y ∷ xs) (suc i) x within is = drop_suc xs i x (omega (arith, within)) is
 
-drop_next : {X : Type 0} (xs : List X) (i : ℕ) (x : X) → i < length xs → get_or xs i x ≡ x → drop i xs ≡ x ∷ drop (i + 1) xs
+pub drop_next : {X : Type 0} (xs : List X) (i : ℕ) (x : X) → i < length xs → get_or xs i x ≡ x → drop i xs ≡ x ∷ drop (i + 1) xs
 drop_next {X} xs i x within is = let next : suc i ≡ i + 1 = omega arith in subst (λ (n : ℕ). drop i xs ≡ x ∷ drop n xs) next (drop_suc xs i x within is)
 
 -- the faults of one item, and then those of the items behind it

@@ -1,10 +1,9 @@
 -- The faults of a guard, from those of its comparisons as they are read.
 use Rattle.std.proofs.Common.{◌≡◌, ◌∙◌, ◌++◌, ◌+◌, ℕ, ◌&&◌, not, List, [], ◌∷◌, Bor, Option, Ok, refl, sym, ap}
 use Rattle.std.specs.Prelude.{false, fold, true}
-use Rattle.std.specs.List.{flat_map}
 use Rattle.script_tokens.specs.declared.token.Token.{Token}
 use Rattle.script_tokens.specs.declared.token.Mark.TheVariants as m
-use Rattle.script_grammar.specs.Atoms.{Atom, Atoms, atoms_of, compares, either, grouped, negated, no_atoms}
+use Rattle.script_grammar.specs.Atoms.{Atom, Atoms, atoms_of, compares, grouped, negated}
 use Rattle.script_grammar.specs.Grammar.{relation_of}
 use Rattle.script_grammar.specs.Operands.{operand_place}
 use Rattle.script_grammar.specs.Reading.{head, token}
@@ -17,7 +16,8 @@ use Rattle.script_names.specs.Scope.{Variable, operand_sort}
 use Rattle.script_faults.specs.declared.first.Fault.{Fault}
 use Rattle.script_faults.specs.declared.guard.Compared.{Compared}
 use Rattle.script_faults.specs.First.{fault_if, first_of}
-use Rattle.script_faults.specs.Noted.{Noted, at_most, numbered_faults}
+use Rattle.script_grammar.specs.Gives.{Noted}
+use Rattle.script_faults.specs.Numbered.{at_most, numbered_faults}
 use Rattle.script_faults.specs.Steps.{atom_after, comparison_after, conjunct_after}
 use Rattle.script_faults.specs.Faults.{Comparing, atom_comparisons, comparison_faults, comparisons, guard_comparisons, guard_faults, is_order, is_same, is_words, operand_faults}
 use Rattle.script_faults.proofs.FirstLemmas.{first_of-append, first_of-then}

@@ -1,5 +1,5 @@
--- Variables of which each name means the same have the same faults.
-use Rattle.std.proofs.Common.{◌≡◌, ◌++◌, ◌+◌, ◌&&◌, ◌==◌, ℕ, Bool, true, false, not, List, [], ◌∷◌, length, Option, None, Some, refl, ap}
+-- Variables of which the types alone are known have the same faults.
+use Rattle.std.proofs.Common.{◌≡◌, ◌++◌, ◌+◌, ◌&&◌, ◌==◌, ℕ, Bool, true, false, not, List, [], ◌∷◌, length, Option, None, Some, refl, ap, ◌∙◌}
 use Rattle.std.specs.Prelude.{slice_get}
 use Rattle.std.specs.List.{flat_map}
 use Rattle.std.specs.Option.{is_none, option_map}
@@ -15,24 +15,34 @@ use Rattle.script_grammar.specs.declared.tree.LeafDecl.{LeafDecl}
 use Rattle.script_grammar.specs.declared.tree.MessageDecl.{MessageDecl}
 use Rattle.script_grammar.specs.declared.tree.Part.{Part}
 use Rattle.script_grammar.specs.declared.tree.Part.TheVariants as part
-use Rattle.script_grammar.specs.declared.tree.Spelt.{Spelt}
 use Rattle.script_grammar.specs.declared.tree.StatementDecl.{StatementDecl}
 use Rattle.script_grammar.specs.declared.tree.StatementDecl.TheVariants as statement
 use Rattle.script_names.specs.declared.scope.Slot.{Slot}
 use Rattle.script_names.specs.Names.{item_of, names_of, number_of}
-use Rattle.script_names.specs.Scope.{Variable, name_sort, only_name, operand_sort, sort_in, sort_of}
+use Rattle.script_names.specs.Scope.{Variable, name_sort, only_name, operand_sort, sort_in, type_alone}
 use Rattle.script_faults.specs.declared.first.Fault.{Fault}
 use Rattle.script_faults.specs.First.{fault_if, too_many}
-use Rattle.script_faults.specs.Faults.{Comparing, body_faults, comparison_faults, count_faults, fields_of, fields_or_none, guard_faults, is_order, is_same, is_words, item_faults, leaf_faults, name_faults, operand_faults, part_faults, post_faults, statement_faults, statement_place, stop_faults, term_faults, type_faults, wrong_type}
+use Rattle.script_faults.specs.Faults.{Comparing, body_faults, comparison_faults, count_faults, fields_of, fields_or_none, guard_faults, is_order, is_same, is_words, item_faults, leaf_faults, name_faults, operand_faults, part_faults, statement_faults, statement_place, stop_faults, term_faults, type_faults, wrong_type}
 
 each_same : {X : Type 0} (f g : X → List Fault) → ((x : X) → f x ≡ g x) → (xs : List X) → flat_map f xs ≡ flat_map g xs
 each_same f g same [] = refl
 each_same f g same (x ∷ xs) = λ i. same x i ++ each_same f g same xs i
 
-module _ (one other : List Variable) (same : (name : List ℕ) → item_of name one ≡ item_of name other) where
+same_found : (alone : Bool) (place : ℕ) (found : Option Slot) → name_faults alone place (option_map type_alone found) ≡ name_faults alone place found
+same_found alone place None = refl
+same_found alone place (Some slot) = refl
+
+same_sort_found : (found : Option Slot) → sort_in (option_map (λ (slot : Slot). slot.sort) (option_map type_alone found)) ≡ sort_in (option_map (λ (slot : Slot). slot.sort) found)
+same_sort_found None = refl
+same_sort_found (Some slot) = refl
+
+module _ (one other : List Variable) (same : (name : List ℕ) → item_of name one ≡ option_map type_alone (item_of name other)) where
+  same_named : (alone : Bool) (place : ℕ) (name : List ℕ) → name_faults alone place (item_of name one) ≡ name_faults alone place (item_of name other)
+  same_named alone place name = ap (name_faults alone place) (same name) ∙ same_found alone place (item_of name other)
+
   same_part : (alone : Bool) (place : ℕ) (x : Part) → part_faults one alone place x ≡ part_faults other alone place x
   same_part alone place (part.Number n) = refl
-  same_part alone place (part.Named name) = ap (name_faults alone place) (same name)
+  same_part alone place (part.Named name) = same_named alone place name
 
   same_leaf : (alone : Bool) (leaf : LeafDecl) → leaf_faults one alone leaf ≡ leaf_faults other alone leaf
   same_leaf alone leaf = same_part (alone && not leaf.minus) leaf.place leaf.part
@@ -48,7 +58,7 @@ module _ (one other : List Variable) (same : (name : List ℕ) → item_of name 
 
   same_name_sort : (name : Option (List ℕ)) → name_sort one name ≡ name_sort other name
   same_name_sort None = refl
-  same_name_sort (Some name) = ap (λ (s : Option Slot). sort_in (option_map (λ (slot : Slot). slot.sort) s)) (same name)
+  same_name_sort (Some name) = ap (λ (s : Option Slot). sort_in (option_map (λ (slot : Slot). slot.sort) s)) (same name) ∙ same_sort_found (item_of name other)
 
   same_sort : (x : OperandDecl) → operand_sort one x ≡ operand_sort other x
   same_sort (o.Fixed place words) = refl
@@ -66,7 +76,7 @@ module _ (one other : List Variable) (same : (name : List ℕ) → item_of name 
 
   same_item : (x : ItemDecl) → item_faults one x ≡ item_faults other x
   same_item (item.Fixed place words) = refl
-  same_item (item.Named spelt) = ap (name_faults true spelt.place) (same spelt.name)
+  same_item (item.Named spelt) = same_named true spelt.place spelt.name
   same_item (item.Sum place leaves) = same_term false leaves
 
   same_wrong : (field : Option FieldDecl) (x : OperandDecl) → wrong_type one field x ≡ wrong_type other field x

@@ -1,7 +1,6 @@
 -- The faults of patterns and of their variables, as they are read.
 use Rattle.std.proofs.Common.{◌≡◌, ◌∙◌, ◌++◌, ◌+◌, ℕ, Bool, true, false, not, List, [], ◌∷◌, length, Bor, Option, None, Some, Ok, refl, sym, ap, append_assoc, arith}
 use Rattle.std.specs.Prelude.{MatchOption, fold}
-use Rattle.std.specs.List.{flat_map}
 use Rattle.std.specs.Option.{is_some, option_map}
 use Rattle.std.proofs.lemmas.List.{append-nil}
 use Rattle.script_tokens.specs.Listed.{kind_name, next_name}
@@ -19,18 +18,19 @@ use Rattle.script_grammar.specs.declared.tree.PatternDecl.{PatternDecl}
 use Rattle.script_grammar.specs.declared.tree.Spelt.{Spelt}
 use Rattle.join_base.specs.declared.message.Sort.{Sort}
 use Rattle.script_names.specs.declared.scope.Slot.{Slot}
-use Rattle.script_names.specs.Names.{bound, bound_all, item_of}
-use Rattle.script_names.specs.Scope.{Variable, field_sorts, message_of, sort_at, sorts_among, sorts_in, sorts_of, variable_at, variables_from, variables_in}
+use Rattle.script_names.specs.Names.{item_of}
+use Rattle.script_names.specs.Scope.{Variable, field_sorts, message_of, sort_at, sorts_among, sorts_in, sorts_of, types_bound, variable_at, variables_from, variables_in}
 use Rattle.script_faults.specs.declared.first.Fault.{Fault}
 use Rattle.script_faults.specs.declared.pattern.Binding.{Binding}
 use Rattle.script_faults.specs.Again.{again_faults}
 use Rattle.script_faults.specs.First.{fault_if, first_of}
-use Rattle.script_faults.specs.Noted.{Noted, at_most, numbered_faults}
+use Rattle.script_grammar.specs.Gives.{Noted}
+use Rattle.script_faults.specs.Numbered.{at_most, numbered_faults}
 use Rattle.script_faults.specs.Steps.{Bound, HasBound, declared_by, pattern_after, pattern_variables, variable_after}
 use Rattle.script_faults.specs.Faults.{count_faults, fields_among, fields_of, pattern_faults, patterns_faults, twice_declared}
-use Rattle.script_faults.proofs.BindingLemmas.{again-append, again_twice, bound_all-append, slot_place}
+use Rattle.script_faults.proofs.BindingLemmas.{again-append, again_twice, types_bound-append, slot_place}
 use Rattle.script_faults.proofs.FirstLemmas.{first_of-append, first_of-then}
-use Rattle.script_faults.proofs.WalkLemmas.{one_ok}
+use Rattle.script_grammar.proofs.WalkLemmas.{one_ok}
 use Rattle.script_faults.proofs.SameLemmas.{Same, numbered_same, same_cross, same_equal, same_joined, same_swap, same_then}
 
 -- ---- one variable
@@ -81,12 +81,12 @@ pub variable_noted : (s new : Binding) (place : ℕ) (other : Option (List ℕ))
     → MatchOption name (next_name tokens ≡ None) (λ n. next_name tokens ≡ Some n.now) → token variable_of tokens ≡ Ok ((place, other), rest)
     → sort ≡ sort_at (sorts_among s.fields) s.number
     → new.pattern ≡ s.pattern → new.fields ≡ s.fields → new.number ≡ s.number + 1
-    → new.variables ≡ bound_all s.variables (variable_at (slot_of s place sort) (option_map (λ (n : Bor (List ℕ)). n.now) name))
+    → new.variables ≡ types_bound s.variables (variable_at (slot_of s place sort) (option_map (λ (n : Bor (List ℕ)). n.now) name))
     → new.found ≡ first_of s.found (again_faults s.variables (variable_at (slot_of s place sort) (option_map (λ (n : Bor (List ℕ)). n.now) name))) → Noted (λ v. new ≡ variable_after s v) rest (token variable_of tokens)
 variable_noted s new place other name sort tokens rest named read is-sort pattern fields number are-variables is-found =
     let same : option_map (λ (n : Bor (List ℕ)). n.now) name ≡ other = seen_named name tokens named ∙ read_named tokens rest (place, other) read in
     let one : variable_at (slot_of s place sort) (option_map (λ (n : Bor (List ℕ)). n.now) name) ≡ declared_by s (place, other) = λ i. variable_at (slot_of s place (is-sort i)) (same i) in
-    let variables = are-variables ∙ ap (bound_all s.variables) one in
+    let variables = are-variables ∙ ap (types_bound s.variables) one in
     let found = is-found ∙ ap (λ (vs : List Variable). first_of s.found (again_faults s.variables vs)) one in
     record {
       phrase = (place, other);
@@ -99,15 +99,15 @@ variable_noted s new place other name sort tokens rest named read is-sort patter
 abbrev variables_behind : Binding → List (ℕ × Option (List ℕ)) → List Variable
 variables_behind s vs = variables_in s.pattern (sorts_among s.fields) s.number vs
 
-binding_bound : (s : Binding) (vs : List (ℕ × Option (List ℕ))) → (fold variable_after s vs).variables ≡ bound_all s.variables (variables_behind s vs)
+binding_bound : (s : Binding) (vs : List (ℕ × Option (List ℕ))) → (fold variable_after s vs).variables ≡ types_bound s.variables (variables_behind s vs)
 binding_bound s [] = refl
-binding_bound s (v ∷ vs) = binding_bound (variable_after s v) vs ∙ sym (bound_all-append s.variables (declared_by s v) (variables_behind (variable_after s v) vs))
+binding_bound s (v ∷ vs) = binding_bound (variable_after s v) vs ∙ sym (types_bound-append s.variables (declared_by s v) (variables_behind (variable_after s v) vs))
 
 binding_found : (s : Binding) (vs : List (ℕ × Option (List ℕ))) → (fold variable_after s vs).found ≡ first_of s.found (again_faults s.variables (variables_behind s vs))
 binding_found s [] = refl
 binding_found s (v ∷ vs) =
     binding_found (variable_after s v) vs
-    ∙ sym (first_of-append s.found (again_faults s.variables (declared_by s v)) (again_faults (bound_all s.variables (declared_by s v)) (variables_behind (variable_after s v) vs)))
+    ∙ sym (first_of-append s.found (again_faults s.variables (declared_by s v)) (again_faults (types_bound s.variables (declared_by s v)) (variables_behind (variable_after s v) vs)))
     ∙ ap (first_of s.found) (sym (again-append s.variables (declared_by s v) (variables_behind (variable_after s v) vs)))
 
 binding_pattern : (s : Binding) (vs : List (ℕ × Option (List ℕ))) → (fold variable_after s vs).pattern ≡ s.pattern
@@ -124,8 +124,8 @@ noted_variables s new rest read none noted =
     let vs = noted.phrase in
     let zero_more : 0 + length vs ≡ length vs = omega arith in
     let number : new.number ≡ length vs = ap (λ (b : Binding). b.number) noted.holds ∙ binding_number s vs ∙ ap (λ (n : ℕ). n + length vs) none ∙ zero_more in
-    let bound' : new.variables ≡ bound_all s.variables (variables_in s.pattern (sorts_among s.fields) 0 vs) =
-    ap (λ (b : Binding). b.variables) noted.holds ∙ binding_bound s vs ∙ ap (λ (n : ℕ). bound_all s.variables (variables_in s.pattern (sorts_among s.fields) n vs)) none in
+    let bound' : new.variables ≡ types_bound s.variables (variables_in s.pattern (sorts_among s.fields) 0 vs) =
+    ap (λ (b : Binding). b.variables) noted.holds ∙ binding_bound s vs ∙ ap (λ (n : ℕ). types_bound s.variables (variables_in s.pattern (sorts_among s.fields) n vs)) none in
     let found : new.found ≡ first_of s.found (again_faults s.variables (variables_in s.pattern (sorts_among s.fields) 0 vs)) =
     ap (λ (b : Binding). b.found) noted.holds ∙ binding_found s vs
     ∙ ap (λ (n : ℕ). first_of s.found (again_faults s.variables (variables_in s.pattern (sorts_among s.fields) n vs))) none in
@@ -160,7 +160,7 @@ pattern_noted s new start middle name open' close count tokens one two closing r
     let all : variables_in start.pattern (sorts_among start.fields) 0 vs ≡ own = λ i. variables_in (is-pattern i) (sorts i) 0 vs in
     let numbered : middle.pattern ≡ s.number = had.pattern ∙ is-pattern in
     let number : new.number ≡ s.number + 1 = is-number ∙ ap (λ (n : ℕ). n + 1) numbered in
-    let variables : new.variables ≡ bound_all s.variables own = all-variables ∙ had.bound ∙ (λ i. bound_all (are-variables i) (all i)) in
+    let variables : new.variables ≡ types_bound s.variables own = all-variables ∙ had.bound ∙ (λ i. types_bound (are-variables i) (all i)) in
     let again : middle.found ≡ first_of s.found (again_faults s.variables own) = had.found ∙ (λ i. first_of (is-start i) (again_faults (are-variables i) (all i))) in
     let a = again_faults s.variables own in
     let b = pattern_faults s.messages p in
@@ -185,7 +185,7 @@ module _ (messages : List MessageDecl) where
   patterned rows number [] = []
   patterned rows number (p ∷ ps) =
       let own = variables_in number (sorts_of messages p.kind.name) 0 p.variables in
-      (again_faults rows own ++ pattern_faults messages p ++ at_most 8 number (kind_place p)) ++ patterned (bound_all rows own) (number + 1) ps
+      (again_faults rows own ++ pattern_faults messages p ++ at_most 8 number (kind_place p)) ++ patterned (types_bound rows own) (number + 1) ps
 
   patterned_same : (rows : List Variable) (number : ℕ) (ps : List PatternDecl)
       → Same (patterned rows number ps) (again_faults rows (variables_from messages number ps) ++ numbered_faults 8 kind_place (pattern_faults messages) number ps)
@@ -196,10 +196,10 @@ module _ (messages : List MessageDecl) where
       let a = again_faults rows own in
       let b = pattern_faults messages p in
       let c = at_most 8 number (kind_place p) in
-      let d = again_faults (bound_all rows own) more in
+      let d = again_faults (types_bound rows own) more in
       let e = numbered_faults 8 kind_place (pattern_faults messages) (number + 1) ps in
       let right : Same ((b ++ c) ++ e) ((b ++ c) ++ e) = same_equal refl in
-      same_then (same_joined (same_equal (append_assoc a b c)) (patterned_same (bound_all rows own) (number + 1) ps))
+      same_then (same_joined (same_equal (append_assoc a b c)) (patterned_same (types_bound rows own) (number + 1) ps))
       (same_then (same_cross a (b ++ c) d e) (same_joined (same_equal (sym (again-append rows own more))) right))
 
 patterns_found : (s : Bound) (ps : List PatternDecl) → (fold pattern_after s ps).found ≡ first_of s.found (patterned s.messages s.variables s.number ps)
@@ -207,12 +207,12 @@ patterns_found s [] = refl
 patterns_found s (p ∷ ps) =
     patterns_found (pattern_after s p) ps
     ∙ sym (first_of-append s.found (again_faults s.variables (pattern_variables s p) ++ pattern_faults s.messages p ++ at_most 8 s.number p.kind.place)
-    (patterned s.messages (bound_all s.variables (pattern_variables s p)) (s.number + 1) ps))
+    (patterned s.messages (types_bound s.variables (pattern_variables s p)) (s.number + 1) ps))
 
-patterns_bound : (s : Bound) (ps : List PatternDecl) → (fold pattern_after s ps).variables ≡ bound_all s.variables (variables_from s.messages s.number ps)
+patterns_bound : (s : Bound) (ps : List PatternDecl) → (fold pattern_after s ps).variables ≡ types_bound s.variables (variables_from s.messages s.number ps)
 patterns_bound s [] = refl
 patterns_bound s (p ∷ ps) =
-    patterns_bound (pattern_after s p) ps ∙ sym (bound_all-append s.variables (pattern_variables s p) (variables_from s.messages (s.number + 1) ps))
+    patterns_bound (pattern_after s p) ps ∙ sym (types_bound-append s.variables (pattern_variables s p) (variables_from s.messages (s.number + 1) ps))
 
 patterns_number : (s : Bound) (ps : List PatternDecl) → (fold pattern_after s ps).number ≡ s.number + length ps
 patterns_number s [] = omega arith
@@ -220,7 +220,7 @@ patterns_number s (p ∷ ps) = let others = patterns_number (pattern_after s p) 
 
 pub noted_patterns : (start last : Bound) (rest : List Token) (read : Outcome Token (List PatternDecl)) → start.number ≡ 0 → start.variables ≡ []
     → Noted (λ ps. last ≡ fold pattern_after start ps) rest read
-    → Noted (λ ps. (last.number ≡ length ps) × (last.variables ≡ bound_all [] (variables_from start.messages 0 ps))
+    → Noted (λ ps. (last.number ≡ length ps) × (last.variables ≡ types_bound [] (variables_from start.messages 0 ps))
     × (last.found ≡ first_of start.found (patterns_faults start.messages ps ++ twice_declared slot_place (variables_from start.messages 0 ps)))) rest read
 noted_patterns start last rest read none empty noted =
     let ps = noted.phrase in
@@ -235,7 +235,7 @@ noted_patterns start last rest read none empty noted =
       reads = noted.reads;
       holds = (
         ap (λ (t : Bound). t.number) noted.holds ∙ patterns_number start ps ∙ number,
-        ap (λ (t : Bound). t.variables) noted.holds ∙ patterns_bound start ps ∙ (λ i. bound_all (empty i) (variables_from messages (none i) ps)),
+        ap (λ (t : Bound). t.variables) noted.holds ∙ patterns_bound start ps ∙ (λ i. types_bound (empty i) (variables_from messages (none i) ps)),
         ap (λ (t : Bound). t.found) noted.holds ∙ patterns_found start ps ∙ (λ i. first_of start.found (patterned messages (empty i) (none i) ps)) ∙ same.is start.found,
       );
     }

@@ -2,7 +2,7 @@
 use Rattle.std.proofs.Common.{◌≡◌, ◌∙◌, ◌++◌, ◌+◌, ℕ, Bool, List, [], ◌∷◌, length, Bor, Option, None, Some, Ok, refl, sym, ap, append_assoc, arith}
 use Rattle.std.specs.Prelude.{fold, slice_get}
 use Rattle.std.specs.List.{flat_map}
-use Rattle.std.specs.Option.{is_none, option_map}
+use Rattle.std.specs.Option.{is_none}
 use Rattle.script_tokens.specs.declared.token.Token.{Token}
 use Rattle.script_tokens.specs.declared.token.Mark.TheVariants as m
 use Rattle.script_grammar.specs.Operands.{operand_place}
@@ -21,10 +21,10 @@ use Rattle.script_faults.specs.declared.first.Fault.{Fault}
 use Rattle.script_faults.specs.declared.post.Posted.{Posted}
 use Rattle.script_faults.specs.declared.statement.Said.{Said}
 use Rattle.script_faults.specs.First.{fault_if, first_of}
-use Rattle.script_faults.specs.Noted.{Noted}
+use Rattle.script_grammar.specs.Gives.{Noted}
 use Rattle.script_faults.specs.Statements.{said_of, type_fault}
 use Rattle.script_faults.specs.Steps.{value_after}
-use Rattle.script_faults.specs.Faults.{count_faults, fields_among, fields_of, fields_or_none, operand_faults, statement_faults, type_faults, wrong_type}
+use Rattle.script_faults.specs.Faults.{count_faults, fields_of, fields_or_none, operand_faults, statement_faults, type_faults, wrong_type}
 use Rattle.script_faults.proofs.FirstLemmas.{first_of-append, first_of-then}
 use Rattle.script_faults.proofs.SameLemmas.{Same, same_cross, same_equal, same_joined, same_swap, same_then}
 

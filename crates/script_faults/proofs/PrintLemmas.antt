@@ -10,7 +10,6 @@ use Rattle.script_grammar.specs.Reading.{Outcome, head, repeated, token}
 use Rattle.script_grammar.specs.ScriptReading.{begins_item, is_name, is_words, item_read, mark_read, name_read, next_is, print_read, term_read}
 use Rattle.script_grammar.specs.declared.tree.ItemDecl.{ItemDecl}
 use Rattle.script_grammar.specs.declared.tree.ItemDecl.TheVariants as item_is
-use Rattle.script_grammar.specs.declared.tree.LeafDecl.{LeafDecl}
 use Rattle.script_grammar.specs.declared.tree.MessageDecl.{MessageDecl}
 use Rattle.script_grammar.specs.declared.tree.Spelt.{Spelt}
 use Rattle.script_grammar.specs.declared.tree.StatementDecl.TheVariants as statement_is
@@ -21,7 +20,8 @@ use Rattle.script_faults.specs.declared.first.Fault.{Fault}
 use Rattle.script_faults.specs.declared.print.Printed.{Printed}
 use Rattle.script_faults.specs.declared.statement.Said.{Said}
 use Rattle.script_faults.specs.First.{first_of}
-use Rattle.script_faults.specs.Noted.{Noted, at_most, numbered_faults}
+use Rattle.script_grammar.specs.Gives.{Noted}
+use Rattle.script_faults.specs.Numbered.{at_most, numbered_faults}
 use Rattle.script_faults.specs.Statements.{items_read, said_of}
 use Rattle.script_faults.specs.Steps.{item_after}
 use Rattle.script_faults.specs.Faults.{item_faults, name_faults, print_faults, statement_faults, term_faults}

@@ -1,26 +1,23 @@
 -- The faults of definitions and of actors, from those of their parts as they are read.
-use Rattle.std.proofs.Common.{◌≡◌, ◌∙◌, ◌++◌, ◌+◌, ℕ, ℤ, List, [], ◌∷◌, length, Bor, Option, Ok, refl, sym, ap, append_assoc}
+use Rattle.std.proofs.Common.{◌≡◌, ◌∙◌, ◌++◌, ◌+◌, ℕ, ℤ, List, [], ◌∷◌, length, map, Option, Ok, refl, sym, ap, append_assoc}
 use Rattle.std.specs.Prelude.{fold}
-use Rattle.std.specs.List.{flat_map}
+use Rattle.std.specs.Option.{option_map}
 use Rattle.script_tokens.specs.Marks.{kind_is}
 use Rattle.script_tokens.specs.declared.token.Token.{Token}
 use Rattle.script_tokens.specs.declared.token.Mark.TheVariants as m
-use Rattle.script_grammar.specs.Atoms.{Atoms}
 use Rattle.script_grammar.specs.Reading.{Outcome, repeated}
-use Rattle.script_grammar.specs.ScriptReading.{actor_read, begins_statement, definition_read, guard_read, is_mark, mark_read, name_read, next_is, pattern_read, separated_read, statement_read, window_read}
-use Rattle.script_grammar.specs.declared.tree.ActorDecl.{ActorDecl}
+use Rattle.script_grammar.specs.ScriptReading.{actor_read, begins_statement, definition_read, guard_read, mark_read, name_read, next_is, pattern_read, separated_read, statement_read, window_read}
 use Rattle.script_grammar.specs.declared.tree.MessageDecl.{MessageDecl}
-use Rattle.script_grammar.specs.declared.tree.PatternDecl.{PatternDecl}
 use Rattle.script_grammar.specs.declared.tree.RuleDecl.{RuleDecl}
 use Rattle.script_grammar.specs.declared.tree.Spelt.{Spelt}
-use Rattle.script_grammar.specs.declared.tree.StatementDecl.{StatementDecl}
-use Rattle.script_names.specs.Names.{bound_all, item_of}
-use Rattle.script_names.specs.Scope.{Variable, variables_from}
-use Rattle.script_names.proofs.RowLemmas.{bound_all_item}
+use Rattle.script_names.specs.Names.{item_of}
+use Rattle.script_names.specs.Scope.{Variable, type_alone, typed, types_bound, variables_from}
+use Rattle.script_names.proofs.RowLemmas.{bound_all_item, item_of-map}
 use Rattle.script_faults.specs.declared.first.Fault.{Fault}
 use Rattle.script_faults.specs.declared.rule.Rules.{Rules}
-use Rattle.script_faults.specs.First.{first_of, too_many}
-use Rattle.script_faults.specs.Noted.{Noted, at_most, numbered_faults}
+use Rattle.script_faults.specs.First.{first_of}
+use Rattle.script_grammar.specs.Gives.{Noted}
+use Rattle.script_faults.specs.Numbered.{at_most, numbered_faults}
 use Rattle.script_faults.specs.Steps.{rule_after}
 use Rattle.script_faults.specs.Faults.{actor_faults, body_faults, guard_comparisons, guard_faults, patterns_faults, reply_faults, rule_faults, twice_declared, window_faults}
 use Rattle.script_faults.proofs.BindingLemmas.{slot_place}
@@ -43,7 +40,7 @@ in_order p w g b r =
 module _ (messages : List MessageDecl) (actors : List (List ℕ × ℕ)) where
   pub noted_rule : (place open' close count : ℕ) (window : Option (ℕ × ℤ)) (variables : List Variable) (tokens one two three four five six rest : List Token) (f0 f1 f2 f3 f4 : Option Fault)
       → mark_read m.When tokens ≡ Ok (place, one)
-      → Noted (λ ps. (count ≡ length ps) × (variables ≡ bound_all [] (variables_from messages 0 ps))
+      → Noted (λ ps. (count ≡ length ps) × (variables ≡ types_bound [] (variables_from messages 0 ps))
       × (f1 ≡ first_of f0 (patterns_faults messages ps ++ twice_declared slot_place (variables_from messages 0 ps)))) two (separated_read m.With pattern_read one)
       → window_read two ≡ Ok (window, three) → f2 ≡ first_of f1 (window_faults window)
       → Noted (λ guard. f3 ≡ first_of f2 (guard_faults variables (guard_comparisons guard))) four (guard_read three)
@@ -57,7 +54,8 @@ module _ (messages : List MessageDecl) (actors : List (List ℕ × ℕ)) where
       let body = embodied.phrase in
       let cs = guard_comparisons guarded.phrase in
       let all = variables_from messages 0 ps in
-      let means : (name : List ℕ) → item_of name variables ≡ item_of name all = λ name. ap (item_of name) patterned.holds.1 ∙ bound_all_item name [] all in
+      let means : (name : List ℕ) → item_of name variables ≡ option_map type_alone (item_of name all) =
+      λ name. ap (item_of name) patterned.holds.1 ∙ bound_all_item name [] (map typed all) ∙ item_of-map type_alone name all in
       let p = patterns_faults messages ps ++ twice_declared slot_place all in
       let w = window_faults window in
       let g = guard_faults all cs in

@@ -1,13 +1,13 @@
 -- Lists of faults of which the same is reported, whatever was found before.
 use Rattle.std.proofs.Common.{◌≡◌, ◌∙◌, ◌++◌, ◌+◌, ◌<◌, ℕ, zero, suc, Bool, true, false, List, [], ◌∷◌, Option, refl, sym, ap, append_assoc, arith}
-use Rattle.std.specs.Prelude.{◌==◌, nat_lt}
+use Rattle.std.specs.Prelude.{◌==◌}
 use Rattle.std.specs.List.{flat_map}
 use Rattle.std.proofs.lemmas.Bool.Decides.{nat_tests}
 use Rattle.std.proofs.lemmas.List.{append-nil}
 use Rattle.script_grammar.specs.declared.fault.ScriptCause.TheVariants.{TooMany}
 use Rattle.script_faults.specs.declared.first.Fault.{Fault}
 use Rattle.script_faults.specs.First.{fault, fault_if, first_of, too_many}
-use Rattle.script_faults.specs.Noted.{at_most, numbered_faults}
+use Rattle.script_faults.specs.Numbered.{at_most, numbered_faults}
 use Rattle.script_faults.proofs.FirstLemmas.{first_of-append}
 use Rattle.script_faults.proofs.OrderLemmas.{first_of-swap}
 

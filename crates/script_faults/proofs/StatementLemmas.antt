@@ -14,7 +14,7 @@ use Rattle.script_names.specs.Scope.{Variable, operand_sort}
 use Rattle.script_faults.specs.declared.first.Fault.{Fault}
 use Rattle.script_faults.specs.declared.statement.Said.{Said}
 use Rattle.script_faults.specs.First.{first_of}
-use Rattle.script_faults.specs.Noted.{Noted}
+use Rattle.script_grammar.specs.Gives.{Noted}
 use Rattle.script_faults.specs.Statements.{said_of}
 use Rattle.script_faults.specs.Faults.{operand_faults, statement_faults}
 

@@ -19,12 +19,13 @@ use Rattle.script_names.specs.Scope.{Variable, name_in, name_sort, only_name, op
 use Rattle.script_faults.specs.declared.first.Fault.{Fault}
 use Rattle.script_faults.specs.declared.term.Leaves.{Leaves}
 use Rattle.script_faults.specs.First.{first_of, too_many}
-use Rattle.script_faults.specs.Noted.{Noted, at_most, numbered_faults}
+use Rattle.script_grammar.specs.Gives.{Noted}
+use Rattle.script_faults.specs.Numbered.{at_most, numbered_faults}
 use Rattle.script_faults.specs.Steps.{leaf_after}
 use Rattle.script_faults.specs.Faults.{leaf_faults, operand_faults, term_faults}
 use Rattle.script_faults.proofs.FirstLemmas.{first_of-append}
 use Rattle.script_faults.proofs.SameLemmas.{Same, numbered_same, same_equal, same_joined, same_then}
-use Rattle.script_faults.proofs.WalkLemmas.{one_ok}
+use Rattle.script_grammar.proofs.WalkLemmas.{one_ok}
 
 -- ---- lists of which none begins, or some
 

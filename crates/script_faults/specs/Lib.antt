@@ -2,8 +2,8 @@
 pub mod Faults
 pub mod First
 pub mod Finding
--- what is noted of phrases while they are read
-pub mod Noted
+-- the faults of lists with a most
+pub mod Numbered
 -- what private functions compute
 pub mod Again
 pub mod Open

@@ -9,8 +9,7 @@ use Rattle.script_grammar.specs.declared.tree.PatternDecl.{PatternDecl}
 use Rattle.script_grammar.specs.declared.tree.RuleDecl.{RuleDecl}
 use Rattle.script_grammar.specs.declared.tree.StatementDecl.{StatementDecl}
 use Rattle.script_grammar.specs.declared.operand.OperandDecl.{OperandDecl}
-use Rattle.script_names.specs.Names.{bound_all}
-use Rattle.script_names.specs.Scope.{Variable, sort_at, sorts_among, sorts_of, variable_at, variables_in}
+use Rattle.script_names.specs.Scope.{Variable, sort_at, sorts_among, sorts_of, types_bound, variable_at, variables_in}
 use Rattle.script_faults.specs.declared.body.Body.{Body}
 use Rattle.script_faults.specs.declared.first.Fault.{Fault}
 use Rattle.script_faults.specs.declared.guard.Compared.{Compared}
@@ -22,7 +21,7 @@ use Rattle.script_faults.specs.declared.rule.Rules.{Rules}
 use Rattle.script_faults.specs.declared.term.Leaves.{Leaves}
 use Rattle.script_faults.specs.Again.{again_faults}
 use Rattle.script_faults.specs.First.{first_of}
-use Rattle.script_faults.specs.Noted.{at_most}
+use Rattle.script_faults.specs.Numbered.{at_most}
 use Rattle.script_faults.specs.Open.{open_after, open_fault}
 use Rattle.script_faults.specs.Statements.{said_of, stop_before}
 use Rattle.script_faults.specs.Faults.{Comparing, atom_comparisons, comparison_faults, comparisons, item_faults, leaf_faults, operand_faults, pattern_faults, rule_faults, statement_faults, statement_place, wrong_type}
@@ -87,17 +86,17 @@ variable_after s v = record {
   pattern = s.pattern;
   fields = s.fields;
   number = s.number + 1;
-  variables = bound_all s.variables (declared_by s v);
+  variables = types_bound s.variables (declared_by s v);
   found = first_of s.found (again_faults s.variables (declared_by s v));
 }
 
 -- all variables of a pattern were bound, one after the other
 pub record HasBound (before after : Binding) (variables : List (ℕ × Option (List ℕ))) : Type 0 where
   pub pattern : after.pattern ≡ before.pattern
-  pub bound : after.variables ≡ bound_all before.variables (variables_in before.pattern (sorts_among before.fields) 0 variables)
+  pub bound : after.variables ≡ types_bound before.variables (variables_in before.pattern (sorts_among before.fields) 0 variables)
   pub found : after.found ≡ first_of before.found (again_faults before.variables (variables_in before.pattern (sorts_among before.fields) 0 variables))
 
--- what is known behind so many patterns: the variables that they bind, and the first fault
+-- what is known behind so many patterns: the types of the variables that they bind, and the first fault
 pub record Bound : Type 0 where
   pub messages : List MessageDecl
   pub number : ℕ
@@ -115,7 +114,7 @@ abbrev pub pattern_after : Bound → PatternDecl → Bound
 pattern_after s p = record {
   messages = s.messages;
   number = s.number + 1;
-  variables = bound_all s.variables (pattern_variables s p);
+  variables = types_bound s.variables (pattern_variables s p);
   found = first_of s.found (again_faults s.variables (pattern_variables s p) ++ pattern_faults s.messages p ++ at_most 8 s.number p.kind.place);
 }
 

@@ -5,7 +5,7 @@ ghost use Rattle.script_grammar.specs.ScriptReading.{begins_statement, next_is, 
 ghost use Rattle.script_grammar.specs.declared.tree.StatementDecl.{StatementDecl};
 ghost use Rattle.script_faults.specs.declared.body.Body.{Body};
 ghost use Rattle.script_faults.specs.First.{first_of};
-ghost use Rattle.script_faults.specs.Noted.{Notes};
+ghost use Rattle.script_grammar.specs.Gives.{Notes};
 ghost use Rattle.script_faults.specs.Steps.{statement_after};
 ghost use Rattle.script_faults.specs.Statements.{stop_before};
 ghost use Rattle.script_faults.specs.Faults.{body_faults, reply_faults};

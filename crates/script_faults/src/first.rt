@@ -1,7 +1,7 @@
 //! The fault that is reported.
 ghost use Rattle.std.specs.Prelude.{◌≡◌, ◌==◌, ◌+◌, IfOk, OnOk};
 ghost use Rattle.script_faults.specs.First.{earlier, fault_if, first_of, is_before, rank, too_many};
-ghost use Rattle.script_faults.specs.Noted.{at_most};
+ghost use Rattle.script_faults.specs.Numbered.{at_most};
 
 use crate::placed::Placed;
 use join_base::NoMemory;

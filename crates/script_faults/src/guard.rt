@@ -5,7 +5,7 @@ ghost use Rattle.script_grammar.specs.Atoms.{Atoms};
 ghost use Rattle.script_grammar.specs.ScriptReading.{after_mark, atom_read, compare_read, conjunct_read, further, group_read, guard_read, not_read, separated_read};
 ghost use Rattle.script_faults.specs.declared.guard.Compared.{Compared};
 ghost use Rattle.script_faults.specs.First.{fault_if, first_of};
-ghost use Rattle.script_faults.specs.Noted.{Notes};
+ghost use Rattle.script_grammar.specs.Gives.{Notes};
 ghost use Rattle.script_faults.specs.Steps.{atom_after, conjunct_after};
 ghost use Rattle.script_faults.specs.Faults.{guard_comparisons, guard_faults, is_order, is_same, is_words};
 ghost use Rattle.script_grammar.specs.declared.fault.ScriptCause.TheVariants.{WrongType};

@@ -3,7 +3,7 @@ ghost use Rattle.std.specs.Prelude.{◌≡◌, ◌<◌, ◌≤◌, Bool, fold, l
 ghost use Rattle.script_tokens.specs.declared.token.Kind.{Kind};
 ghost use Rattle.script_grammar.specs.Reading.{head, repeated};
 ghost use Rattle.script_grammar.specs.ScriptReading.{Reads, next_is, after_mark, further, separated_read, listed_read};
-ghost use Rattle.script_faults.specs.Noted.{Notes};
+ghost use Rattle.script_grammar.specs.Gives.{Notes};
 
 use script_grammar::{Stop, is_next, mark_at};
 use script_tokens::{Mark, Tokens};

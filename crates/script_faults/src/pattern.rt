@@ -6,11 +6,11 @@ ghost use Rattle.script_grammar.specs.Grammar.{variable_of};
 ghost use Rattle.script_grammar.specs.Reading.{token};
 ghost use Rattle.script_grammar.specs.ScriptReading.{listed_read, pattern_read, separated_read};
 ghost use Rattle.script_grammar.specs.declared.tree.PatternDecl.{PatternDecl};
-ghost use Rattle.script_names.specs.Names.{bound, bound_all};
-ghost use Rattle.script_names.specs.Scope.{variable_at, variables_from};
+ghost use Rattle.script_names.specs.Scope.{types_bound, variable_at, variables_from};
 ghost use Rattle.script_faults.specs.declared.pattern.Binding.{Binding};
 ghost use Rattle.script_faults.specs.First.{first_of};
-ghost use Rattle.script_faults.specs.Noted.{Notes, at_most};
+ghost use Rattle.script_grammar.specs.Gives.{Notes};
+ghost use Rattle.script_faults.specs.Numbered.{at_most};
 ghost use Rattle.script_faults.specs.Again.{again_faults};
 ghost use Rattle.script_faults.specs.Steps.{Bound, HasBound, bound_so_far, pattern_after, variable_after};
 ghost use Rattle.script_faults.specs.Faults.{count_faults, fields_among, patterns_faults, twice_declared};
@@ -24,17 +24,17 @@ use script_names::{Messages, Slot, Variables, sort_of_field};
 use script_tokens::{Mark, Tokens};
 use std::alloc::Global;
 
-// Binds a name, and notes one that was bound before.
-fn note_bound<'a>(
+/// Binds a name, and notes one that was bound before.
+pub(crate) fn note_bound<'a>(
     found: &mut Option<Fault>,
     variables: &mut Variables<'a>,
     name: &'a [u8],
     slot: Slot,
 ) -> Result<(), NoMemory>
     ensures found { OnOk result (found.new ≡ first_of found.old (again_faults variables.old ((name.now, slot) ∷ []))) }
-    ensures bound { OnOk result (variables.new ≡ bound variables.old (name.now, slot)) }
+    ensures bound { OnOk result (variables.new ≡ types_bound variables.old ((name.now, slot) ∷ [])) }
 {
-    let is_new = variables.bind(name, slot)?;
+    let is_new = variables.bind(name, slot.sort)?;
     note_if(found, !is_new, ScriptCause::TwiceDeclared, slot.place);
     Ok(())
 }
@@ -48,7 +48,7 @@ fn note_variable<'a>(
 ) -> Result<(), NoMemory>
     ensures found { OnOk result (found.new ≡ first_of found.old (again_faults variables.old
         (variable_at slot (option_map (λ n. n.now) name.entry)))) }
-    ensures bound { OnOk result (variables.new ≡ bound_all variables.old
+    ensures bound { OnOk result (variables.new ≡ types_bound variables.old
         (variable_at slot (option_map (λ n. n.now) name.entry))) }
 {
     match name {
@@ -165,7 +165,7 @@ pub(crate) fn note_patterns<'a>(
     tokens: &mut Tokens<'a>,
 ) -> Result<(usize, Variables<'a>), Stop>
     ensures gives { Notes (λ patterns p. (p.0 ≡ length patterns)
-        × (p.1 ≡ bound_all [] (variables_from messages.now.decls.now 0 patterns))
+        × (p.1 ≡ types_bound [] (variables_from messages.now.decls.now 0 patterns))
         × (found.new ≡ first_of found.old (patterns_faults messages.now.decls.now patterns
         ++ twice_declared (λ slot. slot.place) (variables_from messages.now.decls.now 0 patterns))))
         result tokens.new (separated_read m.With pattern_read tokens.old) }

@@ -8,7 +8,7 @@ ghost use Rattle.script_grammar.specs.declared.operand.OperandDecl.{OperandDecl}
 ghost use Rattle.script_names.specs.Names.{names_of, number_of};
 ghost use Rattle.script_faults.specs.declared.post.Posted.{Posted};
 ghost use Rattle.script_faults.specs.First.{first_of};
-ghost use Rattle.script_faults.specs.Noted.{Notes};
+ghost use Rattle.script_grammar.specs.Gives.{Notes};
 ghost use Rattle.script_faults.specs.Steps.{value_after};
 ghost use Rattle.script_faults.specs.Statements.{said_of, type_fault};
 ghost use Rattle.script_faults.specs.Faults.{count_faults, field_among, fields_among, fields_of, fields_or_none, operand_faults, statement_faults, type_faults};

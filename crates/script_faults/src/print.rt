@@ -5,7 +5,7 @@ ghost use Rattle.script_grammar.specs.ScriptReading.{begins_item, item_read, pri
 ghost use Rattle.script_grammar.specs.declared.tree.ItemDecl.{ItemDecl};
 ghost use Rattle.script_faults.specs.declared.print.Printed.{Printed};
 ghost use Rattle.script_faults.specs.First.{first_of};
-ghost use Rattle.script_faults.specs.Noted.{Notes};
+ghost use Rattle.script_grammar.specs.Gives.{Notes};
 ghost use Rattle.script_faults.specs.Steps.{item_after};
 ghost use Rattle.script_faults.specs.Statements.{items_read, said_of};
 ghost use Rattle.script_faults.specs.Faults.{item_faults, print_faults, statement_faults};

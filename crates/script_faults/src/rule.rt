@@ -6,7 +6,7 @@ ghost use Rattle.script_grammar.specs.ScriptReading.{actor_read, definition_read
 ghost use Rattle.script_grammar.specs.declared.tree.RuleDecl.{RuleDecl};
 ghost use Rattle.script_faults.specs.declared.rule.Rules.{Rules};
 ghost use Rattle.script_faults.specs.First.{first_of};
-ghost use Rattle.script_faults.specs.Noted.{Notes};
+ghost use Rattle.script_grammar.specs.Gives.{Notes};
 ghost use Rattle.script_faults.specs.Steps.{rule_after};
 ghost use Rattle.script_faults.specs.Faults.{actor_faults, rule_faults, window_faults};
 

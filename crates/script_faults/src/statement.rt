@@ -2,7 +2,7 @@
 ghost use Rattle.std.specs.Prelude.{◌≡◌, ◌<◌, None, length, IfOk};
 ghost use Rattle.script_grammar.specs.ScriptReading.{reply_read, statement_read, stop_read};
 ghost use Rattle.script_faults.specs.First.{first_of};
-ghost use Rattle.script_faults.specs.Noted.{Notes};
+ghost use Rattle.script_grammar.specs.Gives.{Notes};
 ghost use Rattle.script_faults.specs.Statements.{said_of};
 ghost use Rattle.script_faults.specs.Faults.{statement_faults};
 

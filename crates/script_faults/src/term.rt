@@ -8,7 +8,8 @@ ghost use Rattle.script_names.specs.Names.{item_of};
 ghost use Rattle.script_names.specs.Scope.{name_in, name_sort, only_name, operand_sort, sort_of};
 ghost use Rattle.script_faults.specs.declared.term.Leaves.{Leaves};
 ghost use Rattle.script_faults.specs.First.{first_of};
-ghost use Rattle.script_faults.specs.Noted.{Notes, numbered_faults};
+ghost use Rattle.script_grammar.specs.Gives.{Notes};
+ghost use Rattle.script_faults.specs.Numbered.{numbered_faults};
 ghost use Rattle.script_faults.specs.Steps.{leaf_after};
 ghost use Rattle.script_faults.specs.Faults.{is_same, is_words, leaf_faults, name_faults, operand_faults, term_faults};
 
@@ -52,10 +53,10 @@ pub(crate) fn note_name(
 )
     ensures { found.new ≡ first_of found.old (name_faults alone place (item_of name.now variables.now)) }
 {
-    match variables.item_of(name.bytes()) {
+    match variables.sort_of(name.bytes()) {
         None => note(found, ScriptCause::UnknownName, place),
-        Some(slot) => {
-            let is_fault = !alone && is_words(slot.sort);
+        Some(sort) => {
+            let is_fault = !alone && is_words(sort);
             note_if(found, is_fault, ScriptCause::WrongType, place);
         }
     }
@@ -75,9 +76,9 @@ fn note_leaf(found: &mut Option<Fault>, variables: &Variables<'_>, leaf: &LeafDe
 fn sort_of(variables: &Variables<'_>, name: &ScriptName) -> Sort
     ensures { result ≡ sort_of variables.now name.now }
 {
-    match variables.item_of(name.bytes()) {
+    match variables.sort_of(name.bytes()) {
         None => Sort::Int,
-        Some(slot) => slot.sort,
+        Some(sort) => sort,
     }
 }
 

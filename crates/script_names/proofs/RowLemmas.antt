@@ -82,15 +82,6 @@ module _ {T : Type 0} where
       ∙ sym (item_of-append name (rows ++ row ∷ []) more)
       ∙ ap (item_of name) (append_assoc rows (row ∷ []) more)
 
-  -- ---- rows as a map holds them
-
-  pub item_of-entries : (name : List ℕ) (entries : List (Bor (List ℕ) × T))
-      → lookup (λ (key : Bor (List ℕ)). bytes_eq name key.now) entries ≡ item_of name (map (λ (e : Bor (List ℕ) × T). (e.0.now, e.1)) entries)
-  item_of-entries name [] = refl
-  item_of-entries name (e ∷ entries) =
-      ap (cond (bytes_eq name e.0.now) (Some e.1)) (item_of-entries name entries)
-      ∙ sym (item_of-cons name (e.0.now, e.1) (map (λ (e : Bor (List ℕ) × T). (e.0.now, e.1)) entries))
-
   -- ---- one row more
 
   pub not_bound : (rows : List (Row T)) (row : Row T) → is_some (item_of row.0 rows) ≡ true → rows ≡ bound rows row
@@ -98,3 +89,35 @@ module _ {T : Type 0} where
 
   pub is_bound : (rows : List (Row T)) (row : Row T) → is_some (item_of row.0 rows) ≡ false → rows ++ row ∷ [] ≡ bound rows row
   is_bound rows row absent = ap (λ (b : Bool). cond b rows (rows ++ row ∷ [])) (sym absent)
+
+-- ---- rows of which each item is seen as another
+
+module _ {S T : Type 0} (f : S → T) where
+  one_seen : (b : Bool) (x : S) (o : Option S) → option_map f (cond b (Some x) o) ≡ cond b (Some (f x)) (option_map f o)
+  one_seen true x o = refl
+  one_seen false x o = refl
+
+  pub item_of-map : (name : List ℕ) (rows : List (Row S)) → item_of name (map (λ (row : Row S). (row.0, f row.1)) rows) ≡ option_map f (item_of name rows)
+  item_of-map name [] = refl
+  item_of-map name (row ∷ rows) =
+      item_of-cons name (row.0, f row.1) (map (λ (row : Row S). (row.0, f row.1)) rows)
+      ∙ ap (cond (bytes_eq name row.0) (Some (f row.1))) (item_of-map name rows)
+      ∙ sym (one_seen (bytes_eq name row.0) row.1 (item_of name rows))
+      ∙ ap (option_map f) (sym (item_of-cons name row rows))
+
+  -- the same of rows as a map holds them
+  pub item_of-entries : (name : List ℕ) (entries : List (Bor (List ℕ) × S))
+      → option_map f (lookup (λ (key : Bor (List ℕ)). bytes_eq name key.now) entries) ≡ item_of name (map (λ (e : Bor (List ℕ) × S). (e.0.now, f e.1)) entries)
+  item_of-entries name [] = refl
+  item_of-entries name (e ∷ entries) =
+      one_seen (bytes_eq name e.0.now) e.1 (lookup (λ (key : Bor (List ℕ)). bytes_eq name key.now) entries)
+      ∙ ap (cond (bytes_eq name e.0.now) (Some (f e.1))) (item_of-entries name entries)
+      ∙ sym (item_of-cons name (e.0.now, f e.1) (map (λ (e : Bor (List ℕ) × S). (e.0.now, f e.1)) entries))
+
+  some_seen : (o : Option S) → is_some o ≡ is_some (option_map f o)
+  some_seen None = refl
+  some_seen (Some x) = refl
+
+  pub has_item : (name : List ℕ) (entries : List (Bor (List ℕ) × S))
+      → is_some (lookup (λ (key : Bor (List ℕ)). bytes_eq name key.now) entries) ≡ is_some (item_of name (map (λ (e : Bor (List ℕ) × S). (e.0.now, f e.1)) entries))
+  has_item name entries = some_seen (lookup (λ (key : Bor (List ℕ)). bytes_eq name key.now) entries) ∙ ap is_some (item_of-entries name entries)

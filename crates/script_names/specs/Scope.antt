@@ -17,7 +17,7 @@ use Rattle.script_grammar.specs.declared.tree.LeafDecl.{LeafDecl}
 use Rattle.script_grammar.specs.declared.operand.OperandDecl.{OperandDecl}
 use Rattle.script_grammar.specs.Operands as operand
 use Rattle.script_grammar.specs.declared.tree.RuleDecl.{RuleDecl}
-use Rattle.script_names.specs.Names.{item_of, names_of, number_of}
+use Rattle.script_names.specs.Names.{bound_all, item_of, names_of, number_of}
 
 -- names with their places in the text
 abbrev pub message_rows : List MessageDecl → List (List ℕ × ℕ)
@@ -89,6 +89,20 @@ variables_from messages pattern (p ∷ ps) = variables_in pattern (sorts_of mess
 -- the variables of a definition, in order
 abbrev pub variables_of : List MessageDecl → RuleDecl → List Variable
 variables_of messages rule = variables_from messages 0 rule.patterns
+
+-- what stands for a variable of which the type alone is known
+abbrev pub sort_slot : Sort → Slot
+sort_slot s = record { place = 0; pattern = 0; field = 0; sort = s }
+
+abbrev pub type_alone : Slot → Slot
+type_alone slot = sort_slot slot.sort
+
+abbrev pub typed : Variable → Variable
+typed variable = (variable.0, type_alone variable.1)
+
+-- the rows with the types of these variables, of each name the first
+abbrev pub types_bound : List Variable → List Variable → List Variable
+types_bound rows variables = bound_all rows (map typed variables)
 
 -- the type of the variable of a name; a name that no variable has counts as an integer
 abbrev pub sort_of : List Variable → List ℕ → Sort

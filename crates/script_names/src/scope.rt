@@ -1,7 +1,7 @@
 //! What the names of a script mean: its messages, its actors, and the variables of a definition.
 ghost use Rattle.std.specs.Prelude.{◌≡◌, ◌++◌, IfOk, OnOk, map};
 ghost use Rattle.std.specs.Option.{option_map};
-ghost use Rattle.script_names.specs.Scope.{field_rows, message_of, message_rows, sort_at, sorts_among, sorts_of, spelt_rows, variable_at, variables_from, variables_in, variables_of};
+ghost use Rattle.script_names.specs.Scope.{message_of, message_rows, sort_at, sorts_among, sorts_of, spelt_rows, variable_at, variables_from, variables_in, variables_of};
 
 use crate::table::NameTable;
 use join_base::{NoMemory, Sort};
@@ -64,20 +64,6 @@ pub fn actor_names<'a>(alloc: Global, actors: &'a [Spelt]) -> Result<NameTable<'
     let mut names = NameTable::new(alloc);
     for actor in actors {
         names.push(actor.name.bytes(), actor.place)?;
-    }
-    Ok(names)
-}
-
-/// The names of a message's fields, each with its place in the text.
-pub fn field_names<'a>(
-    alloc: Global,
-    fields: &'a [FieldDecl],
-) -> Result<NameTable<'a, u64>, NoMemory>
-    ensures { IfOk result (λ names. names ≡ field_rows fields.now) }
-{
-    let mut names = NameTable::new(alloc);
-    for field in fields {
-        names.push(field.name.name.bytes(), field.name.place)?;
     }
     Ok(names)
 }

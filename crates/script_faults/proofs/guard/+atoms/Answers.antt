@@ -4,7 +4,7 @@ use Rattle.script_grammar.specs.ScriptReading.{atom_read}
 use Rattle.script_tokens.specs.declared.token.Mark.TheVariants as m
 use Rattle.script_faults.specs.Steps.{atom_after}
 use Rattle.script_faults.proofs.GuardLemmas.{noted_group, noted_not}
-use Rattle.script_faults.proofs.WalkLemmas.{noted_behind, noted_separated, noting_begun, noting_ends, noting_goes_on, noting_stops}
+use Rattle.script_grammar.proofs.WalkLemmas.{noted_behind, noted_separated, noting_begun, noting_ends, noting_goes_on, noting_stops}
 use Rattle.script_faults.proofs.guard.+atoms.Goals as goal
 
 pub note_not-returns-clause-gives : goal.note_not-returns-clause-gives

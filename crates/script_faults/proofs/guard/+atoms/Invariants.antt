@@ -3,7 +3,7 @@ use Rattle.script_tokens.specs.declared.token.Mark.TheVariants as m
 use Rattle.script_tokens.specs.Marks.{kind_is}
 use Rattle.script_grammar.specs.ScriptReading.{after_mark, further, atom_read}
 use Rattle.script_faults.specs.Steps.{atom_after}
-use Rattle.script_faults.proofs.WalkLemmas.{IsNoted}
+use Rattle.script_grammar.proofs.WalkLemmas.{IsNoted}
 use Rattle.script_faults.proofs.guard.+atoms.Given as goal
 
 abbrev pub decreases-note_atom : goal.decreases-note_atom

@@ -1,6 +1,6 @@
 use Rattle.std.proofs.Common.{sym, ◌∙◌, arith}
 use Rattle.std.proofs.lemmas.Result.{err_from_is_err_and}
-use Rattle.script_faults.proofs.WalkLemmas.{noting_begun, noting_ends, noting_goes_on, noting_stops}
+use Rattle.script_grammar.proofs.WalkLemmas.{noting_begun, noting_ends, noting_goes_on, noting_stops}
 use Rattle.script_faults.proofs.noter.note_further.Goals as goal
 
 pub list-init : goal.list-init

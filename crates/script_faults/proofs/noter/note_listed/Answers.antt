@@ -1,5 +1,5 @@
 use Rattle.std.proofs.Common.{sym, ◌∙◌}
-use Rattle.script_faults.proofs.WalkLemmas.{noted_none, noted_some}
+use Rattle.script_grammar.proofs.WalkLemmas.{noted_none, noted_some}
 use Rattle.script_faults.proofs.noter.note_listed.Goals as goal
 
 pub returns-then-is_next-clause-gives : goal.returns-then-is_next-clause-gives

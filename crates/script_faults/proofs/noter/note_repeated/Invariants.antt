@@ -1,7 +1,7 @@
 use Rattle.std.proofs.Common.{◌≤◌, length}
 use Rattle.script_grammar.specs.Reading.{repeated}
 use Rattle.script_grammar.specs.ScriptReading.{next_is}
-use Rattle.script_faults.proofs.WalkLemmas.{IsNoted}
+use Rattle.script_grammar.proofs.WalkLemmas.{IsNoted}
 use Rattle.script_faults.proofs.noter.note_repeated.Given as goal
 
 abbrev pub invariant-list : goal.invariant-list

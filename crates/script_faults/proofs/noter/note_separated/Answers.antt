@@ -1,4 +1,4 @@
-use Rattle.script_faults.proofs.WalkLemmas.{noted_separated}
+use Rattle.script_grammar.proofs.WalkLemmas.{noted_separated}
 use Rattle.script_faults.proofs.noter.note_separated.Goals as goal
 
 pub returns-clause-gives : goal.returns-clause-gives

@@ -1,5 +1,5 @@
 use Rattle.script_faults.specs.Faults.{count_faults, fields_among}
-use Rattle.script_faults.specs.Noted.{at_most}
+use Rattle.script_faults.specs.Numbered.{at_most}
 use Rattle.script_faults.proofs.FirstLemmas.{first_of-then}
 use Rattle.script_faults.proofs.pattern.note_kind.Goals as goal
 

@@ -1,6 +1,5 @@
 use Rattle.std.proofs.Common.{refl, sym, ◌∙◌}
-use Rattle.std.proofs.lemmas.Result.{err_from_is_err_and}
-use Rattle.script_faults.proofs.FindingLemmas.{actor_noted, actor_stops, message_noted, message_stops}
+use Rattle.script_faults.proofs.FindingLemmas.{actor_noted, message_noted}
 use Rattle.script_faults.proofs.script.DeclarationsNoter.note.Goals as goal
 
 pub returns-then-is_next-clause-gives : goal.returns-then-is_next-clause-gives
