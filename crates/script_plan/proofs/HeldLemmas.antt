@@ -5,7 +5,7 @@ use Rattle.script_tokens.specs.declared.token.Token.{Token}
 use Rattle.script_tokens.specs.declared.token.Kind.{Kind}
 use Rattle.script_tokens.specs.declared.token.Mark.TheVariants as m
 use Rattle.script_grammar.specs.Grammar.{Declaration, actors_of, tree_of}
-use Rattle.script_grammar.specs.Reading.{Outcome, and_then, head, pure, repeated, turns, ◌>>=◌, ◌<<◌}
+use Rattle.script_grammar.specs.Reading.{Outcome, and_then, head, pure, repeated, turns, ◌>>=◌}
 use Rattle.script_grammar.specs.ScriptReading.{Reads, actor_read, begins_declaration, declaration_read, definition_read, finish_of, has_actor, is_mark, mark_read, name_read, next_is, script_read}
 use Rattle.script_grammar.specs.declared.tree.Spelt.{Spelt}
 use Rattle.script_grammar.specs.declared.tree.ActorDecl.{ActorDecl}

@@ -14,17 +14,17 @@ use Rattle.script_types.specs.declared.plan.Statement.TheVariants as statement
 use Rattle.script_types.specs.declared.plan.Rule.{Rule}
 use Rattle.script_types.specs.declared.plan.ActorPlan.{ActorPlan}
 use Rattle.script_plan.specs.PlanOf.{actor_of, definition_of, kind_number, names_in, operand_of, or_zero, rule_of, statement_of, target_number}
-use Rattle.script_plan.specs.Planned.{outline_tree, without_rules}
+use Rattle.script_plan.specs.Planned.{actor_alone, outline_tree}
 
 abbrev Row : Type 0
 Row = List ℕ × ℕ
 
 -- the names of actors, as actors without definitions have them
-pub rows_same : (names : List Spelt) → spelt_rows names ≡ actor_rows (map without_rules names)
+pub rows_same : (names : List Spelt) → spelt_rows names ≡ actor_rows (map actor_alone names)
 rows_same [] = refl
 rows_same (s ∷ names) = ap (λ (rows : List Row). (s.name, s.place) ∷ rows) (rows_same names)
 
-actors_named : (actors : List ActorDecl) → actor_rows (map without_rules (map actor_name actors)) ≡ actor_rows actors
+actors_named : (actors : List ActorDecl) → actor_rows (map actor_alone (map actor_name actors)) ≡ actor_rows actors
 actors_named [] = refl
 actors_named (a ∷ actors) = ap (λ (rows : List Row). (a.name.name, a.name.place) ∷ rows) (actors_named actors)
 

@@ -3,5 +3,8 @@ pub mod PlanOf
 pub mod Small
 -- reading a plan from the tokens
 pub mod Planned
+-- the same, definition by definition, and the names alone
+pub mod Visited
 -- what private functions compute
+pub mod Collected
 pub mod Marked

@@ -1,32 +1,34 @@
 //! The plan of a script, read from its tokens.
-ghost use Rattle.std.specs.Prelude.{◌≡◌, ◌<◌, [], true, length, IfOk};
+ghost use Rattle.std.specs.Prelude.{◌≡◌, ◌<◌, fold, length, IfOk};
 ghost use Rattle.std.specs.List.{AllByRecursion};
-ghost use Rattle.join_base.specs.Text.{is_name};
 ghost use Rattle.script_tokens.specs.declared.token.Mark.TheVariants as m;
-ghost use Rattle.script_grammar.specs.Gives.{Gives};
+ghost use Rattle.script_grammar.specs.Gives.{Notes};
 ghost use Rattle.script_grammar.specs.Outlines.{Outlines};
 ghost use Rattle.script_grammar.specs.Reading.{repeated};
-ghost use Rattle.script_grammar.specs.ScriptReading.{actor_read, begins_declaration, declaration_read, definition_read, is_mark, next_is, script_read, with_front};
-ghost use Rattle.script_types.specs.Names.{AreNames, HasNames, actor_names};
-ghost use Rattle.script_plan.specs.Planned.{AllSmall, IsSmallDeclaration, Plans, ReadsSome, actor_plan_read, outline_tree, plan_added, plans_added, rule_plan_read, rules_plan_read};
+ghost use Rattle.script_grammar.specs.ScriptReading.{actor_read, begins_declaration, declaration_read, definition_read, is_mark, next_is, script_read};
+ghost use Rattle.script_types.specs.Names.{HasNames};
+ghost use Rattle.script_plan.specs.PlanOf.{actor_of, rule_of};
+ghost use Rattle.script_plan.specs.Planned.{AllSmall, IsSmallDeclaration, Plans, ReadsSome, outline_tree};
 ghost use Rattle.script_plan.specs.Small.{IsSmallActor, IsSmallRule};
+ghost use Rattle.script_plan.specs.Visited.{Visits, actor_taken, declaration_taken, rule_taken};
 
+use crate::collector::Collector;
+use crate::heads::plan_heads;
 use crate::names::Script;
-use crate::plan::{kinds_of, rule_of};
-use join_base::Items;
+use crate::plan::rule_of;
+use crate::visitor::PlanVisitor;
 use script_grammar::{
     Outline, Stop, is_next, is_next_declaration, mark_at, name_at, rule_at, skip_message,
 };
 use script_tokens::{Mark, Tokens};
-use script_types::{ActorPlan, Plan, Rule};
+use script_types::{Plan, Rule};
 use std::alloc::Global;
 
-// The definition in front of the tokens. Its tree is let go of here.
-#[tactic(auto, unfolding(crate::specs::Planned::rule_plan_read))]
+// The plan of the definition in front of the tokens, whose tree is let go of here.
 fn rule_plan_at(alloc: Global, script: &Script<'_>, tokens: &mut Tokens<'_>) -> Result<Rule, Stop>
     requires small { ReadsSome IsSmallRule (definition_read tokens.old) }
-    ensures gives { Gives (λ x. x) result tokens.new
-        (rule_plan_read (outline_tree script.now.outline.now) tokens.old) }
+    ensures gives { Notes (λ rule plan. plan ≡ rule_of (outline_tree script.now.outline.now) rule) result tokens.new
+        (definition_read tokens.old) }
     ensures shorter { IfOk result (λ _. length tokens.new < length tokens.old) }
 {
     let rule = rule_at(alloc, tokens)?;
@@ -34,95 +36,119 @@ fn rule_plan_at(alloc: Global, script: &Script<'_>, tokens: &mut Tokens<'_>) -> 
     Ok(plan)
 }
 
-// Some rules, and the definitions in front of the tokens behind them.
-fn more_rule_plans_at(
+fn visit_rule<V: PlanVisitor>(
     alloc: Global,
     script: &Script<'_>,
-    front: Items<Rule>,
+    visitor: &mut V,
     tokens: &mut Tokens<'_>,
-) -> Result<Items<Rule>, Stop>
-    requires small { ReadsSome (AllByRecursion IsSmallRule) (repeated (is_mark m.When) definition_read tokens.old) }
-    ensures { Gives (λ x. x) result tokens.new
-        (with_front front (rules_plan_read (outline_tree script.now.outline.now) tokens.old)) }
+) -> Result<(), Stop>
+    requires small { ReadsSome IsSmallRule (definition_read tokens.old) }
+    ensures gives { Notes (λ rule _. V.taken visitor.new ≡ rule_taken V.with_rule
+        (outline_tree script.now.outline.now) (V.taken visitor.old) rule) result tokens.new
+        (definition_read tokens.old) }
+    ensures shorter { IfOk result (λ _. length tokens.new < length tokens.old) }
 {
-    let mut rules = front;
+    let plan = rule_plan_at(alloc, script, tokens)?;
+    visitor.take_rule(alloc, plan)?;
+    Ok(())
+}
+
+// As many definitions as there are.
+fn visit_rules<V: PlanVisitor>(
+    alloc: Global,
+    script: &Script<'_>,
+    visitor: &mut V,
+    tokens: &mut Tokens<'_>,
+) -> Result<(), Stop>
+    requires small { ReadsSome (AllByRecursion IsSmallRule) (repeated (is_mark m.When) definition_read tokens.old) }
+    ensures { Notes (λ rules _. V.taken visitor.new ≡ fold (rule_taken V.with_rule
+        (outline_tree script.now.outline.now)) (V.taken visitor.old) rules) result tokens.new
+        (repeated (is_mark m.When) definition_read tokens.old) }
+{
     'list: while is_next(tokens, Mark::When) {
-        let rule = rule_plan_at(alloc, script, tokens)?;
-        rules.push(rule)?;
+        visit_rule(alloc, script, visitor, tokens)?;
     }
-    Ok(rules)
+    Ok(())
 }
 
-#[tactic(auto, using(script_grammar::proofs::LoopLemmas::with_front_nil))]
-fn rule_plans_at(
+#[tactic(auto, unfolding(script_grammar::specs::ScriptReading::actor_read))]
+fn visit_actor<V: PlanVisitor>(
     alloc: Global,
     script: &Script<'_>,
+    visitor: &mut V,
     tokens: &mut Tokens<'_>,
-) -> Result<Items<Rule>, Stop>
-    requires small { ReadsSome (AllByRecursion IsSmallRule) (repeated (is_mark m.When) definition_read tokens.old) }
-    ensures { Gives (λ x. x) result tokens.new (rules_plan_read (outline_tree script.now.outline.now) tokens.old) }
-{
-    more_rule_plans_at(alloc, script, Items::new(alloc), tokens)
-}
-
-#[tactic(auto, unfolding(crate::specs::Planned::actor_plan_read))]
-fn actor_plan_at(
-    alloc: Global,
-    script: &Script<'_>,
-    tokens: &mut Tokens<'_>,
-) -> Result<ActorPlan, Stop>
+) -> Result<(), Stop>
     requires small { ReadsSome IsSmallActor (actor_read tokens.old) }
-    ensures gives { Gives (λ x. x) result tokens.new
-        (actor_plan_read (outline_tree script.now.outline.now) tokens.old) }
-    ensures name { IfOk result (λ plan. is_name plan.name ≡ true) }
+    ensures { Notes (λ actor _. V.taken visitor.new ≡ actor_taken V.with_actor V.with_rule V.with_end
+        (V.taken visitor.old) (actor_of (outline_tree script.now.outline.now) actor)) result tokens.new
+        (actor_read tokens.old) }
 {
     mark_at(alloc, tokens, Mark::Actor)?;
     let spelt = name_at(alloc, tokens)?;
     mark_at(alloc, tokens, Mark::OpenBrace)?;
-    let rules = rule_plans_at(alloc, script, tokens)?;
-    mark_at(alloc, tokens, Mark::CloseBrace)?;
     let name = spelt.name.to_name(alloc)?;
-    Ok(ActorPlan { name, rules })
+    visitor.begin_actor(alloc, &name)?;
+    visit_rules(alloc, script, visitor, tokens)?;
+    mark_at(alloc, tokens, Mark::CloseBrace)?;
+    visitor.end_actor(alloc, name)?;
+    Ok(())
 }
 
-// Adds the plan of the declaration in front of the tokens, where it is an actor.
-fn declaration_plan_at(
+// The declaration in front of the tokens. Of a message nothing is taken.
+fn visit_declaration<V: PlanVisitor>(
     alloc: Global,
     script: &Script<'_>,
-    plans: &mut Items<ActorPlan>,
+    visitor: &mut V,
     tokens: &mut Tokens<'_>,
 ) -> Result<(), Stop>
     requires small { ReadsSome IsSmallDeclaration (declaration_read tokens.old) }
-    requires names { AreNames (actor_names plans.old) }
-    ensures gives { Gives (λ _. plans.new) result tokens.new
-        (plan_added (outline_tree script.now.outline.now) plans.old (declaration_read tokens.old)) }
-    ensures names { IfOk result (λ _. AreNames (actor_names plans.new)) }
+    ensures { Notes (λ d _. V.taken visitor.new ≡ declaration_taken V.with_actor V.with_rule V.with_end
+        (outline_tree script.now.outline.now) (V.taken visitor.old) d) result tokens.new
+        (declaration_read tokens.old) }
 {
     if is_next(tokens, Mark::Message) {
         skip_message(alloc, tokens)?;
         return Ok(());
     }
-    let plan = actor_plan_at(alloc, script, tokens)?;
-    plans.push(plan)?;
+    visit_actor(alloc, script, visitor, tokens)?;
     Ok(())
 }
 
-fn actor_plans_at(
+fn visit_declarations<V: PlanVisitor>(
     alloc: Global,
     script: &Script<'_>,
+    visitor: &mut V,
     tokens: &mut Tokens<'_>,
-) -> Result<Items<ActorPlan>, Stop>
+) -> Result<(), Stop>
     requires small { ReadsSome (AllByRecursion IsSmallDeclaration) (repeated (next_is begins_declaration)
         declaration_read tokens.old) }
-    ensures gives { Gives (λ x. x) result tokens.new (plans_added (outline_tree script.now.outline.now) [] (repeated
-        (next_is begins_declaration) declaration_read tokens.old)) }
-    ensures names { IfOk result (λ plans. AreNames (actor_names plans)) }
+    ensures { Notes (λ ds _. V.taken visitor.new ≡ fold (declaration_taken V.with_actor V.with_rule V.with_end
+        (outline_tree script.now.outline.now)) (V.taken visitor.old) ds) result tokens.new
+        (repeated (next_is begins_declaration) declaration_read tokens.old) }
 {
-    let mut plans = Items::new(alloc);
     'list: while is_next_declaration(tokens) {
-        declaration_plan_at(alloc, script, &mut plans, tokens)?;
+        visit_declaration(alloc, script, visitor, tokens)?;
     }
-    Ok(plans)
+    Ok(())
+}
+
+/// Hands a visitor the plan of a script with this outline, whose sizes are small enough for one, definition by
+/// definition. Of each definition nothing stays but what the visitor keeps. Where the script has a fault, as a name that
+/// is not declared, its plan has 0 in its place.
+pub fn visit_plan<V: PlanVisitor>(
+    alloc: Global,
+    outline: &Outline,
+    visitor: &mut V,
+    tokens: &mut Tokens<'_>,
+) -> Result<(), Stop>
+    requires outline { Outlines outline.now (script_read tokens.old) }
+    requires small { AllSmall (script_read tokens.old) }
+    ensures { Visits V.with_actor V.with_rule V.with_end (V.taken visitor.old) (V.taken visitor.new)
+        (script_read tokens.old) result }
+{
+    let script = Script::new(alloc, outline)?;
+    visit_declarations(alloc, &script, visitor, tokens)?;
+    Ok(())
 }
 
 /// The plan of a script with this outline, whose sizes are small enough for one. The definitions are read one after the
@@ -134,8 +160,11 @@ pub fn plan_at(alloc: Global, outline: &Outline, tokens: &mut Tokens<'_>) -> Res
     ensures plan { Plans (script_read tokens.old) result }
     ensures names { IfOk result HasNames }
 {
-    let script = Script::new(alloc, outline)?;
-    let kinds = kinds_of(alloc, outline.messages.as_slice())?;
-    let actors = actor_plans_at(alloc, &script, tokens)?;
-    Ok(Plan { kinds, actors })
+    let heads = plan_heads(alloc, outline)?;
+    let mut collector = Collector::new(alloc);
+    visit_plan(alloc, outline, &mut collector, tokens)?;
+    Ok(Plan {
+        kinds: heads.kinds,
+        actors: collector.actors,
+    })
 }
