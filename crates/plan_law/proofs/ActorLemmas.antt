@@ -19,7 +19,7 @@ use Rattle.script_check.proofs.NumberLemmas.{left_none, right_none, NumberFits, 
 use Rattle.script_check.proofs.SmallLemmas.{each_both, each_none, each_one}
 use Rattle.plan_text.specs.PlanNames.{Variables}
 use Rattle.plan_text.specs.GuardText.{guard_text}
-use Rattle.plan_text.specs.PlanText.{actor_lines, line_end, pattern_text, patterns_of, rule_lines, statement_line, window_text}
+use Rattle.plan_text.specs.PlanText.{actor_begin, actor_end, actor_lines, line_end, pattern_text, patterns_of, rule_lines, statement_line, window_text}
 use Rattle.plan_law.proofs.BodyLemmas.{prints_line}
 use Rattle.plan_law.proofs.DeclarationLemmas.{prints_patterns}
 use Rattle.plan_law.proofs.GuardLemmas.{guard_leads, prints_guard}
@@ -117,10 +117,15 @@ module _ (tree : Tree) where
   pub prints_actor : (actor : ActorDecl) → actor_faults tree.messages (actor_rows tree.actors) actor ≡ [] → Prints Any (g.actor actor) (actor_lines (plan_of tree) (actor_of tree actor))
   prints_actor actor none =
       let faults = rule_faults tree.messages (actor_rows tree.actors) in
-      prints_any_then (prints_mark (keyword_space_writes (codes "actor") m.Actor actor_is))
+      let name : List ℕ = actor.name.name in
+      let opened : List ℕ = codes " {" ++ line_end in
+      let inner : List ℕ = flat_map (rule_lines (plan_of tree)) (map (rule_of tree) actor.rules) ++ actor_end in
+      let lines : codes "actor " ++ (name ++ (opened ++ inner)) ≡ actor_begin name ++ inner = ap (λ (text : List ℕ). codes "actor " ++ text) (sym (append_assoc name opened inner)) in
+      prints_text lines
+      (prints_any_then (prints_mark (keyword_space_writes (codes "actor") m.Actor actor_is))
       (prints_then (prints_name actor.name actor.name.name refl) (λ rest q. record { ends = refl })
       (prints_any_then (prints_mark (writes_then space_writes (writes_then open_brace_writes line_end_writes)))
       (prints_any_then
       (prints_each_any g.definition (rule_of tree) (rule_lines (plan_of tree)) actor.rules
       (each_one (λ (r : RuleDecl). faults r ≡ []) RulePrints prints_rule actor.rules (each_none faults actor.rules (right_none (too_many 16 (λ (r : RuleDecl). r.place) actor.rules) (flat_map faults actor.rules) none))))
-      (prints_mark (writes_then close_brace_writes line_end_writes)))))
+      (prints_mark (writes_then close_brace_writes line_end_writes))))))

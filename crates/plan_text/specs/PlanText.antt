@@ -75,10 +75,17 @@ when_line plan rule =
 abbrev pub rule_lines : Plan → Rule → List ℕ
 rule_lines plan rule = when_line plan rule ++ (flat_map (statement_line plan rule.variables) rule.body ++ (codes "  }" ++ line_end))
 
--- `actor NAME {`, its definitions, and `}`
+-- `actor NAME {`
+abbrev pub actor_begin : List ℕ → List ℕ
+actor_begin name = codes "actor " ++ (name ++ (codes " {" ++ line_end))
+
+-- `}`
+abbrev pub actor_end : List ℕ
+actor_end = codes "}" ++ line_end
+
+-- an actor's first line, its definitions, and its last line
 abbrev pub actor_lines : Plan → ActorPlan → List ℕ
-actor_lines plan actor =
-    codes "actor " ++ (actor.name ++ (codes " {" ++ (line_end ++ (flat_map (rule_lines plan) actor.rules ++ (codes "}" ++ line_end)))))
+actor_lines plan actor = actor_begin actor.name ++ (flat_map (rule_lines plan) actor.rules ++ actor_end)
 
 -- the messages and then the actors, in order
 abbrev pub plan_text : Plan → List ℕ

@@ -1,12 +1,15 @@
 //! The text of a plan, as a script says it.
 //!
 //! - `print_plan` appends the text of a plan. Without memory the bytes are as they were.
+//! - `write_kinds`, `write_actor_begin`, `write_rule` and `write_actor_end` append it part by part, so that no more than
+//!   one definition is needed at a time. Without memory some of the text may stay appended.
 //! - `write_conjunct` appends a conjunct, `write_pattern` a pattern and `write_variable` a variable. `row_of` has the
 //!   variables of a pattern. Without memory some of the text may stay appended.
 //!
 //! A contract sees the text as a function of the plan (`plan_text`, specs/PlanText), with an empty name where a number
 //! names nothing. Its parts are `condition_text` (specs/GuardText), `pattern_text` and `variable_name`
-//! (specs/PlanNames). That the text reads back as the plan is a law of `plan_law`.
+//! (specs/PlanNames). Of the plan a definition's text takes the names alone (proofs/HeadLemmas).
+//! That the text reads back as the plan is a law of `plan_law`.
 #![tactic(auto)]
 
 mod guards;
@@ -18,5 +21,5 @@ mod terms;
 
 pub use guards::write_conjunct;
 pub use names::{Row, row_of, write_variable};
-pub use print::print_plan;
-pub use rules::write_pattern;
+pub use print::{print_plan, write_actor_begin, write_actor_end, write_kinds};
+pub use rules::{write_pattern, write_rule};

@@ -1,7 +1,7 @@
 //! A plan as text.
 ghost use Rattle.std.specs.Prelude.{◌≡◌, ◌++◌, OnOk, OnErr, codes};
 ghost use Rattle.std.specs.List.{flat_map, join_by};
-ghost use Rattle.plan_text.specs.PlanText.{actor_lines, field_text, kind_line, plan_text};
+ghost use Rattle.plan_text.specs.PlanText.{actor_begin, actor_end, actor_lines, field_text, kind_line, plan_text};
 
 use crate::names::write_sort;
 use crate::rules::write_rules;
@@ -34,7 +34,9 @@ fn write_fields(text: &mut Bytes, fields: &[(Name, Sort)]) -> Result<(), NoMemor
     }
 }
 
-fn write_kinds(text: &mut Bytes, kinds: &[Kind]) -> Result<(), NoMemory>
+/// Appends a line for each kind. Without memory some of the text may stay appended, here and in the calls below that
+/// append a part of a plan.
+pub fn write_kinds(text: &mut Bytes, kinds: &[Kind]) -> Result<(), NoMemory>
     ensures { OnOk result (text.new ≡ text.old ++ flat_map kind_line kinds.now) }
 {
     for kind in kinds {
@@ -47,15 +49,29 @@ fn write_kinds(text: &mut Bytes, kinds: &[Kind]) -> Result<(), NoMemory>
     Ok(())
 }
 
+/// Appends the line that begins an actor of this name.
+pub fn write_actor_begin(text: &mut Bytes, name: &Name) -> Result<(), NoMemory>
+    ensures { OnOk result (text.new ≡ text.old ++ actor_begin name.now) }
+{
+    text.push_all(b"actor ")?;
+    text.push_all(name.bytes())?;
+    text.push_all(b" {\n")
+}
+
+/// Appends the line that ends an actor.
+pub fn write_actor_end(text: &mut Bytes) -> Result<(), NoMemory>
+    ensures { OnOk result (text.new ≡ text.old ++ actor_end) }
+{
+    text.push_all(b"}\n")
+}
+
 fn write_actors(text: &mut Bytes, plan: &Plan, actors: &[ActorPlan]) -> Result<(), NoMemory>
     ensures { OnOk result (text.new ≡ text.old ++ flat_map (actor_lines plan.now) actors.now) }
 {
     for actor in actors {
-        text.push_all(b"actor ")?;
-        text.push_all(actor.name.bytes())?;
-        text.push_all(b" {\n")?;
+        write_actor_begin(text, &actor.name)?;
         write_rules(text, plan, actor.rules.as_slice())?;
-        text.push_all(b"}\n")?;
+        write_actor_end(text)?;
     }
     Ok(())
 }

@@ -96,14 +96,22 @@ fn write_when(text: &mut Bytes, plan: &Plan, rule: &Rule) -> Result<(), NoMemory
     text.push_all(b" {\n")
 }
 
+/// Appends the lines of a definition. Of the plan it reads the names alone: its kinds, and the names of its actors.
+/// Without memory some of them may stay appended.
+pub fn write_rule(text: &mut Bytes, plan: &Plan, rule: &Rule) -> Result<(), NoMemory>
+    ensures { OnOk result (text.new ≡ text.old ++ rule_lines plan.now rule.now) }
+{
+    write_when(text, plan, rule)?;
+    write_body(text, plan, rule.variables.as_slice(), rule.body.as_slice())?;
+    text.push_all(b"  }\n")
+}
+
 // The lines of each definition.
 pub(crate) fn write_rules(text: &mut Bytes, plan: &Plan, rules: &[Rule]) -> Result<(), NoMemory>
     ensures { OnOk result (text.new ≡ text.old ++ flat_map (rule_lines plan.now) rules.now) }
 {
     for rule in rules {
-        write_when(text, plan, rule)?;
-        write_body(text, plan, rule.variables.as_slice(), rule.body.as_slice())?;
-        text.push_all(b"  }\n")?;
+        write_rule(text, plan, rule)?;
     }
     Ok(())
 }

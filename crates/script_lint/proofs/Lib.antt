@@ -3,6 +3,7 @@
 -- - what a bound says of its value, and that the value of a place is in its interval: BoundLemmas
 -- - a match has as many numbers as a window sees at least: NarrowLemmas
 -- - what implies a guard: ShadowLemmas
+-- - the findings actor by actor, and that their text takes names alone: LinterLemmas
 pub mod Examples
 pub mod AtomLemmas
 pub mod ListLemmas
@@ -13,3 +14,4 @@ pub mod NarrowLemmas
 pub mod SameLemmas
 pub mod ShadowLemmas
 pub mod LawLemmas
+pub mod LinterLemmas

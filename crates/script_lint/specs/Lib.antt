@@ -3,5 +3,6 @@ pub mod Bounds
 pub mod Same
 pub mod Findings
 pub mod Law
--- what private functions ask for
-pub mod Few
+-- the findings actor by actor, and their text
+pub mod Looked
+pub mod LintText

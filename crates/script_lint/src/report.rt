@@ -1,22 +1,18 @@
-//! The findings of a plan.
-ghost use Rattle.std.specs.Prelude.{◌≡◌, ◌++◌, ◌<◌, ◌≤◌, length, [], IfOk, OnOk};
-ghost use Rattle.std.specs.List.{AllByRecursion};
+//! The findings of an actor's definitions, and the kinds that none takes.
+ghost use Rattle.std.specs.Prelude.{◌≡◌, ◌++◌, ◌+◌, ◌<◌, ◌^◌, length, [], OnOk};
 ghost use Rattle.join_base.specs.Taken.{contains_number};
-ghost use Rattle.script_types.specs.Typed.{IsTyped};
-ghost use Rattle.script_lint.specs.Findings.{finding_of, findings, findings_behind, findings_from, idle_from, kinds_behind, kinds_from, kinds_of, listed};
-ghost use Rattle.script_lint.specs.Few.{HasFewRules};
+ghost use Rattle.script_lint.specs.Findings.{finding_of, findings_behind, idle_from, kinds_behind, kinds_of, listed};
 
 use crate::dead::{is_dead, is_narrow};
 use crate::finding::Finding;
 use crate::shadow::first_shadow;
 use join_base::{Items, NoMemory};
 use pattern_core::Definition;
-use script_types::{ActorPlan, Kind, Plan, Rule};
-use std::alloc::Global;
+use script_types::{Kind, Rule};
 
 // The finding of a definition behind the earlier ones of its actor.
 fn finding_of(actor: u32, earlier: &[Rule], definition: &Definition) -> Option<Finding>
-    requires { length earlier.now ≤ 16 }
+    requires { length earlier.now + 1 < 2 ^ 32 }
     ensures { result ≡ finding_of actor earlier.now definition.now }
 {
     let rule = earlier.len() as u32 + 1;
@@ -37,29 +33,6 @@ fn push_listed(found: &mut Items<Finding>, finding: Option<Finding>) -> Result<(
 {
     if let Some(finding) = finding {
         found.push(finding)?;
-    }
-    Ok(())
-}
-
-// Appends the findings of an actor's rules.
-fn push_rules(found: &mut Items<Finding>, actor: u32, rules: &[Rule]) -> Result<(), NoMemory>
-    requires { length rules.now ≤ 16 }
-    ensures { OnOk result (found.new ≡ found.old ++ findings_behind actor [] rules.now) }
-{
-    for place in 0..rules.len() {
-        let (earlier, _) = rules.split_at(place);
-        push_listed(found, finding_of(actor, earlier, &rules[place].definition))?;
-    }
-    Ok(())
-}
-
-fn push_actors(found: &mut Items<Finding>, actors: &[ActorPlan]) -> Result<(), NoMemory>
-    requires few { length actors.now ≤ 32 }
-    requires rules { AllByRecursion HasFewRules actors.now }
-    ensures { OnOk result (found.new ≡ found.old ++ findings_from 0 actors.now) }
-{
-    for (number, actor) in actors.iter().enumerate() {
-        push_rules(found, number as u32, actor.rules.as_slice())?;
     }
     Ok(())
 }
@@ -88,26 +61,23 @@ fn push_kinds(
     }
 }
 
-// Appends the kinds that an actor's rules without a finding take.
-fn push_rules_kinds(taken: &mut Items<u32>, actor: u32, rules: &[Rule]) -> Result<(), NoMemory>
-    requires { length rules.now ≤ 16 }
-    ensures { OnOk result (taken.new ≡ taken.old ++ kinds_behind actor [] rules.now) }
+/// Appends the finding of each of an actor's rules, and the kinds that those without one take.
+pub fn push_rules(
+    found: &mut Items<Finding>,
+    taken: &mut Items<u32>,
+    actor: u32,
+    rules: &[Rule],
+) -> Result<(), NoMemory>
+    requires few { length rules.now < 2 ^ 32 }
+    ensures found { OnOk result (found.new ≡ found.old ++ findings_behind actor [] rules.now) }
+    ensures taken { OnOk result (taken.new ≡ taken.old ++ kinds_behind actor [] rules.now) }
 {
     for place in 0..rules.len() {
         let (earlier, _) = rules.split_at(place);
         let definition = &rules[place].definition;
-        push_kinds(taken, finding_of(actor, earlier, definition), definition)?;
-    }
-    Ok(())
-}
-
-fn push_actors_kinds(taken: &mut Items<u32>, actors: &[ActorPlan]) -> Result<(), NoMemory>
-    requires few { length actors.now ≤ 32 }
-    requires rules { AllByRecursion HasFewRules actors.now }
-    ensures { OnOk result (taken.new ≡ taken.old ++ kinds_from 0 actors.now) }
-{
-    for (number, actor) in actors.iter().enumerate() {
-        push_rules_kinds(taken, number as u32, actor.rules.as_slice())?;
+        let finding = finding_of(actor, earlier, definition);
+        push_listed(found, finding)?;
+        push_kinds(taken, finding, definition)?;
     }
     Ok(())
 }
@@ -123,9 +93,9 @@ fn contains_number(numbers: &[u32], number: u32) -> bool
     false
 }
 
-// Appends the kinds that are not taken.
-fn push_idle(found: &mut Items<Finding>, taken: &[u32], kinds: &[Kind]) -> Result<(), NoMemory>
-    requires { length kinds.now ≤ 64 }
+/// Appends the kinds that are not taken.
+pub fn push_idle(found: &mut Items<Finding>, taken: &[u32], kinds: &[Kind]) -> Result<(), NoMemory>
+    requires { length kinds.now < 2 ^ 32 }
     ensures { OnOk result (found.new ≡ found.old ++ idle_from taken.now 0 kinds.now) }
 {
     for (place, _kind) in kinds.iter().enumerate() {
@@ -135,28 +105,4 @@ fn push_idle(found: &mut Items<Finding>, taken: &[u32], kinds: &[Kind]) -> Resul
         }
     }
     Ok(())
-}
-
-// The findings of a plan that is small.
-pub fn list_findings(alloc: Global, plan: &Plan) -> Result<Items<Finding>, NoMemory>
-    requires actors { length plan.now.actors ≤ 32 }
-    requires rules { AllByRecursion HasFewRules plan.now.actors }
-    requires kinds { length plan.now.kinds ≤ 64 }
-    ensures report { IfOk result (λ r. r ≡ findings plan.now) }
-{
-    let mut found = Items::new(alloc);
-    push_actors(&mut found, plan.actors.as_slice())?;
-    let mut taken = Items::new(alloc);
-    push_actors_kinds(&mut taken, plan.actors.as_slice())?;
-    push_idle(&mut found, taken.as_slice(), plan.kinds.as_slice())?;
-    Ok(found)
-}
-
-/// The findings of a plan: of the definitions in order of actors and rules, at most one of each, and then the idle
-/// kinds in order. `NoMemory` where there is no memory for them.
-pub fn lint(alloc: Global, plan: &Plan) -> Result<Items<Finding>, NoMemory>
-    requires typed { IsTyped plan.now }
-    ensures report { IfOk result (λ r. r ≡ findings plan.now) }
-{
-    list_findings(alloc, plan)
 }

@@ -1,5 +1,5 @@
 //! Definitions whose matches an earlier one takes first.
-ghost use Rattle.std.specs.Prelude.{◌≡◌, ◌≤◌, length};
+ghost use Rattle.std.specs.Prelude.{◌≡◌, ◌+◌, ◌<◌, ◌^◌, length};
 ghost use Rattle.guard_eval.specs.Shape.{conjunct_condition};
 ghost use Rattle.script_lint.specs.Bounds.{bound_of};
 ghost use Rattle.script_lint.specs.Findings.{first_shadow, is_implied, is_kept_within, sees_as_much, shadows};
@@ -76,7 +76,7 @@ fn shadows(earlier: &Definition, definition: &Definition) -> bool
 
 /// The number, from 1, of the first of the earlier rules that takes each match of the definition first.
 pub fn first_shadow(earlier: &[Rule], definition: &Definition) -> Option<u32>
-    requires { length earlier.now ≤ 16 }
+    requires { length earlier.now + 1 < 2 ^ 32 }
     ensures { result ≡ first_shadow 1 earlier.now definition.now }
 {
     for (place, rule) in earlier.iter().enumerate() {
