@@ -1,21 +1,24 @@
 -- A tree has one plan or one fault.
-use Rattle.std.proofs.Common.{inr, ◌≡◌, ◌∙◌, ℕ, List, [], false, Option, None, Some, Ok, sym, subst, arith}
+use Rattle.std.proofs.Common.{inr, ◌≡◌, ◌∙◌, ℕ, List, [], false, Option, None, Some, Ok, refl, sym, subst, arith}
 use Rattle.std.specs.Prelude.{Contains}
 use Rattle.script_tokens.specs.declared.token.Token.{Token}
 use Rattle.script_grammar.specs.Outlines.{Outlines}
 use Rattle.script_grammar.specs.ScriptReading.{script_read}
 use Rattle.script_grammar.specs.declared.outline.Outline.{Outline}
-use Rattle.script_grammar.specs.declared.tree.Tree.{Tree}
-use Rattle.script_reader.specs.Spells.{ReadsTree, Spells, SpellsOutline}
+use Rattle.script_reader.specs.Spells.{ReadsTree, SpellsOutline}
 use Rattle.script_types.specs.declared.plan.Plan.{Plan}
+use Rattle.script_types.specs.declared.plan.Rule.{Rule}
 use Rattle.script_faults.specs.declared.first.Fault.{Fault}
 use Rattle.script_faults.specs.First.{fault, is_before}
 use Rattle.script_faults.specs.Faults.{faults_of}
 use Rattle.script_faults.specs.Finding.{Finds}
 use Rattle.script_plan.specs.PlanOf.{plan_of}
 use Rattle.script_plan.specs.Planned.{AllSmall, IsPlanOf}
+use Rattle.script_plan.specs.Visited.{Visits}
+use Rattle.script_plan.proofs.VisitedLemmas.{heads_are}
+use Rattle.script_check.specs.Checked.{HasVisited}
 use Rattle.script_check.specs.Script.{GivesPlan, IsFirstFault, IsScriptFault}
-use Rattle.script_check.specs.Types.{IsFaultOf, NoBoth, OneFault, OnePlan, Types}
+use Rattle.script_check.specs.Types.{NoBoth, OneFault, OnePlan}
 use Rattle.script_check.proofs.LeastLemmas.{at_member, least_first, none_first, one_fault}
 use Rattle.script_types.specs.Names.{HasNames}
 use Rattle.script_types.specs.Typed.{IsTyped}
@@ -52,6 +55,16 @@ module _ (bytes : List ℕ) (outline : Outline) (spelt : SpellsOutline bytes out
     typed_plan plan none is names =
         let same = plan_read plan is in
         subst IsTyped (sym same) (plan_typed spelt.tree spelt.filled (no_fault none) (subst HasNames same names))
+
+    -- a visitor of the tokens took the plan of the tree
+    pub visited : {K : Type 0} (with_actor : K → List ℕ → K) (with_rule : K → Rule → K) (with_end : K → List ℕ → K) (before now : K) → IsFirstFault bytes None
+        → Visits with_actor with_rule with_end before now (script_read tokens) (Ok tt) → HasVisited with_actor with_rule with_end before now bytes outline
+    visited with_actor with_rule with_end before now none is = record {
+      plan = plan_of spelt.tree;
+      gives = (spelt.tree, spelt.spells, record { no_fault = no_fault none; plan_is = refl });
+      heads_are = heads_are outline spelt.tree spelt.outline_is;
+      taken = rw same_read at is;
+    }
 
   pub faulty : (f : Fault) → IsFirstFault bytes (Some f) → IsScriptFault bytes f.place f.cause
   faulty f first =

@@ -7,6 +7,7 @@
 -- - from no fault to a well typed plan: what a variable stands for, operands and guards, the rest: VariableLemmas,
 --   TypedLemmas, PlanLemmas
 -- - a script that is read once more: CheckLemmas
+-- - the text of a plan and its findings, part by part: PrintedLemmas, LintedLemmas
 -- - from trees to the bytes that spell them: ScriptLemmas
 pub mod LeastLemmas
 pub mod NumberLemmas
@@ -14,6 +15,8 @@ pub mod SmallLemmas
 pub mod NameLemmas
 pub mod CountLemmas
 pub mod CheckLemmas
+pub mod PrintedLemmas
+pub mod LintedLemmas
 pub mod VariableLemmas
 pub mod TypedLemmas
 pub mod PlanLemmas

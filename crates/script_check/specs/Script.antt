@@ -28,6 +28,16 @@ ReadsPlan bytes (Ok plan) = GivesPlan bytes plan
 ReadsPlan bytes (Err (Bad place cause)) = IsScriptFault bytes place cause
 ReadsPlan bytes (Err NoMemory) = Unit {0}
 
+-- a text of the plan of the bytes
+abbrev pub GivesText : (Plan → List ℕ) → List ℕ → List ℕ → Type 0
+GivesText view bytes text = (plan : Plan) × GivesPlan bytes plan × (text ≡ view plan)
+
+-- a text of the plan of the bytes, or their fault, unless there was no memory
+abbrev pub ReadsText : (Plan → List ℕ) → List ℕ → Result (List ℕ) ScriptFault → Type 0
+ReadsText view bytes (Ok text) = GivesText view bytes text
+ReadsText view bytes (Err (Bad place cause)) = IsScriptFault bytes place cause
+ReadsText view bytes (Err NoMemory) = Unit {0}
+
 -- a script has one plan at the most, and none where it has a fault, of which it has one at the most
 abbrev pub OneScriptPlan : Type 0
 OneScriptPlan = (bytes : List ℕ) (plan other : Plan) → GivesPlan bytes plan → GivesPlan bytes other → plan ≡ other

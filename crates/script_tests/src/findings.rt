@@ -1,15 +1,11 @@
 //! What lint finds.
-ghost use Rattle.script_types.specs.Typed.{IsTyped};
-
 use join_base::NoMemory;
-use script_check::read_plan;
+use script_check::{read_lint_text, read_plan};
 use script_lint::{Finding, lint};
 use script_types::Plan;
 use std::alloc::Global;
 
-fn are_found(alloc: Global, plan: &Plan, wanted: &[Finding]) -> Result<bool, NoMemory>
-    requires { IsTyped plan.now }
-{
+fn are_found(alloc: Global, plan: &Plan, wanted: &[Finding]) -> Result<bool, NoMemory> {
     Ok(lint(alloc, plan)?.as_slice() == wanted)
 }
 
@@ -55,4 +51,18 @@ fn is_narrow_found(alloc: Global) -> Result<bool, NoMemory> {
 fn definitions_and_kinds_are_found(rt: HostRuntime) {
     let alloc = rt.alloc();
     assert!(rt; is_shadow_found(alloc) == Ok(true) && is_narrow_found(alloc) == Ok(true));
+}
+
+const SHADOWED_TEXT: &[u8] = b"shadowed m rule 2 by 1\ndead m rule 3\nlint 2\n";
+
+fn is_shadow_told(alloc: Global) -> bool {
+    match read_lint_text(alloc, SHADOWED) {
+        Ok(text) => text.bytes() == SHADOWED_TEXT,
+        Err(_) => false,
+    }
+}
+
+#[test]
+fn findings_are_read_as_text(rt: HostRuntime) {
+    assert!(rt; is_shadow_told(rt.alloc()));
 }

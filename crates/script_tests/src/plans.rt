@@ -4,7 +4,7 @@ use guard_eval::{ConjunctList, Leaf, Place, Signed};
 use join_base::{Bytes, Items, Name, NoMemory};
 use pattern_core::Definition;
 use plan_text::print_plan;
-use script_check::read_plan;
+use script_check::{read_plan, read_plan_text};
 use script_types::{ActorPlan, Item, Plan, Rule, Statement};
 use std::alloc::Global;
 
@@ -135,6 +135,18 @@ fn has_mixed_one_form(alloc: Global) -> Result<bool, NoMemory> {
 
 fn is_teller_printed(alloc: Global) -> Result<bool, NoMemory> {
     is_printed(alloc, TELLER_TEXT, TELLER_TEXT)
+}
+
+fn is_teller_read(alloc: Global) -> bool {
+    match read_plan_text(alloc, TELLER_TEXT) {
+        Ok(text) => text.bytes() == TELLER_TEXT,
+        Err(_) => false,
+    }
+}
+
+#[test]
+fn the_text_of_a_plan_is_read_without_the_plan(rt: HostRuntime) {
+    assert!(rt; is_teller_read(rt.alloc()));
 }
 
 #[test]
