@@ -10,10 +10,12 @@ use Rattle.join_command.specs.declared.reply.Reply.TheVariants as reply
 use Rattle.script_files.specs.declared.stop.Stop.{Stop}
 use Rattle.script_files.specs.declared.stop.Stop.TheVariants as stop
 use Rattle.script_types.specs.Typed.{IsTyped}
+use Rattle.plan_text.specs.PlanText.{plan_text}
+use Rattle.script_lint.specs.LintText.{lint_text}
 use Rattle.script_files.specs.Files.{file_of, log_of}
-use Rattle.script_files.specs.Verdict.{Feeds, FeedsAnswer, Given, IsBeginning, Asks, Runs, Watches, Refused, ScriptGives, Verdict, fetched, feeds_answer}
-use Rattle.join_command.specs.Verdict.{MayAsk, MayAskRun, OfCommand, OfRun, Outcome, asks_feeds, asks_nothing, asks_script, replay_asks_nothing, replay_asks_script, replay_asks_log, limits_of, run_of}
-use Rattle.script_files.specs.Loading.{LoadsFeeds, LoadsScript, ReadsFeeds, StopsFeeds, StopsScript, Tells, stopped_by}
+use Rattle.script_files.specs.Verdict.{Feeds, FeedsAnswer, Given, IsBeginning, Asks, Checks, Lints, OfScript, Runs, Watches, Refused, ScriptGives, Verdict, fetched, feeds_answer}
+use Rattle.join_command.specs.Verdict.{MayAsk, MayAskRun, MayAskScript, OfCommand, OfRun, Outcome, asks_feeds, asks_nothing, asks_script, replay_asks_nothing, replay_asks_script, replay_asks_log, limits_of, run_of}
+use Rattle.script_files.specs.Loading.{LoadsFeeds, LoadsScript, LoadsText, ReadsFeeds, StopsFeeds, StopsScript, Tells, stopped_by}
 use Rattle.join_command.specs.Loading.{LoadsLog, ReadsLog}
 use Rattle.join_command.specs.Replying.{OfStop, Replies, replied_with, verdict_of}
 
@@ -124,35 +126,46 @@ module _ (run : RunWords) (monitors : ℕ) where
         → Tells before now (λ b n. Replies (Watch run monitors) b n (Ok (reply.Watch plan run.options all monitors)))
     watch_replied before mid now all = loaded_replied (Watch run monitors) run Watches (λ files names m. m) (λ files verdict o. o) plan all (reply.Watch plan run.options all monitors) refl before mid now
 
--- ---- `check`
+-- ---- `check` and `lint`, which give a text of the script's plan
+
+module _ (command : Command) (name : List ℕ) (view : Plan → List ℕ) (outcome : List ℕ → Verdict) (may : (files : Files) (names : List (List ℕ)) → MayAskScript name names → MayAsk files command names)
+    (of : (files : Files) (verdict : Verdict) → OfScript (file_of files name) (λ plan v. v ≡ outcome (view plan)) verdict → OfCommand files command verdict) where
+  text_refused : (files : Files) (o : Option Verdict) → StopsScript (file_of files name) o → OfStop files command o
+  text_refused files None is = tt
+  text_refused files (Some verdict) is = of files verdict (inl is)
+
+  as_script : (before now : Told) (why : Stop) → LoadsText view before now name (Err why) → LoadsScript before now name (Err why)
+  as_script before now why loaded = record { asks = loaded.asks; answer = loaded.answer }
+
+  text_stopped : (before now : Option Told) (why : Stop) → Tells before now (λ b n. LoadsText view b n name (Err why)) → Tells before now (λ b n. Replies command b n (Err why))
+  text_stopped None now why loaded = tt
+  text_stopped (Some before) None why loaded = absurd loaded
+  text_stopped (Some before) (Some now) why loaded = stops command name (λ files. may files [] (inl refl)) (λ files. may files (name ∷ []) (inr refl)) text_refused before now why (as_script before now why loaded)
+
+  text_replied : (answer : Reply) (text : List ℕ) → verdict_of answer ≡ outcome text → (before now : Option Told) → Tells before now (λ b n. LoadsText view b n name (Ok text)) → Tells before now (λ b n. Replies command b n (Ok answer))
+  text_replied answer text same None now loaded = tt
+  text_replied answer text same (Some before) None loaded = absurd loaded
+  text_replied answer text same (Some before) (Some now) loaded =
+      let given = loaded.answer in
+      record {
+        asked = name ∷ [];
+        told_is = loaded.asks;
+        may_ask = may before.files (name ∷ []) (inr refl);
+        verdict = of before.files (verdict_of answer) (inr (given.0, given.1, same ∙ ap outcome (given.2)));
+      }
 
 module _ (name : List ℕ) where
-  check_refused : (files : Files) (o : Option Verdict) → StopsScript (file_of files name) o → OfStop files (Check name) o
-  check_refused files None is = tt
-  check_refused files (Some verdict) is = inl is
+  pub check_stopped : (before now : Option Told) (why : Stop) → Tells before now (λ b n. LoadsText plan_text b n name (Err why)) → Tells before now (λ b n. Replies (Check name) b n (Err why))
+  check_stopped = text_stopped (Check name) name plan_text (λ text. Checks text) (λ files names m. m) (λ files verdict o. o)
 
-  pub check_stopped : (before now : Option Told) (why : Stop) → Tells before now (λ b n. LoadsScript b n name (Err why)) → Tells before now (λ b n. Replies (Check name) b n (Err why))
-  check_stopped = stopped (Check name) name (λ files. inl refl) (λ files. inr refl) check_refused
+  pub plan_checked : (text : List ℕ) (before now : Option Told) → Tells before now (λ b n. LoadsText plan_text b n name (Ok text)) → Tells before now (λ b n. Replies (Check name) b n (Ok (reply.Check text)))
+  plan_checked text = text_replied (Check name) name plan_text (λ text. Checks text) (λ files names m. m) (λ files verdict o. o) (reply.Check text) text refl
 
-  pub plan_checked : (plan : Plan) (before now : Option Told) → Tells before now (λ b n. LoadsScript b n name (Ok plan)) → Tells before now (λ b n. Replies (Check name) b n (Ok (reply.Check plan)))
-  plan_checked plan None now loaded = tt
-  plan_checked plan (Some before) None loaded = absurd loaded
-  plan_checked plan (Some before) (Some now) loaded = record { asked = name ∷ []; told_is = loaded.asks; may_ask = inr refl; verdict = inr (plan, loaded.answer, refl) }
+  pub lint_stopped : (before now : Option Told) (why : Stop) → Tells before now (λ b n. LoadsText lint_text b n name (Err why)) → Tells before now (λ b n. Replies (Lint name) b n (Err why))
+  lint_stopped = text_stopped (Lint name) name lint_text (λ text. Lints text) (λ files names m. m) (λ files verdict o. o)
 
--- ---- `lint`
-
-module _ (name : List ℕ) where
-  lint_refused : (files : Files) (o : Option Verdict) → StopsScript (file_of files name) o → OfStop files (Lint name) o
-  lint_refused files None is = tt
-  lint_refused files (Some verdict) is = inl is
-
-  pub lint_stopped : (before now : Option Told) (why : Stop) → Tells before now (λ b n. LoadsScript b n name (Err why)) → Tells before now (λ b n. Replies (Lint name) b n (Err why))
-  lint_stopped = stopped (Lint name) name (λ files. inl refl) (λ files. inr refl) lint_refused
-
-  pub plan_linted : (plan : Plan) (before now : Option Told) → Tells before now (λ b n. LoadsScript b n name (Ok plan)) → Tells before now (λ b n. Replies (Lint name) b n (Ok (reply.Lint plan)))
-  plan_linted plan None now loaded = tt
-  plan_linted plan (Some before) None loaded = absurd loaded
-  plan_linted plan (Some before) (Some now) loaded = record { asked = name ∷ []; told_is = loaded.asks; may_ask = inr refl; verdict = inr (plan, loaded.answer, refl) }
+  pub plan_linted : (text : List ℕ) (before now : Option Told) → Tells before now (λ b n. LoadsText lint_text b n name (Ok text)) → Tells before now (λ b n. Replies (Lint name) b n (Ok (reply.Lint text)))
+  plan_linted text = text_replied (Lint name) name lint_text (λ text. Lints text) (λ files names m. m) (λ files verdict o. o) (reply.Lint text) text refl
 
 -- ---- `replay`
 

@@ -5,6 +5,8 @@ use Rattle.std.proofs.lemmas.Bool.Decides.{nat_tests}
 use Rattle.join_base.specs.Outside.{Files}
 use Rattle.script_types.specs.declared.plan.Plan.{Plan}
 use Rattle.script_types.specs.Typed.{IsTyped}
+use Rattle.plan_text.specs.PlanText.{plan_text}
+use Rattle.script_lint.specs.LintText.{lint_text}
 use Rattle.fair_semantics.specs.declared.run.Run.{Run as WholeRun}
 use Rattle.log_reader.specs.Log.{FaultsAreOneLine, LogsAreOneRun}
 use Rattle.log_replay.specs.Check.{Checks as LogChecks, arrival_count}
@@ -102,11 +104,11 @@ module _ (one : HaveOneAnswer) where
   command_once : (files : Files) (command : Command) (v w : Verdict) → OfCommand files command v → OfCommand files command w → v ≡ w
   command_once files (Run run) v w a b =
       run_once files Runs run v w a b
-  command_once files (Check script) v w a b = script_once (file_of files script) (λ plan verdict. verdict ≡ Checks plan) (λ plan one other x y. x ∙ sym y) v w a b
+  command_once files (Check script) v w a b = script_once (file_of files script) (λ plan verdict. verdict ≡ Checks (plan_text plan)) (λ plan one other x y. x ∙ sym y) v w a b
   command_once files (Replay script log) v w a b =
       script_once (file_of files script) (λ plan verdict. IsTyped plan × OfLog plan (log_of files log) verdict) (λ plan first other x y. log_once plan x.0 (log_of files log) first other x.1 y.1) v w a b
   command_once files (Load rows) v w a b = a ∙ sym b
-  command_once files (Lint script) v w a b = script_once (file_of files script) (λ plan verdict. verdict ≡ Lints plan) (λ plan one other x y. x ∙ sym y) v w a b
+  command_once files (Lint script) v w a b = script_once (file_of files script) (λ plan verdict. verdict ≡ Lints (lint_text plan)) (λ plan one other x y. x ∙ sym y) v w a b
   command_once files (Ask run) v w a b = run_once files Asks run v w a b
   command_once files (Watch run monitors) v w a b = run_once files Watches run v w a b
 

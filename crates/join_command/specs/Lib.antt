@@ -1,7 +1,6 @@
 -- what `join_main` claims
 pub mod Command
 pub mod Verdict
-pub mod LintText
 pub mod Output
 pub mod Answer
 pub mod Counting

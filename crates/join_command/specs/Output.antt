@@ -23,10 +23,8 @@ use Rattle.script_files.specs.declared.stop.LogCause.TheVariants as log_cause
 use Rattle.building_load.specs.Building.{load_plan}
 use Rattle.building_load.specs.Rows.{load_feeds}
 use Rattle.building_load.specs.Summary.{summary_text}
-use Rattle.plan_text.specs.PlanText.{plan_text}
 use Rattle.join_command.specs.declared.status.Status.{Status}
 use Rattle.join_command.specs.declared.status.Status.TheVariants as status
-use Rattle.join_command.specs.LintText.{lint_text}
 use Rattle.script_files.specs.Verdict.{Feeds, Verdict, Usage, TooLong, ScriptRefused, FeedRefused, Checks, Lints, Runs, Asks, Watches, Loads, Accepts, LogRefused}
 use Rattle.join_command.specs.Verdict.{limits_of}
 
@@ -149,8 +147,8 @@ IsOutput Usage answer output = (answer ≡ status.Usage) × (output ≡ line (co
 IsOutput (TooLong file) answer output = (answer ≡ status.TooLong) × (output ≡ too_long_line file)
 IsOutput (ScriptRefused place why) answer output = (answer ≡ status.ScriptRefused) × (output ≡ script_line place why)
 IsOutput (FeedRefused feed row why) answer output = (answer ≡ status.FeedRefused) × (output ≡ feed_line feed row why)
-IsOutput (Checks plan) answer output = (answer ≡ status.Done) × (output ≡ plan_text plan)
-IsOutput (Lints plan) answer output = (answer ≡ status.Done) × (output ≡ lint_text plan)
+IsOutput (Checks text) answer output = (answer ≡ status.Done) × (output ≡ text)
+IsOutput (Lints text) answer output = (answer ≡ status.Done) × (output ≡ text)
 IsOutput (Runs plan limits feeds) answer output = IsLog plan limits feeds answer output
 IsOutput (Asks plan limits feeds) answer output = IsLogWithAnswers plan limits feeds answer output
 IsOutput (Watches plan limits feeds) answer output = IsLogWithTotals plan limits feeds answer output

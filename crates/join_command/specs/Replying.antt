@@ -24,19 +24,18 @@ pub record AreRunParts (plan : Plan) (limits : Limits) (feeds : Feeds) : Type 0 
   pub fits : AllByRecursion (AllByRecursion (PostFits plan)) feeds
 
 abbrev pub verdict_of : Reply → Verdict
-verdict_of (reply.Check plan) = Checks plan
-verdict_of (reply.Lint plan) = Lints plan
+verdict_of (reply.Check text) = Checks text
+verdict_of (reply.Lint text) = Lints text
 verdict_of (reply.Run plan options feeds) = Runs plan (limits_of options) feeds
 verdict_of (reply.Ask plan options feeds) = Asks plan (limits_of options) feeds
 verdict_of (reply.Watch plan options feeds monitors) = Watches plan (limits_of options) feeds
 verdict_of (reply.Load rows) = Loads rows
 verdict_of (reply.Accepted arrivals) = Accepts arrivals
 
--- a plan that is looked at is well typed, one that runs has its parts and numbers in their ranges, and feeds of the
--- building have 1 to 20,000 rows
+-- a plan that runs has its parts and numbers in their ranges, and feeds of the building have 1 to 20,000 rows
 abbrev pub IsRunnable : Reply → Type 0
-IsRunnable (reply.Check plan) = Unit {0}
-IsRunnable (reply.Lint plan) = IsTyped plan
+IsRunnable (reply.Check text) = Unit {0}
+IsRunnable (reply.Lint text) = Unit {0}
 IsRunnable (reply.Run plan options feeds) = AreRunParts plan (limits_of options) feeds × AreInRange options
 IsRunnable (reply.Ask plan options feeds) = AreRunParts plan (limits_of options) feeds × AreInRange options
 IsRunnable (reply.Watch plan options feeds monitors) = AreRunParts plan (limits_of options) feeds × AreInRange options × IsFrom1To 8 monitors

@@ -1,9 +1,11 @@
--- What words and files come to: the first refusal in the order in which the files are fetched, a plan that is checked
--- or looked at, a run, the building's run, or a log that is accepted.
+-- What words and files come to: the first refusal in the order in which the files are fetched, the text of a plan or of
+-- its findings, a run, the building's run, or a log that is accepted.
 use Rattle.std.specs.Prelude.{◌≡◌, ◌⊎◌, ℕ, List, [], ◌∷◌, Option, None, Some, Result, Ok, Err}
 use Rattle.join_base.specs.Outside.{Files}
 use Rattle.script_types.specs.declared.plan.Plan.{Plan}
 use Rattle.script_types.specs.Typed.{IsTyped}
+use Rattle.plan_text.specs.PlanText.{plan_text}
+use Rattle.script_lint.specs.LintText.{lint_text}
 use Rattle.log_replay.specs.Check as replaying
 use Rattle.log_replay.specs.declared.refusal.LogRefusal.{LogRefusal}
 use Rattle.log_replay.specs.declared.refusal.LogRefusal.TheVariants as refusal
@@ -55,14 +57,14 @@ abbrev pub OfRun : Outcome → Files → RunWords → Verdict → Type 0
 OfRun outcome files run verdict = OfScript (file_of files run.script) (λ plan verdict. run_of outcome plan (limits_of run.options) (feeds_answer files plan 1 run.feeds) ≡ Some verdict) verdict
 
 abbrev pub OfCheck : Files → List ℕ → Verdict → Type 0
-OfCheck files script verdict = OfScript (file_of files script) (λ plan verdict. verdict ≡ Checks plan) verdict
+OfCheck files script verdict = OfScript (file_of files script) (λ plan verdict. verdict ≡ Checks (plan_text plan)) verdict
 
 -- the plan of a script is well typed
 abbrev pub OfReplay : Files → List ℕ → List ℕ → Verdict → Type 0
 OfReplay files script log verdict = OfScript (file_of files script) (λ plan verdict. IsTyped plan × OfLog plan (log_of files log) verdict) verdict
 
 abbrev pub OfLint : Files → List ℕ → Verdict → Type 0
-OfLint files script verdict = OfScript (file_of files script) (λ plan verdict. verdict ≡ Lints plan) verdict
+OfLint files script verdict = OfScript (file_of files script) (λ plan verdict. verdict ≡ Lints (lint_text plan)) verdict
 
 abbrev pub OfCommand : Files → Command → Verdict → Type 0
 OfCommand files (Run run) verdict = OfRun Runs files run verdict

@@ -21,7 +21,6 @@ mod ask;
 mod command;
 mod count;
 mod law;
-mod lint_text;
 mod output;
 mod replay;
 mod reply;

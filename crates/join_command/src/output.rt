@@ -2,9 +2,6 @@
 ghost use Rattle.std.specs.Prelude.{◌≡◌, ◌≤◌, IfOk, codes};
 ghost use Rattle.std.specs.List.{list_any};
 ghost use Rattle.command_words.specs.Ranges.{AreInRange};
-ghost use Rattle.plan_text.specs.PlanText.{plan_text};
-ghost use Rattle.script_types.specs.Typed.{IsTyped};
-ghost use Rattle.join_command.specs.LintText.{lint_text};
 ghost use Rattle.script_files.specs.Loading.{refused_as};
 ghost use Rattle.join_command.specs.Output.{IsLog, IsOutput, IsSettled, IsSummary, accepted_line, cause_name, feed_line, line, log_cause_name, log_line, met_limit, row_cause_name, run_status, script_line, too_long_line};
 ghost use Rattle.join_command.specs.Replying.{AreRunParts, IsRunnable, verdict_of};
@@ -12,7 +9,6 @@ ghost use Rattle.join_command.specs.Verdict.{limits_of};
 
 use crate::ask::ask_output;
 use crate::count::write_count;
-use crate::lint_text::print_findings;
 use crate::reply::Reply;
 use crate::run::run_feeds;
 use crate::status::Status;
@@ -23,7 +19,6 @@ use building_load::{load_feeds, load_plan, summary};
 use command_words::RunOptions;
 use fair_semantics::{ActorRun, Ending, Run};
 use join_base::{Bytes, FeedList, NoMemory};
-use plan_text::print_plan;
 use script_files::{LogCause, Refusal};
 use script_reader::ScriptCause;
 use script_types::Plan;
@@ -254,25 +249,6 @@ fn load_output<R: Threads + Wait + Sync, G: Gate>(
     Ok((status, bytes))
 }
 
-// The text of a plan.
-fn text_of_plan(alloc: Global, plan: &Plan) -> Result<Bytes, NoMemory>
-    ensures { IfOk result (λ bytes. bytes ≡ plan_text plan.now) }
-{
-    let mut bytes = Bytes::new(alloc);
-    print_plan(alloc, plan, &mut bytes)?;
-    Ok(bytes)
-}
-
-// The report of a plan's findings.
-fn text_of_findings(alloc: Global, plan: &Plan) -> Result<Bytes, NoMemory>
-    requires typed { IsTyped plan.now }
-    ensures { IfOk result (λ bytes. bytes ≡ lint_text plan.now) }
-{
-    let mut bytes = Bytes::new(alloc);
-    print_findings(alloc, plan, &mut bytes)?;
-    Ok(bytes)
-}
-
 /// The status of a reply, and what is written for it. It may wait where the reply is a run. The view is shown the
 /// totals of a run that is watched.
 pub fn output_of<R: Threads + Wait + Sync, G: Gate, V: View<R> + Sync>(
@@ -287,8 +263,8 @@ pub fn output_of<R: Threads + Wait + Sync, G: Gate, V: View<R> + Sync>(
     ensures settled { IfOk result (λ p. IsSettled p.0) }
 {
     match reply {
-        Reply::Check(plan) => Ok((Status::Done, text_of_plan(alloc, &plan)?)),
-        Reply::Lint(plan) => Ok((Status::Done, text_of_findings(alloc, &plan)?)),
+        Reply::Check(text) => Ok((Status::Done, text)),
+        Reply::Lint(text) => Ok((Status::Done, text)),
         Reply::Run {
             plan,
             options,

@@ -9,18 +9,18 @@ ghost use Rattle.join_command.specs.Replying.{IsRunnable, Replies};
 
 use crate::replay::load_log;
 use command_words::{Request, RunOptions, RunWords};
-use join_base::{FeedList, Inputs, Word};
-use script_files::{Stop, load_feeds, load_script};
+use join_base::{Bytes, FeedList, Inputs, Word};
+use script_files::{Stop, load_feeds, load_lint_text, load_plan_text, load_script};
 use script_types::Plan;
 use std::alloc::Global;
 
-/// What is to be printed, looked at or run.
+/// What is to be written or run.
 #[derive(Drop)]
 pub enum Reply {
-    /// The plan of a script that is checked.
-    Check(Plan),
-    /// The plan of a script whose findings are listed.
-    Lint(Plan),
+    /// The text of a script's plan.
+    Check(Bytes),
+    /// The text of the findings of a script's plan.
+    Lint(Bytes),
     /// A plan that runs by the options, with the posts of its feeds.
     Run {
         plan: Plan,
@@ -125,9 +125,9 @@ fn check_reply<I: Inputs>(alloc: Global, inputs: &mut I, script: &Word) -> Resul
     ensures cause { LoadCause (I.faults inputs.old) (I.faults inputs.new) result }
     ensures runnable { IfOk result IsRunnable }
 {
-    match load_script(alloc, inputs, script) {
+    match load_plan_text(alloc, inputs, script) {
         Err(stop) => Err(stop),
-        Ok(plan) => Ok(Reply::Check(plan)),
+        Ok(text) => Ok(Reply::Check(text)),
     }
 }
 
@@ -138,9 +138,9 @@ fn lint_reply<I: Inputs>(alloc: Global, inputs: &mut I, script: &Word) -> Result
     ensures cause { LoadCause (I.faults inputs.old) (I.faults inputs.new) result }
     ensures runnable { IfOk result IsRunnable }
 {
-    match load_script(alloc, inputs, script) {
+    match load_lint_text(alloc, inputs, script) {
         Err(stop) => Err(stop),
-        Ok(plan) => Ok(Reply::Lint(plan)),
+        Ok(text) => Ok(Reply::Lint(text)),
     }
 }
 

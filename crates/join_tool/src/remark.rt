@@ -1,10 +1,11 @@
 //! What is remarked besides a good answer: definitions that keep too much, and quotes that are never closed.
 use command_words::Request;
 use fault_places::{Tie, feed_remark, push_tie};
-use join_base::{Bytes, NoMemory, Word};
+use join_base::{Bytes, Name, NoMemory, Word};
 use join_command::MAX_LOG;
-use script_check::read_plan;
+use script_check::{checked_outline, visit_script};
 use script_hints::{Script, script_of};
+use script_plan::{PlanVisitor, plan_heads};
 use script_types::{Plan, Rule};
 use std::alloc::Global;
 use system_files::read_again;
@@ -40,34 +41,74 @@ fn tie_of<'a>(plan: &'a Plan, rule: &'a Rule, tied: &Tied) -> Tie<'a> {
     }
 }
 
-// Appends what is remarked of a definition.
-fn push_rule(
-    alloc: Global,
-    out: &mut Bytes,
-    name: &str,
-    script: &Script<'_>,
-    plan: &Plan,
+// Appends what is remarked of each definition that it takes. The heads are the plan without its definitions, which has
+// the names.
+#[derive(Drop)]
+struct Remarks<'a> {
+    name: &'a str,
+    script: &'a Script<'a>,
+    heads: &'a Plan,
     actor: usize,
     number: usize,
-    rule: &Rule,
-) -> Result<(), NoMemory> {
-    let pairs = tied_pairs(alloc, &rule.definition)?;
-    for tied in pairs.as_slice() {
-        push_tie(out, name, script, actor, number, tie_of(plan, rule, tied))?;
-    }
-    Ok(())
+    out: Bytes,
 }
 
-// What is remarked of the definitions of a plan.
-fn plan_remark(alloc: Global, name: &str, text: &[u8], plan: &Plan) -> Result<Bytes, NoMemory> {
-    let script = script_of(alloc, text)?;
-    let mut out = Bytes::new(alloc);
-    for (place, actor) in plan.actors.as_slice().iter().enumerate() {
-        for (number, rule) in actor.rules.as_slice().iter().enumerate() {
-            push_rule(alloc, &mut out, name, &script, plan, place, number, rule)?;
-        }
+impl<'a> PlanVisitor for Remarks<'a> {
+    ghost Taken = { Unit {0} };
+
+    ghost taken = { λ s. tt };
+
+    ghost with_actor = { λ taken name. taken };
+
+    ghost with_rule = { λ taken rule. taken };
+
+    ghost with_end = { λ taken name. taken };
+
+    fn begin_actor(&mut self, _alloc: Global, _name: &Name) -> Result<(), NoMemory> {
+        self.number = 0;
+        Ok(())
     }
-    Ok(out)
+
+    fn take_rule(&mut self, alloc: Global, rule: Rule) -> Result<(), NoMemory> {
+        let pairs = tied_pairs(alloc, &rule.definition)?;
+        for tied in pairs.as_slice() {
+            let tie = tie_of(self.heads, &rule, tied);
+            push_tie(
+                &mut self.out,
+                self.name,
+                self.script,
+                self.actor,
+                self.number,
+                tie,
+            )?;
+        }
+        self.number = self.number.saturating_add(1);
+        Ok(())
+    }
+
+    fn end_actor(&mut self, _alloc: Global, _name: Name) -> Result<(), NoMemory> {
+        self.actor = self.actor.saturating_add(1);
+        Ok(())
+    }
+}
+
+// What is remarked of the definitions of a script, and nothing of one with a fault.
+fn text_remark(alloc: Global, name: &str, text: &[u8]) -> Result<Bytes, NoMemory> {
+    let Ok(outline) = checked_outline(alloc, text) else {
+        return Ok(Bytes::new(alloc));
+    };
+    let heads = plan_heads(alloc, &outline)?;
+    let script = script_of(alloc, text)?;
+    let mut remarks = Remarks {
+        name,
+        script: &script,
+        heads: &heads,
+        actor: 0,
+        number: 0,
+        out: Bytes::new(alloc),
+    };
+    visit_script(alloc, text, &outline, &mut remarks)?;
+    Ok(remarks.out)
 }
 
 /// What is remarked of the definitions of a script that can be read again.
@@ -76,10 +117,7 @@ pub fn script_remark(rt: &HostRuntime, name: &Word) -> Result<Bytes, NoMemory> {
     let Some(text) = read_again(rt, name.as_str(), MAX_LOG) else {
         return Ok(Bytes::new(alloc));
     };
-    match read_plan(alloc, text.bytes()) {
-        Ok(plan) => plan_remark(alloc, name.as_str(), text.bytes(), &plan),
-        Err(_) => Ok(Bytes::new(alloc)),
-    }
+    text_remark(alloc, name.as_str(), text.bytes())
 }
 
 // What is remarked of a feed that can be read again.

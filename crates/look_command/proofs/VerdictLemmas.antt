@@ -4,6 +4,8 @@ use Rattle.std.specs.Prelude.{Result, Ok, Err, codes}
 use Rattle.join_base.specs.Outside.{Files}
 use Rattle.script_types.specs.declared.plan.Plan.{Plan}
 use Rattle.script_types.specs.Typed.{IsTyped}
+use Rattle.script_check.specs.Script.{OneScriptPlan}
+use Rattle.plan_text.specs.PlanText.{plan_text}
 use Rattle.fair_semantics.specs.declared.run.Run.{Run}
 use Rattle.fair_semantics.specs.Linked.{IsLinked}
 use Rattle.log_reader.specs.Log.{IsLogOf}
@@ -27,33 +29,37 @@ use Rattle.script_files.specs.declared.stop.LogCause.TheVariants as log_cause
 use Rattle.look_command.specs.Request.{Request, Audit, Reactions, Why, request_of}
 use Rattle.look_command.specs.Verdict.{Verdict, Usual, OtherFeeds, OtherRow, IsReadRun, LogStops, OfFeeds, OfLog, OfReactions, OfRequest, OfRun, OfScript, OfWhy, OfWords, OneVerdict, RunStops, audited_as}
 
--- the verdicts of `check` and `replay` of `join_command` say what a script and a log come to
-module _ (one : usual.OneVerdict) (files : Files) where
+-- the words of `join_command` have one verdict, and a script has one plan
+pub record HaveOneAnswer : Type 0 where
+  pub verdict : usual.OneVerdict
+  pub plan : OneScriptPlan
+
+-- the verdicts of `check` and `replay` of `join_command` say what stops a script, and what a log comes to
+module _ (one : HaveOneAnswer) (files : Files) where
   check_once : (script : List ℕ) (v w : common.Verdict) → OfCheck files script v → OfCheck files script w → v ≡ w
-  check_once script v w a b = one (codes "check" ∷ codes "--" ∷ script ∷ []) files v w a b
+  check_once script v w a b = one.verdict (codes "check" ∷ codes "--" ∷ script ∷ []) files v w a b
 
   replay_once : (script log : List ℕ) (v w : common.Verdict) → OfReplay files script log v → OfReplay files script log w → v ≡ w
-  replay_once script log v w a b = one (codes "replay" ∷ codes "--" ∷ script ∷ log ∷ []) files v w a b
+  replay_once script log v w a b = one.verdict (codes "replay" ∷ codes "--" ∷ script ∷ log ∷ []) files v w a b
 
   -- ---- the script
+
+  plan_again : (file : File) (plan other : Plan) → ScriptGives file plan → ScriptGives file other → plan ≡ other
+  plan_again Absent plan other a b = absurd a
+  plan_again Long plan other a b = absurd a
+  plan_again (Holds bytes) plan other a b = one.plan bytes plan other a b
 
   module _ (script : List ℕ) where
     stop_once : (v w : common.Verdict) → ScriptStops (file_of files script) v → ScriptStops (file_of files script) w → v ≡ w
     stop_once v w a b = check_once script v w (inl a) (inl b)
 
-    same_plan : (plan other : Plan) → common.Checks plan ≡ common.Checks other → plan ≡ other
-    same_plan plan other is = cc
-
-    plan_once : (plan other : Plan) → ScriptGives (file_of files script) plan → ScriptGives (file_of files script) other → plan ≡ other
-    plan_once plan other a b = same_plan plan other (check_once script (common.Checks plan) (common.Checks other) (inr (plan, a, refl)) (inr (other, b, refl)))
-
-    no_stop : (file : File) (plan : Plan) (v : common.Verdict) → ScriptStops file v → common.Checks plan ≡ v → ⊥
-    no_stop Absent plan v stops is = stops
-    no_stop Long plan v stops is = let e : common.Checks plan ≡ common.TooLong 1 = is ∙ stops in absurd cc
-    no_stop (Holds bytes) plan v (place, cause, fault, told) is = let e : common.Checks plan ≡ common.ScriptRefused place cause = is ∙ told in absurd cc
+    no_stop : (file : File) (text : List ℕ) (v : common.Verdict) → ScriptStops file v → common.Checks text ≡ v → ⊥
+    no_stop Absent text v stops is = stops
+    no_stop Long text v stops is = let e : common.Checks text ≡ common.TooLong 1 = is ∙ stops in absurd cc
+    no_stop (Holds bytes) text v (place, cause, fault, told) is = let e : common.Checks text ≡ common.ScriptRefused place cause = is ∙ told in absurd cc
 
     no_plan : (plan : Plan) (v : common.Verdict) → ScriptGives (file_of files script) plan → ScriptStops (file_of files script) v → ⊥
-    no_plan plan v gives stops = no_stop (file_of files script) plan v stops (check_once script (common.Checks plan) v (inr (plan, gives, refl)) (inl stops))
+    no_plan plan v gives stops = no_stop (file_of files script) (plan_text plan) v stops (check_once script (common.Checks (plan_text plan)) v (inr (plan, gives, refl)) (inl stops))
 
     script_once : (of_plan : Plan → Verdict → Type 0) → ((plan : Plan) (v w : Verdict) → ScriptGives (file_of files script) plan → of_plan plan v → of_plan plan w → v ≡ w)
         → (v w : Verdict) → OfScript (file_of files script) of_plan v → OfScript (file_of files script) of_plan w → v ≡ w
@@ -62,7 +68,7 @@ module _ (one : usual.OneVerdict) (files : Files) where
     script_once of_plan once v w (inr (plan, gives, comes)) (inl (s, stops, is)) = absurd (no_plan plan s gives stops)
     script_once of_plan once v w (inr (plan, gives, comes)) (inr (other, given, also)) =
         let P : Plan → Type 0 = λ (p : Plan). of_plan p w in
-        once plan v w gives comes (subst P (plan_once other plan given gives) also)
+        once plan v w gives comes (subst P (plan_again (file_of files script) other plan given gives) also)
 
   -- ---- the log
 
@@ -203,5 +209,5 @@ module _ (one : usual.OneVerdict) (files : Files) where
   words_once None v w a b = a ∙ sym b
   words_once (Some request) v w a b = request_once request v w a b
 
-pub one_verdict : usual.OneVerdict → OneVerdict
+pub one_verdict : HaveOneAnswer → OneVerdict
 one_verdict one words files v w a b = words_once one files (request_of words) v w a b

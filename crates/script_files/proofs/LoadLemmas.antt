@@ -5,7 +5,7 @@ use Rattle.std.proofs.lemmas.Bool.Decides.{nat_tests}
 use Rattle.join_base.specs.declared.message.Message.{Message}
 use Rattle.join_base.specs.declared.outside.FetchFault.{FetchFault}
 use Rattle.join_base.specs.declared.outside.FetchFault.TheVariants as fetch
-use Rattle.join_base.specs.Outside.{Told, FetchTells, IsAsked, IsFetched, IsTooLong, content_of, with_asked}
+use Rattle.join_base.specs.Outside.{Files, Told, FetchTells, IsAsked, IsFetched, IsTooLong, content_of, with_asked}
 use Rattle.script_types.specs.declared.plan.Plan.{Plan}
 use Rattle.sensor_feed.specs.Feed.{feed_of}
 use Rattle.script_files.specs.declared.stop.Stop.{Stop}
@@ -13,7 +13,7 @@ use Rattle.script_files.specs.declared.stop.Stop.TheVariants as stop
 use Rattle.script_files.specs.declared.stop.Refusal.TheVariants as refusal
 use Rattle.script_files.specs.Files.{File, Long, Holds, file_within, file_of, max_file}
 use Rattle.script_files.specs.Verdict.{Refused, TooLong, ScriptStops, feed_answer, posts_or}
-use Rattle.script_files.specs.Loading.{Asks, LoadCause, LoadsFeed, LoadsScript, ReadsFeed, ReadsPlan, ReadsScript, StopsFeeds, StopsScript, Tells, fetch_stop, stopped_by}
+use Rattle.script_files.specs.Loading.{Asks, LoadCause, LoadsFeed, LoadsScript, LoadsText, ReadsFeed, ReadsPlan, ReadsPlanText, ReadsScript, ReadsText, StopsFeeds, StopsScript, Tells, fetch_stop, stopped_by}
 
 -- ---- a file by the bytes of its name
 
@@ -67,16 +67,44 @@ script_loaded (Some before) (Some now) name bytes result told short reads =
     let P : File → Type 0 = λ file. ReadsScript file result in
     record { asks = asks before now name result told.asked; answer = subst P (sym (file_short max_file (content_of before.files name) bytes told.fetched short)) (script_read bytes result reads) }
 
+-- a script that was not fetched
+unfetched : (files : Files) (name : List ℕ) (f : FetchFault) → IsFetched files name max_file (Err f) → StopsScript (file_of files name) (stopped_by (fetch_stop 1 f))
+unfetched files name fetch.Failed long = tt
+unfetched files name fetch.TooLong long = let P : File → Type 0 = λ file. ScriptStops file (TooLong 1) in subst P (sym (file_long max_file (content_of files name) long)) refl
+unfetched files name fetch.NoMemory long = tt
+
 pub script_unfetched : (before now : Option Told) (name : List ℕ) (fault : FetchFault) → FetchTells before now name max_file (Err fault)
     → Tells before now (λ b n. LoadsScript b n name (Err (fetch_stop 1 fault)))
 script_unfetched None now name fault told = tt
 script_unfetched (Some before) None name fault told = absurd told
-script_unfetched (Some before) (Some now) name fault told = record { asks = asks_unfetched Plan before now name fault (fetch_stop 1 fault) told.asked; answer = stops fault told.fetched }
-  where
-    stops : (f : FetchFault) → IsFetched before.files name max_file (Err f) → StopsScript (file_of before.files name) (stopped_by (fetch_stop 1 f))
-    stops fetch.Failed long = tt
-    stops fetch.TooLong long = let P : File → Type 0 = λ file. ScriptStops file (TooLong 1) in subst P (sym (file_long max_file (content_of before.files name) long)) refl
-    stops fetch.NoMemory long = tt
+script_unfetched (Some before) (Some now) name fault told = record { asks = asks_unfetched Plan before now name fault (fetch_stop 1 fault) told.asked; answer = unfetched before.files name fault told.fetched }
+
+-- ---- a text of a script's plan
+
+module _ (view : Plan → List ℕ) where
+  text_read : (bytes : List ℕ) (result : Result (List ℕ) Stop) → ReadsPlanText view bytes result → ReadsText view (Holds bytes) result
+  text_read bytes (Ok text) reads = reads
+  text_read bytes (Err (stop.Refused (refusal.TooLong file))) reads = absurd reads
+  text_read bytes (Err (stop.Refused (refusal.Script place cause))) reads = (place, cause, reads, refl)
+  text_read bytes (Err (stop.Refused (refusal.Feed feed row cause))) reads = absurd reads
+  text_read bytes (Err (stop.Refused (refusal.Log line cause))) reads = absurd reads
+  text_read bytes (Err stop.ReadFault) reads = absurd reads
+  text_read bytes (Err stop.NoMemory) reads = tt
+
+  pub text_loaded : (before now : Option Told) (name bytes : List ℕ) (result : Result (List ℕ) Stop)
+      → FetchTells before now name max_file (Ok bytes) → length bytes ≤ max_file → ReadsPlanText view bytes result
+      → Tells before now (λ b n. LoadsText view b n name result)
+  text_loaded None now name bytes result told short reads = tt
+  text_loaded (Some before) None name bytes result told short reads = absurd told
+  text_loaded (Some before) (Some now) name bytes result told short reads =
+      let P : File → Type 0 = λ file. ReadsText view file result in
+      record { asks = asks before now name result told.asked; answer = subst P (sym (file_short max_file (content_of before.files name) bytes told.fetched short)) (text_read bytes result reads) }
+
+  pub text_unfetched : (before now : Option Told) (name : List ℕ) (fault : FetchFault) → FetchTells before now name max_file (Err fault)
+      → Tells before now (λ b n. LoadsText view b n name (Err (fetch_stop 1 fault)))
+  text_unfetched None now name fault told = tt
+  text_unfetched (Some before) None name fault told = absurd told
+  text_unfetched (Some before) (Some now) name fault told = record { asks = asks_unfetched (List ℕ) before now name fault (fetch_stop 1 fault) told.asked; answer = unfetched before.files name fault told.fetched }
 
 -- ---- a feed
 

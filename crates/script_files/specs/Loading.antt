@@ -69,6 +69,16 @@ ReadsPlan bytes (Err (stop.Refused (refusal.Log line cause))) = ⊥
 ReadsPlan bytes (Err stop.ReadFault) = ⊥
 ReadsPlan bytes (Err stop.NoMemory) = Unit {0}
 
+-- what reading a text of the plan of these bytes answers
+abbrev pub ReadsPlanText : (Plan → List ℕ) → List ℕ → Result (List ℕ) Stop → Type 0
+ReadsPlanText view bytes (Ok text) = (plan : Plan) × GivesPlan bytes plan × (text ≡ view plan)
+ReadsPlanText view bytes (Err (stop.Refused (refusal.TooLong file))) = ⊥
+ReadsPlanText view bytes (Err (stop.Refused (refusal.Script place cause))) = IsScriptFault bytes place cause
+ReadsPlanText view bytes (Err (stop.Refused (refusal.Feed number row cause))) = ⊥
+ReadsPlanText view bytes (Err (stop.Refused (refusal.Log line cause))) = ⊥
+ReadsPlanText view bytes (Err stop.ReadFault) = ⊥
+ReadsPlanText view bytes (Err stop.NoMemory) = Unit {0}
+
 -- the name was asked, but perhaps not where something stops
 abbrev pub Asks : {X E : Type 0} → Told → Told → List ℕ → Result X E → Type 0
 Asks {X} {E} before now name (Ok x) = now ≡ with_asked before name
@@ -85,6 +95,15 @@ ReadsScript file (Err why) = StopsScript file (stopped_by why)
 pub record LoadsScript (before now : Told) (name : List ℕ) (result : Result Plan Stop) : Type 0 where
   pub asks : Asks before now name result
   pub answer : ReadsScript (file_of before.files name) result
+
+-- a text of the script's plan
+abbrev pub ReadsText : (Plan → List ℕ) → File → Result (List ℕ) Stop → Type 0
+ReadsText view file (Ok text) = (plan : Plan) × ScriptGives file plan × (text ≡ view plan)
+ReadsText view file (Err why) = StopsScript file (stopped_by why)
+
+pub record LoadsText (view : Plan → List ℕ) (before now : Told) (name : List ℕ) (result : Result (List ℕ) Stop) : Type 0 where
+  pub asks : Asks before now name result
+  pub answer : ReadsText view (file_of before.files name) result
 
 abbrev pub StopsFeeds : FeedsAnswer → Option Verdict → Type 0
 StopsFeeds given None = Unit {0}

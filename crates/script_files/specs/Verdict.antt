@@ -24,8 +24,8 @@ pub data Verdict : Type 0 where
   TooLong : (file : ℕ) → Verdict
   ScriptRefused : (place : ℕ) (cause : ScriptCause) → Verdict
   FeedRefused : (feed row : ℕ) (cause : FeedCause) → Verdict
-  Checks : (plan : Plan) → Verdict
-  Lints : (plan : Plan) → Verdict
+  Checks : (text : List ℕ) → Verdict
+  Lints : (text : List ℕ) → Verdict
   Runs : (plan : Plan) (limits : Limits) (feeds : Feeds) → Verdict
   Asks : (plan : Plan) (limits : Limits) (feeds : Feeds) → Verdict
   Watches : (plan : Plan) (limits : Limits) (feeds : Feeds) → Verdict

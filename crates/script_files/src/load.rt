@@ -1,15 +1,17 @@
 //! Fetching and reading the files of a command.
 ghost use Rattle.std.specs.Prelude.{◌≡◌, ◌≢◌, ◌≤◌, length, Err, IfOk};
 ghost use Rattle.std.specs.List.{AllByRecursion};
+ghost use Rattle.plan_text.specs.PlanText.{plan_text};
+ghost use Rattle.script_lint.specs.LintText.{lint_text};
 ghost use Rattle.script_types.specs.Typed.{IsTyped};
 ghost use Rattle.fair_semantics.specs.Fits.{PostFits};
 ghost use Rattle.sensor_feed.specs.Feed.{feed_of};
 ghost use Rattle.command_words.specs.Views.{words_in};
-ghost use Rattle.script_files.specs.Loading.{LoadCause, LoadsFeed, LoadsFeeds, LoadsScript, ReadsFeed, ReadsPlan, Tells, fetch_stop};
+ghost use Rattle.script_files.specs.Loading.{LoadCause, LoadsFeed, LoadsFeeds, LoadsScript, LoadsText, ReadsFeed, ReadsPlan, ReadsPlanText, Tells, fetch_stop};
 ghost use Rattle.script_files.specs.Verdict.{posts_or};
 
 use crate::stop::{Refusal, Stop};
-use join_base::{FeedList, FetchFault, Inputs, Posts, Word};
+use join_base::{Bytes, FeedList, FetchFault, Inputs, Posts, Word};
 use script_types::Plan;
 use sensor_feed::{FeedFault, read_feed};
 use std::alloc::Global;
@@ -45,6 +47,45 @@ pub fn load_script<I: Inputs>(alloc: Global, inputs: &mut I, name: &Word) -> Res
 {
     match inputs.fetch(alloc, name.as_str(), MAX_FILE) {
         Ok(file) => read_plan(alloc, file.bytes()),
+        Err(fault) => Err(fetch_stop(1, fault)),
+    }
+}
+
+// The text of the plan of a script's bytes.
+fn read_plan_text(alloc: Global, bytes: &[u8]) -> Result<Bytes, Stop>
+    ensures text { ReadsPlanText plan_text bytes.now result }
+{
+    Ok(script_check::read_plan_text(alloc, bytes)?)
+}
+
+/// Fetches a script and gives the text of its plan. No more than one definition of the plan is held at a time.
+pub fn load_plan_text<I: Inputs>(alloc: Global, inputs: &mut I, name: &Word) -> Result<Bytes, Stop>
+    ensures told { Tells (I.tells inputs.old) (I.tells inputs.new) (λ before now. LoadsText plan_text before now
+        name.now result) }
+    ensures cause { LoadCause (I.faults inputs.old) (I.faults inputs.new) result }
+{
+    match inputs.fetch(alloc, name.as_str(), MAX_FILE) {
+        Ok(file) => read_plan_text(alloc, file.bytes()),
+        Err(fault) => Err(fetch_stop(1, fault)),
+    }
+}
+
+// The text of the findings of the plan of a script's bytes.
+fn read_lint_text(alloc: Global, bytes: &[u8]) -> Result<Bytes, Stop>
+    ensures text { ReadsPlanText lint_text bytes.now result }
+{
+    Ok(script_check::read_lint_text(alloc, bytes)?)
+}
+
+/// Fetches a script and gives the text of its plan's findings. The definitions of no more than one actor are held at a
+/// time.
+pub fn load_lint_text<I: Inputs>(alloc: Global, inputs: &mut I, name: &Word) -> Result<Bytes, Stop>
+    ensures told { Tells (I.tells inputs.old) (I.tells inputs.new) (λ before now. LoadsText lint_text before now
+        name.now result) }
+    ensures cause { LoadCause (I.faults inputs.old) (I.faults inputs.new) result }
+{
+    match inputs.fetch(alloc, name.as_str(), MAX_FILE) {
+        Ok(file) => read_lint_text(alloc, file.bytes()),
         Err(fault) => Err(fetch_stop(1, fault)),
     }
 }

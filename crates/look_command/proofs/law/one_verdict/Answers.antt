@@ -6,4 +6,7 @@ pub returns : goal.returns
 returns c =
     let script = c.one_script.ensures in
     one_verdict
-    (usual_verdict (record { plan = script.plan; no_plan = script.both; fault = script.fault; log_run = c.one_run.ensures; log_fault = c.one_fault.ensures }))
+    (record {
+      verdict = usual_verdict (record { plan = script.plan; no_plan = script.both; fault = script.fault; log_run = c.one_run.ensures; log_fault = c.one_fault.ensures });
+      plan = script.plan;
+    })
