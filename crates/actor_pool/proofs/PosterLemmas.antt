@@ -44,10 +44,12 @@ All-begin P (y ∷ l) x h = All-cons P y l (All-head P y (l ++ x ∷ []) h) (All
 pub All-front : {X : Type 0} (P : X → Type 0) (xs ys : List X) (x : X) → xs ≡ ys ++ x ∷ [] → All P xs → All P ys
 All-front P xs ys x is all = All-begin P ys x (subst (All P) is all)
 
--- the last of what waits is done
-pub more-done : {X : Type 0} (all l ys done : List X) (x : X) → all ≡ done ++ reverse l → l ≡ ys ++ x ∷ [] → all ≡ (done ++ x ∷ []) ++ reverse ys
-more-done all l ys done x is last =
-    is ∙ ap (λ m. done ++ reverse m) last ∙ ap (λ m. done ++ m) (reverse-append ys (x ∷ [])) ∙ sym (append_assoc done (x ∷ []) (reverse ys))
+pub All-rest : {X : Type 0} (P : X → Type 0) (xs ys : List X) (x : X) → xs ≡ x ∷ ys → All P xs → All P ys
+All-rest P xs ys x is all = All-tail P x ys (subst (All P) is all)
+
+-- the first of what is left is done
+pub first-done : {X : Type 0} (all left rest done : List X) (x : X) → all ≡ done ++ left → left ≡ x ∷ rest → all ≡ (done ++ x ∷ []) ++ rest
+first-done all left rest done x is first = is ∙ ap (λ m. done ++ m) first ∙ sym (append_assoc done (x ∷ []) rest)
 
 pub ends-more : (made now : List ends.FeedLinks) (l ys : List Poster) (x : Poster) (all : List ends.FeedLinks) → made ++ map feed_ends (reverse l) ≡ all → l ≡ ys ++ x ∷ [] → now ≡ made ++ feed_ends x ∷ []
     → now ++ map feed_ends (reverse ys) ≡ all

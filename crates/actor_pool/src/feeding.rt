@@ -1,5 +1,5 @@
 //! A feed: its posts, one after the other.
-ghost use Rattle.std.specs.Prelude.{◌≡◌, ◌+◌, ◌<◌, ◌≤◌, OnOk, OnErr, All, length, reverse};
+ghost use Rattle.std.specs.Prelude.{◌≡◌, ◌+◌, ◌<◌, ◌≤◌, OnOk, OnErr, All, length};
 ghost use Rattle.post_ring.specs.Links.{stamped};
 ghost use Rattle.cell_links.specs.Ends.{SendsMore, SendsSame};
 ghost use Rattle.actor_pool.specs.Beside.{FitsSeen};
@@ -15,7 +15,8 @@ use crate::pool::Pool;
 use crate::poster::Poster;
 use crate::source::PoolQueue;
 use crate::turning::{TurnFault, turn_beside};
-use join_base::{Message, NoMemory, Posts, Steps};
+use feed_store::Feed;
+use join_base::{Message, NoMemory, Steps};
 use std::alloc::Global;
 use std::marker::Brand;
 use std::sync::Wait;
@@ -99,20 +100,20 @@ fn post_one<R: Wait, B: Beside<R>, L: Ledger>(
     unreachable!()
 }
 
-// Posts what waits, the last one first.
-fn post_waiting<R: Wait, B: Beside<R>, L: Ledger>(
+// Posts all posts of a feed in order.
+fn post_all<R: Wait, B: Beside<R>, L: Ledger>(
     rt: &R,
     alloc: Global,
     pool: &Pool,
     poster: &mut Poster,
     helper: &mut Helper,
     beside: &mut B,
-    mut waiting: Vec<(u32, Message)>,
+    posts: &Feed,
     blank: Blank,
 ) -> Result<(), NoMemory>
     requires poster { IsPosterOf pool.now poster.old }
     requires helper { IsHelperOf pool.now helper.old }
-    requires exist { All (λ post. post.0 < actor_count pool.now) waiting.items }
+    requires exist { All (λ post. post.0 < actor_count pool.now) posts.now }
     requires fits { FitsSeen B.fits (seat_of helper.old) beside.old }
     requires name { blank.name ≡ L.name }
     requires blank_parts { blank.parts ≡ L.parts }
@@ -120,13 +121,14 @@ fn post_waiting<R: Wait, B: Beside<R>, L: Ledger>(
     ensures poster { IsPosterOf pool.now poster.new }
     ensures tag { feed_tag poster.new ≡ feed_tag poster.old }
     ensures goes_on { HelperGoesOn pool.now helper.old helper.new }
-    ensures sent { OnOk result (SendsAll (feed_links poster.old) (reverse waiting.items) (feed_links poster.new)) }
-    ensures some { OnErr result (SendsSome (feed_links poster.old) (reverse waiting.items) (feed_links poster.new)) }
-    ensures tries { OnOk result ((seat_of helper.old).tries + length waiting.items ≤ (seat_of helper.new).tries) }
+    ensures sent { OnOk result (SendsAll (feed_links poster.old) posts.now (feed_links poster.new)) }
+    ensures some { OnErr result (SendsSome (feed_links poster.old) posts.now (feed_links poster.new)) }
+    ensures tries { OnOk result ((seat_of helper.old).tries + length posts.now ≤ (seat_of helper.new).tries) }
     ensures fits { FitsSeen B.fits (seat_of helper.new) beside.new }
 {
     let mut steps = Steps::<L>::new(blank);
-    while let Some((actor, message)) = waiting.pop() {
+    let mut rest = posts.reader();
+    'posts: while let Some((actor, message)) = rest.next(alloc)? {
         post_one(
             rt, alloc, pool, poster, helper, beside, actor, message, &mut steps,
         )?;
@@ -144,7 +146,7 @@ pub fn feed_beside<R: Wait, B: Beside<R>>(
     poster: &mut Poster,
     helper: &mut Helper,
     beside: &mut B,
-    posts: Posts,
+    posts: Feed,
 ) -> Result<(), NoMemory>
     requires poster { IsPosterOf pool.now poster.old }
     requires helper { IsHelperOf pool.now helper.old }
@@ -158,10 +160,8 @@ pub fn feed_beside<R: Wait, B: Beside<R>>(
     ensures tries { OnOk result ((seat_of helper.old).tries + length posts ≤ (seat_of helper.new).tries) }
     ensures fits { FitsSeen B.fits (seat_of helper.new) beside.new }
 {
-    let mut waiting = posts.into_vec();
-    waiting.reverse();
     let blank = Blank::new(1);
-    let fed = post_waiting::<R, B, Brand>(rt, alloc, pool, poster, helper, beside, waiting, blank);
+    let fed = post_all::<R, B, Brand>(rt, alloc, pool, poster, helper, beside, &posts, blank);
     pool.ended.fetch_add(1, Ordering::SeqCst);
     fed
 }
@@ -170,15 +170,15 @@ pub fn feed_beside<R: Wait, B: Beside<R>>(
 /// it takes a turn at that actor, or yields where another seat is at it, and posts again. From then on the feed has
 /// ended, whatever the answer.
 ///
-/// At `NoMemory` the posts of a beginning of the list were sent. It comes where a turn found no memory, of this call or
-/// of another thread of the pool, while a link was full. It may wait.
+/// At `NoMemory` the posts of a beginning of the list were sent. It comes where there was none for the next post, or
+/// where a turn found none, of this call or of another thread of the pool, while a link was full. It may wait.
 pub fn feed<R: Wait>(
     rt: &R,
     alloc: Global,
     pool: &Pool,
     poster: &mut Poster,
     helper: &mut Helper,
-    posts: Posts,
+    posts: Feed,
 ) -> Result<(), NoMemory>
     requires poster { IsPosterOf pool.now poster.old }
     requires helper { IsHelperOf pool.now helper.old }

@@ -12,7 +12,8 @@ use actor_pool::{FreeGate, PoolQueue};
 use answerer::Answerer;
 use ask_board::{Ask, AskBoard, AskView};
 use ask_run::run_asking;
-use join_base::{FeedList, NoMemory, Value};
+use feed_store::Feeds;
+use join_base::{NoMemory, Value};
 use pool_run::run_with;
 use script_check::read_plan;
 use script_types::Plan;
@@ -53,12 +54,12 @@ fn is_replied(board: &AskBoard, view: &mut AskView, number: i64) -> bool
 }
 
 // One feed with one row.
-fn one_row(alloc: Global, plan: &Plan) -> Result<FeedList, Fail>
+fn one_row(alloc: Global, plan: &Plan) -> Result<Feeds, Fail>
     requires typed { IsTyped plan.now }
     ensures count { IfOk result (λ feeds. length feeds ≡ 1) }
     ensures fits { IfOk result (AllByRecursion (AllByRecursion (PostFits plan.now))) }
 {
-    let mut feeds = FeedList::new(alloc);
+    let mut feeds = Feeds::new(alloc);
     feeds.push(read_feed(alloc, plan, b"m,q,4\n")?)?;
     Ok(feeds)
 }

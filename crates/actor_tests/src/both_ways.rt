@@ -6,7 +6,7 @@ ghost use Rattle.actor_turn.specs.Held.{AreLimits};
 
 use crate::cases::{Case, ten_cases, thousand, thousand_texts};
 use crate::fed::limits_of;
-use crate::one_thread::{feed_of, run_on_one_thread};
+use crate::one_thread::{feed_of, feeds_of, run_on_one_thread};
 use crate::whole_runs::same_run;
 use actor_pool::FreeGate;
 use fair_semantics::{Limits, Run};
@@ -43,7 +43,7 @@ fn run_in_pool<R: Threads + Wait + Sync>(
     requires ring { IsFrom1To 4096 ring }
     requires workers { workers ≤ 64 }
 {
-    let feeds = feed_of(alloc, plan, rows)?;
+    let feeds = feeds_of(alloc, plan, rows)?;
     let run = run_pool(rt, alloc, plan, limits, feeds, ring, workers, &FreeGate)?;
     Ok(run)
 }

@@ -190,7 +190,8 @@ fn come_to_the_log(
 {
     let rows = case.rows;
     let (front, back) = rows.split_at(place.min(rows.len()));
-    let posts = read_feed(alloc, plan, front)?;
+    let feed = read_feed(alloc, plan, front)?;
+    let posts = feed.unpacked(alloc)?;
     let rest = feed_of(alloc, plan, back)?;
     let (posted, run) = run_by_cells::<Brand>(
         alloc,

@@ -115,9 +115,9 @@ fn is_finished(
 fn message_of(alloc: Global, plan: &Plan, row: &[u8]) -> Result<Option<Message>, Fail>
     requires typed { IsTyped plan.now }
 {
-    let posts = read_feed(alloc, plan, row)?;
-    let mut posts = posts.into_vec();
-    match posts.pop() {
+    let feed = read_feed(alloc, plan, row)?;
+    let mut rest = feed.reader();
+    match rest.next(alloc)? {
         Some((_, message)) => Ok(Some(message)),
         None => Ok(None),
     }

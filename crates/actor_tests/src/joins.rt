@@ -280,7 +280,8 @@ fn posts_by(alloc: Global, plan: &Plan, messages: &[TestMessage]) -> Result<Post
     requires { IsTyped plan.now }
 {
     let feed = feed_of(alloc, messages)?;
-    let posts = read_feed(alloc, plan, feed.as_bytes())?;
+    let rows = read_feed(alloc, plan, feed.as_bytes())?;
+    let posts = rows.unpacked(alloc)?;
     Ok(posts)
 }
 

@@ -37,7 +37,8 @@ fn are_groups(posts: &Posts) -> bool {
 }
 
 fn has_groups_of_three(alloc: Global) -> Result<bool, NoMemory> {
-    let posts = load_feed(alloc, 26, 2)?;
+    let feed = load_feed(alloc, 26, 2)?;
+    let posts = feed.unpacked(alloc)?;
     Ok(are_groups(&posts))
 }
 

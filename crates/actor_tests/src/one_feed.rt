@@ -12,7 +12,8 @@ use crate::fed::limits_of;
 use crate::whole_runs::same_run;
 use actor_pool::{Helper, Pool, Poster, feed};
 use fair_semantics::{Limits, Run};
-use join_base::{NoMemory, Posts};
+use feed_store::Feed;
+use join_base::NoMemory;
 use log_reader::read_log;
 use pool_run::finish;
 use script_check::read_plan;
@@ -29,7 +30,7 @@ fn is_posted<R: Wait>(
     pool: &Pool,
     posters: &mut Vec<Poster>,
     helper: &mut Helper,
-    posts: Posts,
+    posts: Feed,
 ) -> bool
     requires some { 0 < length posters.old.items }
     requires own { All (IsPosterOf pool.now) posters.old.items }
@@ -51,7 +52,7 @@ fn fed_run<R: Wait>(
     alloc: Global,
     plan: &Plan,
     limits: Limits,
-    posts: Posts,
+    posts: Feed,
 ) -> Result<(bool, Run), NoMemory>
     requires typed { IsTyped plan.now }
     requires limits { AreLimits limits }

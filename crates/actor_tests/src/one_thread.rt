@@ -7,6 +7,7 @@ ghost use Rattle.actor_turn.specs.Held.{AreLimits};
 
 use actor_system::System;
 use fair_semantics::{Limits, Run};
+use feed_store::{Feeds, unpacked_all};
 use join_base::{FeedList, NoMemory, Steps};
 use script_types::Plan;
 use sensor_feed::read_feed;
@@ -15,17 +16,28 @@ use std::marker::Brand;
 use std::sync::ledger::{Blank, Ledger};
 use std::test::Fail;
 
-// The posts of a feed, which is the only one.
-pub fn feed_of(alloc: Global, plan: &Plan, rows: &[u8]) -> Result<FeedList, Fail>
+// The feed of these rows, which is the only one.
+pub fn feeds_of(alloc: Global, plan: &Plan, rows: &[u8]) -> Result<Feeds, Fail>
     requires typed { IsTyped plan.now }
     ensures one { IfOk result (λ feeds. length feeds ≡ 1) }
     ensures count { IfOk result (λ feeds. IsFrom1To 16 (length feeds)) }
     ensures fits { IfOk result (AllByRecursion (AllByRecursion (PostFits plan.now))) }
 {
     let posts = read_feed(alloc, plan, rows)?;
-    let mut feeds = FeedList::new(alloc);
+    let mut feeds = Feeds::new(alloc);
     feeds.push(posts)?;
     Ok(feeds)
+}
+
+// The same feed as a list of its posts.
+pub fn feed_of(alloc: Global, plan: &Plan, rows: &[u8]) -> Result<FeedList, Fail>
+    requires typed { IsTyped plan.now }
+    ensures one { IfOk result (λ feeds. length feeds ≡ 1) }
+    ensures fits { IfOk result (AllByRecursion (AllByRecursion (PostFits plan.now))) }
+{
+    let feeds = feeds_of(alloc, plan, rows)?;
+    let lists = unpacked_all(alloc, &feeds)?;
+    Ok(lists)
 }
 
 // The run that the system comes to.

@@ -3,6 +3,7 @@ ghost use Rattle.std.specs.Prelude.{◌≡◌, ◌<◌};
 use actor_system::System;
 use building_load::{load_feeds, load_plan};
 use fair_semantics::{ActorRun, Limits, Run};
+use feed_store::unpacked_all;
 use join_base::{NoMemory, Steps};
 use std::alloc::Global;
 use std::marker::Brand;
@@ -54,12 +55,13 @@ fn runs_building<L: Ledger>(alloc: Global, blank: Blank) -> Result<bool, NoMemor
 {
     let plan = load_plan(alloc)?;
     let feeds = load_feeds(alloc, 252)?;
+    let lists = unpacked_all(alloc, &feeds)?;
     let limits = Limits {
         arrivals: 50_000,
         partials: 65_536,
     };
     let mut steps = Steps::<L>::new(blank);
-    let system = System::new(alloc, &plan, limits, feeds)?;
+    let system = System::new(alloc, &plan, limits, lists)?;
     comes_to_building(alloc, system, &mut steps)
 }
 

@@ -104,7 +104,8 @@ fn plays_with<L: Ledger>(alloc: Global, case: Case<'_>, blank: Blank) -> Result<
 {
     let mut steps = Steps::<L>::new(blank);
     let plan = read_plan(alloc, case.script)?;
-    let posts = read_feed(alloc, &plan, case.feed)?;
+    let feed = read_feed(alloc, &plan, case.feed)?;
+    let posts = feed.unpacked(alloc)?;
     let mut actor = first_actor(alloc, &plan, limits_of(case.most.0, case.most.1))?;
     comes_to(alloc, &mut actor, &posts, case, &mut steps)
 }

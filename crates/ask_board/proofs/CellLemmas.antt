@@ -1,7 +1,7 @@
 -- A cell for each post, and which asks there are then.
 use Rattle.std.proofs.Common.{◌≡◌, ◌∙◌, ◌+◌, ◌-◌, ◌≤◌, ◌<◌, ◌⊎◌, inl, inr, ℕ, zero, suc, List, [], ◌∷◌, ◌++◌, true, false, Option, Some, None, IsSome, length, take, get_or, replicate, slice_get, slice_set, refl, sym, ap, add-zero, arith}
 use Rattle.std.specs.Prelude.{◌==◌, ◌↔◌, cond}
-use Rattle.std.proofs.lemmas.List.{length-replicate, length-set, length_push, take_all, take_more}
+use Rattle.std.proofs.lemmas.List.{length-replicate, length-set, append-nil, append_assoc, length_push, take_all, take_more}
 use Rattle.std.proofs.lemmas.List.Sums.{sum_by-append}
 use Rattle.std.specs.Option.{IsSomeAnd, option_and_then, option_map}
 use Rattle.std.proofs.lemmas.Bool.{cases_eq}
@@ -145,16 +145,43 @@ has_asks {C} n feeds rows h ask = by ask.feed refl
     by zero e = rw e ((λ is. absurd cc), (λ is. absurd is.1))
     by (suc k) e = rw e (at_feed k (feed_cells n feeds rows k h))
 
--- ---- one post more, by its place
+-- ---- one post more
 
-next_post : (posts : List (ℕ × Message)) (i : ℕ) (post : ℕ × Message) → i < length posts → post ≡ get_or posts i post → take (i + 1) posts ≡ take i posts ++ post ∷ []
-next_post posts i post l e = take_more posts i post l ∙ ap (λ (p : ℕ × Message). take i posts ++ p ∷ []) (sym e)
+-- the cells of the posts in front of those that are left
+abbrev pub HasCells : {C : Type 0} → ℕ → List (ℕ × Message) → List (ℕ × Message) → List (List C) → Type 0
+HasCells n posts left rows = (done : List (ℕ × Message)) × (posts ≡ done ++ left) × AreCellsOf n done rows
 
-pub cell_step : {C : Type 0} (n : ℕ) (posts : List (ℕ × Message)) (i : ℕ) (rows : List (List C)) (post : ℕ × Message) (row new : List C) (x : C) (after : List (List C)) → AreCellsOf n (take i posts) rows → i < length posts → post ≡ get_or posts i post → slice_get rows post.0 ≡ Some row → new ≡ row ++ x ∷ [] → after ≡ slice_set rows post.0 new → AreCellsOf n (take (i + 1) posts) after
-cell_step n posts i rows post row new x after h l e at more is = rw (next_post posts i post l e, is) (cell_more n (take i posts) rows post row new h at (ap length more ∙ length_push row x))
+-- the first post that is left is one to the actor, with some message
+abbrev pub IsFirst : ℕ → List (ℕ × Message) → List (ℕ × Message) → Type 0
+IsFirst target left rest = (message : Message) × (left ≡ (target, message) ∷ rest)
 
-pub pass_step : {C : Type 0} (n : ℕ) (posts : List (ℕ × Message)) (i : ℕ) (rows : List (List C)) (post : ℕ × Message) (after : List (List C)) → AreCellsOf n (take i posts) rows → i < length posts → post ≡ get_or posts i post → n ≤ post.0 → after ≡ rows → AreCellsOf n (take (i + 1) posts) after
-pass_step n posts i rows post after h l e past is = rw (next_post posts i post l e, is) (post_passed n (take i posts) rows post h past)
+pub cells_none : {C : Type 0} (n : ℕ) (posts left : List (ℕ × Message)) (rows : List (List C)) → left ≡ posts → rows ≡ replicate n [] → HasCells n posts left rows
+cells_none n posts left rows same none = ([], sym same, rw none (no_posts n))
+
+one_done : (posts left rest done : List (ℕ × Message)) (post : ℕ × Message) → posts ≡ done ++ left → left ≡ post ∷ rest → posts ≡ (done ++ post ∷ []) ++ rest
+one_done posts left rest done post is first = is ∙ ap (λ (ps : List (ℕ × Message)). done ++ ps) first ∙ sym (append_assoc done (post ∷ []) rest)
+
+pub cell_step : {C : Type 0} (n : ℕ) (posts left rest : List (ℕ × Message)) (rows : List (List C)) (target : ℕ) (row new : List C) (x : C) (after : List (List C)) → HasCells n posts left rows → IsFirst target left rest
+    → slice_get rows target ≡ Some row → new ≡ row ++ x ∷ [] → after ≡ slice_set rows target new → HasCells n posts rest after
+cell_step n posts left rest rows target row new x after h first at more is =
+    let post : ℕ × Message = (target, first.0) in (
+      h.0 ++ post ∷ [],
+      one_done posts left rest (h.0) post (h.1) (first.1),
+      rw is (cell_more n (h.0) rows post row new (h.2) at (ap length more ∙ length_push row x)),
+    )
+
+pub pass_step : {C : Type 0} (n : ℕ) (posts left rest : List (ℕ × Message)) (rows : List (List C)) (target : ℕ) (after : List (List C)) → HasCells n posts left rows → IsFirst target left rest → n ≤ target → after ≡ rows
+    → HasCells n posts rest after
+pass_step n posts left rest rows target after h first past is =
+    let post : ℕ × Message = (target, first.0) in
+    (h.0 ++ post ∷ [], one_done posts left rest (h.0) post (h.1) (first.1), rw is (post_passed n (h.0) rows post (h.2) past))
+
+pub cells_whole : {C : Type 0} (n : ℕ) (posts left : List (ℕ × Message)) (rows : List (List C)) → HasCells n posts left rows → left ≡ [] → AreCellsOf n posts rows
+cells_whole n posts left rows h none =
+    let whole : posts ≡ h.0 = h.1 ∙ ap (λ (ps : List (ℕ × Message)). h.0 ++ ps) none ∙ append-nil (h.0) in
+    rw whole (h.2)
+
+-- ---- one feed more, by its place
 
 pub cells_step : {C : Type 0} (n : ℕ) (feeds : List (List (ℕ × Message))) (i : ℕ) (rows after : Rows C) (posts : List (ℕ × Message)) (cells : List (List C)) → AreCells n (take i feeds) rows → i < length feeds → posts ≡ get_or feeds i posts → AreCellsOf n posts cells → after ≡ rows ++ cells ∷ [] → AreCells n (take (i + 1) feeds) after
 cells_step n feeds i rows after posts cells h l e own is =

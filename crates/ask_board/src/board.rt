@@ -10,7 +10,8 @@ ghost use Rattle.ask_board.specs.Board.{AreCellsOf, HasAsk, IsPost, IsViewOf, Kn
 
 use crate::same::same_value;
 use crate::view::{Ask, AskView};
-use join_base::{FeedList, Items, NoMemory, Posts, Value};
+use feed_store::{Feed, Feeds};
+use join_base::{Items, NoMemory, Value};
 use once_cell::race::{Note, OnceBox};
 use std::alloc::Global;
 
@@ -44,15 +45,16 @@ fn no_cells(alloc: Global, actors: u32) -> Result<Items<Items<OnceBox<Value>>>, 
 // A cell for each post of a feed to one of so many actors.
 fn cells_of_feed(
     alloc: Global,
-    posts: &Posts,
+    posts: &Feed,
     actors: u32,
 ) -> Result<Items<Items<OnceBox<Value>>>, NoMemory>
     ensures cells { IfOk result (λ rows. AreCellsOf actors posts.now rows) }
 {
     let mut rows = no_cells(alloc, actors)?;
-    for post in posts.as_slice() {
-        if post.0 < actors {
-            let row = rows.at_mut(post.0 as usize);
+    let mut rest = posts.reader();
+    while let Some(target) = rest.next_target() {
+        if target < actors {
+            let row = rows.at_mut(target as usize);
             row.push(OnceBox::new(alloc))?;
         }
     }
@@ -103,7 +105,7 @@ fn compared(found: &Value, value: Value) -> Result<(), AnswerFault>
 
 impl AskBoard {
     /// A cell for each post of the feeds to one of so many actors.
-    pub fn new(alloc: Global, feeds: &FeedList, actors: u32) -> Result<AskBoard, NoMemory>
+    pub fn new(alloc: Global, feeds: &Feeds, actors: u32) -> Result<AskBoard, NoMemory>
         ensures asks { IfOk result (λ board. (ask : OneAsk) → HasAsk board ask ↔ IsPost feeds.now actors ask) }
     {
         let mut cells = Items::new(alloc);

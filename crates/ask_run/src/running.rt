@@ -17,7 +17,8 @@ use actor_pool::{Gate, PoolQueue, TicketSource};
 use answerer::Answerer;
 use ask_board::AskBoard;
 use fair_semantics::{Limits, Run};
-use join_base::{FeedList, NoMemory};
+use feed_store::Feeds;
+use join_base::NoMemory;
 use pool_run::run_with;
 use script_types::Plan;
 use std::alloc::Global;
@@ -31,7 +32,7 @@ fn run_on<'a, R: Threads + Wait + Sync, G: Gate, S: TicketSource + Send + Drop, 
     alloc: Global,
     plan: &Plan,
     limits: Limits,
-    feeds: FeedList,
+    feeds: Feeds,
     ring: u32,
     sources: Vec<S>,
     board: &'a AskBoard,
@@ -86,7 +87,7 @@ pub fn run_asking<'a, R: Threads + Wait + Sync, G: Gate>(
     alloc: Global,
     plan: &Plan,
     limits: Limits,
-    feeds: FeedList,
+    feeds: Feeds,
     ring: u32,
     workers: u32,
     board: &'a AskBoard,

@@ -6,7 +6,8 @@ ghost use Rattle.building_load.specs.Building.{load_plan};
 ghost use Rattle.building_load.specs.Rows.{int, load_feed, load_feeds, row_at};
 
 use crate::plan::{CONTACT, LIGHT, MOTION};
-use join_base::{FeedList, Fields, Message, NoMemory, Posts, PushFault, Value};
+use feed_store::{Feed, Feeds};
+use join_base::{Fields, Message, NoMemory, PushFault, Value};
 use std::alloc::Global;
 
 // Pushes an integer into the values of a message that may have one more.
@@ -63,22 +64,22 @@ fn row_at(alloc: Global, actor: u32, place: u32) -> Result<(u32, Message), NoMem
 /// The posts of a hall of `load_plan`, which is the actor of the number before: a motion, a light and a contact in
 /// turn, each 10 later than the row before. Three rows are of one room, of seven in turn, and the light of four
 /// groups out of eight is below 40.
-pub fn load_feed(alloc: Global, rows: u32, hall: u32) -> Result<Posts, NoMemory>
+pub fn load_feed(alloc: Global, rows: u32, hall: u32) -> Result<Feed, NoMemory>
     requires rows { (1 ≤ rows) × (rows ≤ 20000) }
     requires hall { (1 ≤ hall) × (hall ≤ 4) }
     ensures posts { IfOk result (λ posts. posts ≡ load_feed rows hall) }
     ensures fits { IfOk result (AllByRecursion (PostFits load_plan)) }
 {
-    let mut posts = Posts::new(alloc);
+    let mut posts = Feed::new(alloc);
     for place in 0..rows {
         let row = row_at(alloc, hall - 1, place)?;
-        posts.push(row)?;
+        posts.push(row.0, &row.1)?;
     }
     Ok(posts)
 }
 
 // Pushes the posts of the four halls into an empty list.
-fn push_feeds(alloc: Global, feeds: &mut FeedList, rows: u32) -> Result<(), NoMemory>
+fn push_feeds(alloc: Global, feeds: &mut Feeds, rows: u32) -> Result<(), NoMemory>
     requires empty { feeds.old ≡ [] }
     requires rows { (1 ≤ rows) × (rows ≤ 20000) }
     ensures { OnOk result (feeds.new ≡ load_feeds rows) }
@@ -91,11 +92,11 @@ fn push_feeds(alloc: Global, feeds: &mut FeedList, rows: u32) -> Result<(), NoMe
 }
 
 /// The posts of the four halls, in order.
-pub fn load_feeds(alloc: Global, rows: u32) -> Result<FeedList, NoMemory>
+pub fn load_feeds(alloc: Global, rows: u32) -> Result<Feeds, NoMemory>
     requires rows { (1 ≤ rows) × (rows ≤ 20000) }
     ensures feeds { IfOk result (λ feeds. feeds ≡ load_feeds rows) }
 {
-    let mut feeds = FeedList::new(alloc);
+    let mut feeds = Feeds::new(alloc);
     push_feeds(alloc, &mut feeds, rows)?;
     Ok(feeds)
 }

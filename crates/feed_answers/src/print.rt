@@ -9,25 +9,27 @@ ghost use Rattle.feed_answers.specs.Queues.{HasNumbers, lines_by};
 
 use crate::queues::{Queue, next_answer, queues_of, replies_to_all};
 use fair_semantics::Run;
-use join_base::{Bytes, FeedList, Items, NoMemory, Posts, Value, write_number, write_quoted};
+use feed_store::{Feed, Feeds};
+use join_base::{Bytes, Items, NoMemory, Value, write_number, write_quoted};
 use std::alloc::Global;
 
 /// For each row of a feed the actor that it is for.
 pub type Targets = Items<u32>;
 
 // The actors of a feed's rows.
-fn targets_of(alloc: Global, posts: &Posts) -> Result<Targets, NoMemory>
+fn targets_of(alloc: Global, posts: &Feed) -> Result<Targets, NoMemory>
     ensures same { IfOk result (λ targets. targets ≡ targets_of posts.now) }
 {
     let mut targets = Items::new(alloc);
-    for post in posts.as_slice() {
-        targets.push(post.0)?;
+    let mut rest = posts.reader();
+    while let Some(target) = rest.next_target() {
+        targets.push(target)?;
     }
     Ok(targets)
 }
 
 /// The actors of the rows of each feed: all that is needed of the feeds once they have been run.
-pub fn all_targets(alloc: Global, feeds: &FeedList) -> Result<Items<Targets>, NoMemory>
+pub fn all_targets(alloc: Global, feeds: &Feeds) -> Result<Items<Targets>, NoMemory>
     ensures same { IfOk result (λ targets. targets ≡ map targets_of feeds.now) }
 {
     let mut targets = Items::new(alloc);

@@ -20,7 +20,8 @@ use ask_run::{print_told, run_asking};
 use command_words::RunOptions;
 use fair_semantics::Run;
 use feed_answers::{all_targets, numbered_law};
-use join_base::{Bytes, FeedList, NoMemory};
+use feed_store::Feeds;
+use join_base::{Bytes, NoMemory};
 use script_types::Plan;
 use std::alloc::Global;
 use std::mem;
@@ -34,7 +35,7 @@ fn ask_feeds<'a, R: Threads + Wait + Sync, G: Gate>(
     alloc: Global,
     plan: &Plan,
     options: RunOptions,
-    feeds: FeedList,
+    feeds: Feeds,
     board: &'a AskBoard,
     gate: &G,
 ) -> Result<(Run, Answerer<'a>), NoMemory>
@@ -61,7 +62,7 @@ pub(crate) fn ask_output<R: Threads + Wait + Sync, G: Gate>(
     alloc: Global,
     plan: &Plan,
     options: RunOptions,
-    feeds: FeedList,
+    feeds: Feeds,
     gate: &G,
 ) -> Result<(Status, Bytes), NoMemory>
     requires parts { AreRunParts plan.now (limits_of options) feeds }

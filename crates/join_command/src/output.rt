@@ -18,7 +18,8 @@ use arrival_log::print_log;
 use building_load::{load_feeds, load_plan, summary};
 use command_words::RunOptions;
 use fair_semantics::{ActorRun, Ending, Run};
-use join_base::{Bytes, FeedList, NoMemory};
+use feed_store::Feeds;
+use join_base::{Bytes, NoMemory};
 use script_files::{LogCause, Refusal};
 use script_reader::ScriptCause;
 use script_types::Plan;
@@ -209,7 +210,7 @@ fn run_output<R: Threads + Wait + Sync, G: Gate>(
     alloc: Global,
     plan: &Plan,
     options: RunOptions,
-    feeds: FeedList,
+    feeds: Feeds,
     gate: &G,
 ) -> Result<(Status, Bytes), NoMemory>
     requires parts { AreRunParts plan.now (limits_of options) feeds }

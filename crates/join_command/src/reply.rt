@@ -9,7 +9,8 @@ ghost use Rattle.join_command.specs.Replying.{IsRunnable, Replies};
 
 use crate::replay::load_log;
 use command_words::{Request, RunOptions, RunWords};
-use join_base::{Bytes, FeedList, Inputs, Word};
+use feed_store::Feeds;
+use join_base::{Bytes, Inputs, Word};
 use script_files::{Stop, load_feeds, load_lint_text, load_plan_text, load_script};
 use script_types::Plan;
 use std::alloc::Global;
@@ -25,19 +26,19 @@ pub enum Reply {
     Run {
         plan: Plan,
         options: RunOptions,
-        feeds: FeedList,
+        feeds: Feeds,
     },
     /// The same, where the answers of the rows are asked too.
     Ask {
         plan: Plan,
         options: RunOptions,
-        feeds: FeedList,
+        feeds: Feeds,
     },
     /// The same, where so many monitors watch, from 1 to 8, and the totals of the actors are asked.
     Watch {
         plan: Plan,
         options: RunOptions,
-        feeds: FeedList,
+        feeds: Feeds,
         monitors: u32,
     },
     /// How many rows each feed of the building has, from 1 to 20,000.

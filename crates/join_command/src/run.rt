@@ -9,7 +9,8 @@ ghost use Rattle.join_command.specs.Verdict.{limits_of};
 use actor_pool::Gate;
 use command_words::{Queueing, RunOptions};
 use fair_semantics::{Limits, Run};
-use join_base::{FeedList, NoMemory};
+use feed_store::Feeds;
+use join_base::NoMemory;
 use pool_run::{run_pool, run_stealing};
 use script_types::Plan;
 use std::alloc::Global;
@@ -35,7 +36,7 @@ pub fn run_feeds<R: Threads + Wait + Sync, G: Gate>(
     alloc: Global,
     plan: &Plan,
     options: RunOptions,
-    feeds: FeedList,
+    feeds: Feeds,
     gate: &G,
 ) -> Result<Run, NoMemory>
     requires parts { AreRunParts plan.now (limits_of options) feeds }

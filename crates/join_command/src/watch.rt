@@ -14,7 +14,8 @@ use actor_pool::Gate;
 use arrival_log::print_log;
 use command_words::RunOptions;
 use fair_semantics::Run;
-use join_base::{Bytes, FeedList, NoMemory};
+use feed_store::Feeds;
+use join_base::{Bytes, NoMemory};
 use live_board::Board;
 use script_types::Plan;
 use std::alloc::Global;
@@ -30,7 +31,7 @@ fn watch_feeds<R: Threads + Wait + Sync, G: Gate, V: View<R> + Sync>(
     alloc: Global,
     plan: &Plan,
     options: RunOptions,
-    feeds: FeedList,
+    feeds: Feeds,
     gate: &G,
     monitors: u32,
     view: &mut V,
@@ -61,7 +62,7 @@ pub(crate) fn watch_output<R: Threads + Wait + Sync, G: Gate, V: View<R> + Sync>
     alloc: Global,
     plan: &Plan,
     options: RunOptions,
-    feeds: FeedList,
+    feeds: Feeds,
     gate: &G,
     monitors: u32,
     view: &mut V,

@@ -12,6 +12,7 @@ use crate::reply::Reply;
 use crate::request::AuditWords;
 use crate::runs::refused;
 use difference_text::print_difference;
+use feed_store::{Feeds, unpacked_all};
 use join_base::{Bytes, FeedList, Inputs, NoMemory, Steps, Word};
 use join_command::{LogCause, MAX_LOG, Refusal, Stop, fetch_stop, load_feeds, load_script};
 use log_audit::{AuditRefusal, Difference, audit};
@@ -108,13 +109,25 @@ fn audit_counted<L: Ledger>(
     audited(alloc, plan, bytes, feeds, answer)
 }
 
-fn audit_bytes(alloc: Global, plan: &Plan, bytes: &[u8], feeds: &FeedList) -> Result<Reply, Stop>
+fn audit_lists(alloc: Global, plan: &Plan, bytes: &[u8], feeds: &FeedList) -> Result<Reply, Stop>
     requires typed { IsTyped plan.now }
     ensures answer { ReadsFeeds plan.now bytes.now (Given feeds.now) (replied_with result) }
     ensures read { result ≢ Err Stop.ReadFault }
     ensures showable { IfOk result IsShowable }
 {
     audit_counted::<Brand>(alloc, plan, bytes, feeds, Blank::new(1))
+}
+
+fn audit_bytes(alloc: Global, plan: &Plan, bytes: &[u8], feeds: &Feeds) -> Result<Reply, Stop>
+    requires typed { IsTyped plan.now }
+    ensures answer { ReadsFeeds plan.now bytes.now (Given feeds.now) (replied_with result) }
+    ensures read { result ≢ Err Stop.ReadFault }
+    ensures showable { IfOk result IsShowable }
+{
+    match unpacked_all(alloc, feeds) {
+        Ok(lists) => audit_lists(alloc, plan, bytes, &lists),
+        Err(NoMemory) => Err(Stop::NoMemory),
+    }
 }
 
 // Fetches a log.

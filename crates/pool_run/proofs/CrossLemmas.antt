@@ -48,6 +48,7 @@ use Rattle.script_types.specs.contracts.plan.Rule as Rule
 use Rattle.row_screens.specs.contracts.ties.Ties as Ties
 use Rattle.match_tree.specs.contracts.tree.MatchTree as MatchTree
 use Rattle.mailbox_core.specs.contracts.mailbox.Mailbox as Mailbox
+use Rattle.feed_store.specs.contracts.feed.Feed as Feed
 use Rattle.value_index.specs.contracts.valued.Valued as Valued
 use Rattle.value_index.specs.contracts.column.Column as Column
 use Rattle.value_index.specs.contracts.index.ValueIndex as ValueIndex
@@ -316,8 +317,11 @@ pool-sync = declared_sync Pool.the_type (search (sendable, crosses, shared-sync,
 
 -- ---- what threads are given and give back, where what stands beside and the sources may be sent
 
+feed-send : IsSend Feed.the_row
+feed-send = search (sendable, crosses) depth 40 fits 100000
+
 part-send : (B : RattleType) → IsSend B → IsSend (FeedPart.the_row B)
-part-send B s = declared_send (FeedPart.the_type B) (search (sendable, crosses, poster-send) depth 40, (search (sendable, crosses, helper-send) depth 40, (search (sendable, crosses, message-send) depth 40, (search (sendable, crosses) depth 40, tt))))
+part-send B s = declared_send (FeedPart.the_type B) (search (sendable, crosses, poster-send) depth 40, (search (sendable, crosses, helper-send) depth 40, (search (sendable, crosses, feed-send) depth 40, (search (sendable, crosses) depth 40, tt))))
 
 worker-send : (S B : RattleType) → IsSend S → IsSend B → IsSend (WorkPart.the_row S B)
 worker-send S B s t = declared_send (WorkPart.the_type S B) (search (sendable, crosses, helper-send) depth 40, (search (sendable, crosses) depth 40, (search (sendable, crosses) depth 40, tt)))

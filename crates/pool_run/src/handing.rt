@@ -9,7 +9,8 @@ ghost use Rattle.pool_run.specs.Running.{IsReady};
 
 use crate::parts::{FeedPart, HelperBack, WorkPart};
 use actor_pool::{Beside, Helper, Pool, Poster, TicketSource};
-use join_base::{FeedList, NoMemory};
+use feed_store::Feeds;
+use join_base::NoMemory;
 use std::alloc::Global;
 
 /// A part for each feed, in order: its poster, a helper, its posts, and what stands beside.
@@ -18,7 +19,7 @@ pub(crate) fn feed_parts<R, B: Beside<R> + Drop>(
     pool: &Pool,
     helper: &mut Helper,
     mut posters: Vec<Poster>,
-    feeds: FeedList,
+    feeds: Feeds,
     mut besides: Vec<B>,
 ) -> Result<Vec<FeedPart<B>>, NoMemory>
     requires own { IsHelperOf pool.now helper.old }

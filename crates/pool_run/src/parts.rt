@@ -1,14 +1,14 @@
 //! What threads are given, and what comes back.
 
 use actor_pool::{Helper, Poster};
-use join_base::Posts;
+use feed_store::Feed;
 
 /// What the thread of a feed is given.
 #[derive(Drop)]
 pub(crate) struct FeedPart<B> {
     pub(crate) poster: Poster,
     pub(crate) helper: Helper,
-    pub(crate) posts: Posts,
+    pub(crate) posts: Feed,
     pub(crate) beside: B,
 }
 

@@ -15,7 +15,8 @@ use crate::parts::Returned;
 use crate::threads::run_feeds;
 use actor_pool::{Beside, Gate, Nobody, Pool, PoolQueue, TicketSource};
 use fair_semantics::{Limits, Run};
-use join_base::{FeedList, NoMemory};
+use feed_store::Feeds;
+use join_base::NoMemory;
 use script_types::Plan;
 use std::alloc::Global;
 use std::sync::Wait;
@@ -38,7 +39,7 @@ pub fn run_with<
     alloc: Global,
     plan: &Plan,
     limits: Limits,
-    feeds: FeedList,
+    feeds: Feeds,
     ring: u32,
     besides: Vec<B>,
     workers: Vec<(S, B)>,
@@ -104,7 +105,7 @@ pub fn run_pool<R: Threads + Wait + Sync, G: Gate>(
     alloc: Global,
     plan: &Plan,
     limits: Limits,
-    feeds: FeedList,
+    feeds: Feeds,
     ring: u32,
     workers: u32,
     gate: &G,

@@ -12,7 +12,8 @@ ghost use Rattle.pool_run.specs.Stealing.{OwnsDeque};
 use crate::running::{nobody_for, run_with};
 use actor_pool::{Gate, Nobody};
 use fair_semantics::{Limits, Run};
-use join_base::{FeedList, NoMemory};
+use feed_store::Feeds;
+use join_base::NoMemory;
 use script_types::Plan;
 use std::alloc::Global;
 use std::sync::Wait;
@@ -47,7 +48,7 @@ pub fn run_stealing<R: Threads + Wait + Sync, G: Gate>(
     alloc: Global,
     plan: &Plan,
     limits: Limits,
-    feeds: FeedList,
+    feeds: Feeds,
     ring: u32,
     workers: u32,
     gate: &G,

@@ -80,7 +80,10 @@ fn is_said(message: &Message, kind: u32, said: &[u8]) -> bool {
 fn are_posted(alloc: Global, plan: &Plan) -> bool
     requires { IsTyped plan.now }
 {
-    let Ok(posts) = read_feed(alloc, plan, b"m,both,7,\"x,\ny\"\nn,say, z \n") else {
+    let Ok(feed) = read_feed(alloc, plan, b"m,both,7,\"x,\ny\"\nn,say, z \n") else {
+        return false;
+    };
+    let Ok(posts) = feed.unpacked(alloc) else {
         return false;
     };
     match posts.as_slice() {

@@ -11,7 +11,8 @@ ghost use Rattle.script_files.specs.Loading.{LoadCause, LoadsFeed, LoadsFeeds, L
 ghost use Rattle.script_files.specs.Verdict.{posts_or};
 
 use crate::stop::{Refusal, Stop};
-use join_base::{Bytes, FeedList, FetchFault, Inputs, Posts, Word};
+use feed_store::{Feed, Feeds};
+use join_base::{Bytes, FetchFault, Inputs, Word};
 use script_types::Plan;
 use sensor_feed::{FeedFault, read_feed};
 use std::alloc::Global;
@@ -91,7 +92,7 @@ pub fn load_lint_text<I: Inputs>(alloc: Global, inputs: &mut I, name: &Word) -> 
 }
 
 // The posts of the bytes of the feed of this number.
-fn read_posts(alloc: Global, plan: &Plan, feed: u32, bytes: &[u8]) -> Result<Posts, Stop>
+fn read_posts(alloc: Global, plan: &Plan, feed: u32, bytes: &[u8]) -> Result<Feed, Stop>
     requires typed { IsTyped plan.now }
     ensures posts { ReadsFeed (posts_or feed (feed_of plan.now bytes.now)) result }
     ensures read { result ≢ Err Stop.ReadFault }
@@ -113,7 +114,7 @@ fn load_feed<I: Inputs>(
     plan: &Plan,
     feed: u32,
     name: &Word,
-) -> Result<Posts, Stop>
+) -> Result<Feed, Stop>
     requires typed { IsTyped plan.now }
     requires few { feed ≤ 16 }
     ensures told { Tells (I.tells inputs.old) (I.tells inputs.new) (λ before now. LoadsFeed before now plan.now feed
@@ -133,7 +134,7 @@ pub fn load_feeds<I: Inputs>(
     inputs: &mut I,
     plan: &Plan,
     names: &[&Word],
-) -> Result<FeedList, Stop>
+) -> Result<Feeds, Stop>
     requires typed { IsTyped plan.now }
     requires few { length names.now ≤ 16 }
     ensures told { Tells (I.tells inputs.old) (I.tells inputs.new) (λ before now. LoadsFeeds before now plan.now
@@ -142,7 +143,7 @@ pub fn load_feeds<I: Inputs>(
     ensures fits { IfOk result (AllByRecursion (AllByRecursion (PostFits plan.now))) }
     ensures count { IfOk result (λ feeds. length feeds ≡ length names.now) }
 {
-    let mut feeds = FeedList::new(alloc);
+    let mut feeds = Feeds::new(alloc);
     for name in names {
         let number = feeds.len() as u32 + 1;
         match load_feed(alloc, inputs, plan, number, name) {

@@ -1,5 +1,5 @@
 //! The posts of a feed.
-ghost use Rattle.std.specs.Prelude.{◌≡◌, [], IfOk};
+ghost use Rattle.std.specs.Prelude.{◌≡◌, ◌∷◌, [], ◌++◌, IfOk, OnOk};
 ghost use Rattle.std.specs.List.{AllByRecursion};
 ghost use Rattle.script_types.specs.Typed.{IsTyped};
 ghost use Rattle.fair_semantics.specs.Fits.{PostFits};
@@ -14,16 +14,15 @@ use crate::post::post_of;
 use crate::record::{reader_of, take_record};
 use crate::row::Row;
 use csv::ByteRecord;
-use join_base::{NoMemory, Posts};
+use feed_store::Feed;
+use join_base::{Message, NoMemory};
 use script_types::Plan;
 use std::alloc::Global;
 
-// No posts, with room for as many as there may be in a feed of this size, up to a number.
-fn posts_with_room(alloc: Global, size: usize) -> Result<Posts, NoMemory>
-    ensures { IfOk result (λ posts. posts ≡ []) }
+fn push_post(posts: &mut Feed, post: &(u32, Message)) -> Result<(), NoMemory>
+    ensures { OnOk result (posts.new ≡ posts.old ++ post.now ∷ []) }
 {
-    let room = (size / 4 + 1).min(4096);
-    Ok(Posts::from_vec(Vec::with_capacity(alloc, room)?))
+    posts.push(post.0, &post.1)
 }
 
 // The fault of the record of this number.
@@ -37,12 +36,12 @@ fn fault_at(row: u64, refusal: Refusal) -> FeedFault
 }
 
 // The posts of a feed whose lines are its records.
-fn posts_of_lines(alloc: Global, names: &Names<'_>, bytes: &[u8]) -> Result<Posts, FeedFault>
+fn posts_of_lines(alloc: Global, names: &Names<'_>, bytes: &[u8]) -> Result<Feed, FeedFault>
     requires typed { IsTyped names.now.plan.now }
     requires plain { IsPlain bytes.now }
     ensures { GivesPosts result (feed_of names.now.plan.now bytes.now) }
 {
-    let mut posts = posts_with_room(alloc, bytes.len())?;
+    let mut posts = Feed::new(alloc);
     let mut fields = Vec::new(alloc);
     let mut rest = bytes;
     for row in 1..u64::MAX {
@@ -51,7 +50,7 @@ fn posts_of_lines(alloc: Global, names: &Names<'_>, bytes: &[u8]) -> Result<Post
             None => return Ok(posts),
         }
         match post_of(alloc, names, Row::Line(fields.as_slice())) {
-            Ok(post) => posts.push(post)?,
+            Ok(post) => push_post(&mut posts, &post)?,
             Err(refusal) => return Err(fault_at(row, refusal)),
         }
     }
@@ -60,20 +59,20 @@ fn posts_of_lines(alloc: Global, names: &Names<'_>, bytes: &[u8]) -> Result<Post
 }
 
 // The posts of a feed that csv reads.
-fn posts_of_records(alloc: Global, names: &Names<'_>, bytes: &[u8]) -> Result<Posts, FeedFault>
+fn posts_of_records(alloc: Global, names: &Names<'_>, bytes: &[u8]) -> Result<Feed, FeedFault>
     requires typed { IsTyped names.now.plan.now }
     ensures { GivesPosts result (feed_of names.now.plan.now bytes.now) }
 {
     let mut reader = reader_of(alloc, bytes)?;
     let mut record = ByteRecord::new(alloc);
-    let mut posts = posts_with_room(alloc, bytes.len())?;
+    let mut posts = Feed::new(alloc);
     for row in 1..u64::MAX {
         let found = take_record(&mut reader, &mut record)?;
         if !found {
             return Ok(posts);
         }
         match post_of(alloc, names, Row::Read(&record)) {
-            Ok(post) => posts.push(post)?,
+            Ok(post) => push_post(&mut posts, &post)?,
             Err(refusal) => return Err(fault_at(row, refusal)),
         }
     }
@@ -82,7 +81,7 @@ fn posts_of_records(alloc: Global, names: &Names<'_>, bytes: &[u8]) -> Result<Po
 }
 
 // What `read_feed` gives.
-fn posts_of(alloc: Global, plan: &Plan, bytes: &[u8]) -> Result<Posts, FeedFault>
+fn posts_of(alloc: Global, plan: &Plan, bytes: &[u8]) -> Result<Feed, FeedFault>
     requires typed { IsTyped plan.now }
     ensures { GivesPosts result (feed_of plan.now bytes.now) }
 {
@@ -102,7 +101,7 @@ fn posts_of(alloc: Global, plan: &Plan, bytes: &[u8]) -> Result<Posts, FeedFault
 /// applies: the actor, that there is a second field, the kind, the number of further fields, and then field by field.
 /// What a record is, is what csv reads as one, with commas, double quotes and line ends by CR or LF, and without a
 /// header row.
-pub fn read_feed(alloc: Global, plan: &Plan, bytes: &[u8]) -> Result<Posts, FeedFault>
+pub fn read_feed(alloc: Global, plan: &Plan, bytes: &[u8]) -> Result<Feed, FeedFault>
     requires typed { IsTyped plan.now }
     ensures feed { GivesPosts result (feed_of plan.now bytes.now) }
     ensures fits { IfOk result (AllByRecursion (PostFits plan.now)) }

@@ -3,7 +3,8 @@ ghost use Rattle.std.specs.Prelude.{◌≡◌, IfOk};
 ghost use Rattle.ask_board.specs.Board.{HasAsk, IsViewOf};
 
 use ask_board::{AnswerFault, Ask, AskBoard, AskView};
-use join_base::{Fields, Items, Message, NoMemory, Value};
+use feed_store::{Feed, Feeds};
+use join_base::{Fields, Message, NoMemory, Value};
 use std::alloc::Global;
 use std::test::Fail;
 use std::thread;
@@ -20,10 +21,12 @@ pub fn board_of_two(alloc: Global) -> Result<AskBoard, NoMemory>
     ensures first { IfOk result (λ board. HasAsk board (record { feed = 1; actor = 0; place = 1 })) }
     ensures second { IfOk result (λ board. HasAsk board (record { feed = 1; actor = 1; place = 1 })) }
 {
-    let mut posts = Items::new(alloc);
-    posts.push((0, message(alloc)))?;
-    posts.push((1, message(alloc)))?;
-    let mut feeds = Items::new(alloc);
+    let first = message(alloc);
+    let second = message(alloc);
+    let mut posts = Feed::new(alloc);
+    posts.push(0, &first)?;
+    posts.push(1, &second)?;
+    let mut feeds = Feeds::new(alloc);
     feeds.push(posts)?;
     AskBoard::new(alloc, &feeds, 2)
 }

@@ -175,7 +175,8 @@ fn feed_hall<L: Ledger>(
 
 // The hall after three rows, of which two fire with a post to the desk.
 fn fed_hall(alloc: Global) -> Result<Actor, NoMemory> {
-    let rows = load_feed(alloc, 3, 1)?;
+    let feed = load_feed(alloc, 3, 1)?;
+    let rows = feed.unpacked(alloc)?;
     let mut hall = first_hall(alloc)?;
     feed_hall::<Brand>(alloc, &mut hall, &rows, Blank::new(1))?;
     Ok(hall)

@@ -120,9 +120,10 @@ fn tell_rules<R: Print>(rt: &R, alloc: Global, plan: &Plan) -> io::Result<()>
 fn tank_log(alloc: Global, plan: &Plan) -> Result<Bytes, NoRun>
     requires typed { IsTyped plan.now }
 {
-    let Ok(posts) = read_feed(alloc, plan, ROWS) else {
+    let Ok(feed) = read_feed(alloc, plan, ROWS) else {
         return Err(NoRun::NoMemory);
     };
+    let posts = feed.unpacked(alloc)?;
     let run = run_posted(alloc, plan, LIMITS, RING, posts.as_slice())?;
     let mut log = Bytes::new(alloc);
     print_log(alloc, plan, &run, &mut log)?;

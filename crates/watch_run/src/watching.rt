@@ -16,7 +16,8 @@ use crate::reading::read_all;
 use crate::view::View;
 use actor_pool::Gate;
 use fair_semantics::{Limits, Run};
-use join_base::{FeedList, NoMemory};
+use feed_store::Feeds;
+use join_base::NoMemory;
 use live_board::{Board, SharedWriter, open_board};
 use pool_run::run_with;
 use script_types::Plan;
@@ -31,7 +32,7 @@ fn run_published<R: Threads + Wait + Sync, G: Gate>(
     alloc: Global,
     plan: &Plan,
     limits: Limits,
-    feeds: FeedList,
+    feeds: Feeds,
     ring: u32,
     workers: u32,
     gate: &G,
@@ -59,7 +60,7 @@ fn run_to_board<R: Threads + Wait + Sync, G: Gate>(
     alloc: Global,
     plan: &Plan,
     limits: Limits,
-    feeds: FeedList,
+    feeds: Feeds,
     ring: u32,
     workers: u32,
     gate: &G,
@@ -90,7 +91,7 @@ pub fn run_watched<R: Threads + Wait + Sync, G: Gate, V: View<R> + Sync>(
     alloc: Global,
     plan: &Plan,
     limits: Limits,
-    feeds: FeedList,
+    feeds: Feeds,
     ring: u32,
     workers: u32,
     gate: &G,

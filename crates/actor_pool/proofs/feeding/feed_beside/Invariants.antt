@@ -1,4 +1,4 @@
 use Rattle.actor_pool.proofs.feeding.feed_beside.Given as goal
 
-abbrev pub ghosts-post_waiting : goal.ghosts-post_waiting
-ghosts-post_waiting g a = record { name = a.blank.name; parts = a.blank.parts }
+abbrev pub ghosts-post_all : goal.ghosts-post_all
+ghosts-post_all g a = record { name = a.blank.name; parts = a.blank.parts }

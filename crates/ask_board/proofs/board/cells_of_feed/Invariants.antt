@@ -1,7 +1,10 @@
-use Rattle.std.proofs.Common.{take}
-use Rattle.ask_board.specs.Board.{AreCellsOf}
+use Rattle.std.proofs.Common.{length}
+use Rattle.ask_board.proofs.CellLemmas.{HasCells}
 use Rattle.ask_board.proofs.board.cells_of_feed.Given as goal
 
 -- the cells of the posts so far
-abbrev pub invariant-loop-post : goal.invariant-loop-post
-invariant-loop-post l = AreCellsOf l.actors (take l.post-index l.post-items) l.rows
+abbrev pub invariant-loop-target : goal.invariant-loop-target
+invariant-loop-target l = HasCells l.actors l.fn.posts l.rest l.rows
+
+abbrev pub decreases-loop-target : goal.decreases-loop-target
+decreases-loop-target l = length l.rest

@@ -31,7 +31,7 @@ loop-row-preserved c =
     taken.0 ∙ ap (λ (fields : List (Bor (List ℕ))). nows fields ∷ records default_config others) (sym c.as_slice.ensures.value) in
     record {
       plain = taken.1;
-      told = rw c.in_ok-push-in-Ok.ensures.ok (
+      told = rw c.in_ok-push_post-in-Ok.ensures (
           feed_goes_on plan c.loop-row.posts c.loop-row.row (records default_config rest) (nows c.as_slice.result.now) (records default_config others) c.in-Ok.post
           (feed_of plan c.args.bytes.now) is c.in-Ok.ensures c.loop-row.invariant.told);
     }

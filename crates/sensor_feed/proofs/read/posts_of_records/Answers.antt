@@ -13,7 +13,7 @@ loop-row-preserved c =
     let taken = subst (λ (b : Bool). TakesFirst b c.loop-row.reader c.take_record.new.reader fields) found c.in_ok-found.ensures in
     record {
       between = taken.0;
-      told = rw c.in_ok-push-in-Ok.ensures.ok (
+      told = rw c.in_ok-push_post-in-Ok.ensures (
           feed_goes_on plan c.loop-row.posts c.loop-row.row (records_left c.loop-row.reader) fields (records_left c.take_record.new.reader) c.in-Ok.post
           (feed_of plan c.args.bytes.now) taken.1 c.in-Ok.ensures c.loop-row.invariant.told);
     }

@@ -1,4 +1,4 @@
-use Rattle.look_command.proofs.auditing.audit_bytes.Given as goal
+use Rattle.look_command.proofs.auditing.audit_lists.Given as goal
 
 abbrev pub ghosts-audit_counted : goal.ghosts-audit_counted
 ghosts-audit_counted a = record { name = a.blank.name; parts = a.blank.parts }

@@ -1,0 +1,3 @@
+-- what is kept of posts, and how it is read
+pub mod Kept
+pub mod First

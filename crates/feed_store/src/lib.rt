@@ -1,0 +1,22 @@
+//! The posts of a feed in little room.
+//!
+//! - `Feed` is seen as the list of its posts, each an actor's number and a message. `push` appends one, and without
+//!   memory nothing changes.
+//! - `FeedReader` is seen as the list of the posts that are left. `next` takes the first, and `next_target` passes over
+//!   it.
+//! - `packed` and `unpacked` lead from a list of posts to a feed and back, and `packed_all` and `unpacked_all` from the
+//!   lists of several feeds.
+//!
+//! That the room is little is not part of a contract: 12 bytes a post, 2 a value, 8 an integer, and the bytes of texts.
+//! Only tested: that calls succeed where memory is ample.
+#![tactic(auto)]
+
+mod feed;
+mod feed_reader;
+mod kept;
+mod lists;
+mod reading;
+
+pub use feed::{Feed, Feeds};
+pub use feed_reader::FeedReader;
+pub use lists::{packed_all, unpacked_all};
