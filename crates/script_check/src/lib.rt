@@ -11,7 +11,9 @@
 //! one prints each, and one keeps those of one actor until they are looked at. No bound of memory is proved.
 //!
 //! A contract says by `ReadsPlan` what an answer means: the plan of a tree without faults, its fault, or want of
-//! memory. `ReadsText` says it of the texts. Only tested: which cause comes at which place of a script, by tables.
+//! memory. `ReadsText` says it of the texts. `IsFaultless` says of an outline that it is that of a script without a
+//! fault: `ChecksOutline` promises it, and `HasVisited` is what a visitor has taken of such a script. Only tested: which
+//! cause comes at which place of a script, by tables.
 #![tactic(auto)]
 
 mod check;

@@ -23,35 +23,15 @@ use Rattle.script_faults.specs.Finding.{Finds, declaration_after, outline_faults
 use Rattle.script_faults.specs.First.{first_of, too_many}
 use Rattle.script_faults.specs.Faults.{actor_faults, faults_of, first_fault, message_faults, own_place, twice_declared}
 use Rattle.script_faults.proofs.FirstLemmas.{first_of-append, first_of-then}
-use Rattle.script_grammar.proofs.WalkLemmas.{one_ok}
+use Rattle.script_grammar.proofs.WalkLemmas.{message_declared, passed_read}
 
 -- ---- one declaration
-
--- what was passed over was read
-passed_read : {X : Type 0} (read : Outcome Token X) (u : Unit {0}) (rest : List Token) → passed read ≡ Ok (u, rest) → (x : X) × (read ≡ Ok (x, rest))
-passed_read (Ok p) u rest is = let same = ap (λ (q : Unit {0} × List Token). q.1) (one_ok (tt, p.1) (u, rest) is) in (p.0, ap (λ (ts : List Token). Ok (p.0, ts)) same)
-passed_read (Err e) u rest is = absurd cc
-
-passed_fails : {X : Type 0} (read : Outcome Token X) (e : Stop) (rest : List Token) → Fails e rest (passed read) → Fails e rest read
-passed_fails read stop.NoMemory rest is = tt
-passed_fails (Ok p) stop.Refused rest is = absurd cc
-passed_fails (Err e) stop.Refused rest is = let same : e ≡ rest = cc in ap (λ (ts : List Token). Err ts) same
-
-message_declared : (message : MessageDecl) (tokens rest : List Token) → is_mark m.Message (head tokens) ≡ true → message_read tokens ≡ Ok (message, rest)
-    → declaration_read tokens ≡ Ok (inl message, rest)
-unfolding declaration_read
-message_declared message tokens rest is read = rw (is, read) refl
 
 pub message_noted : (s : Declarations) (u : Unit {0}) (tokens rest : List Token) → is_mark m.Message (head tokens) ≡ true → passed (message_read tokens) ≡ Ok (u, rest)
     → Noted (λ d. s ≡ declaration_after s d) rest (declaration_read tokens)
 message_noted s u tokens rest is read =
     let found = passed_read (message_read tokens) u rest read in
     record { phrase = inl found.0; reads = message_declared found.0 tokens rest is found.1; holds = refl }
-
-pub message_stops : (e : Stop) (tokens rest : List Token) → is_mark m.Message (head tokens) ≡ true → Fails e rest (passed (message_read tokens)) → Fails e rest (declaration_read tokens)
-unfolding declaration_read
-message_stops stop.NoMemory tokens rest is fails = tt
-message_stops stop.Refused tokens rest is fails = let read = passed_fails (message_read tokens) stop.Refused rest fails in rw (is, read) refl
 
 pub actor_noted : (s new : Declarations) (tokens rest : List Token) → is_mark m.Message (head tokens) ≡ false
     → Noted (λ actor. new.found ≡ first_of s.found (actor_faults s.messages.now.decls.now s.actors.now actor)) rest (actor_read tokens) → new.messages ≡ s.messages → new.actors ≡ s.actors
@@ -64,11 +44,6 @@ actor_noted s new tokens rest is noted messages actors =
       reads = rw (is, noted.reads) refl;
       holds = λ i. record { messages = messages i; actors = actors i; found = found i };
     }
-
-pub actor_stops : (e : Stop) (tokens rest : List Token) → is_mark m.Message (head tokens) ≡ false → Fails e rest (actor_read tokens) → Fails e rest (declaration_read tokens)
-unfolding declaration_read
-actor_stops stop.NoMemory tokens rest is fails = tt
-actor_stops stop.Refused tokens rest is fails = rw (is, fails) refl
 
 -- ---- all declarations
 

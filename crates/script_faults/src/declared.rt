@@ -1,5 +1,5 @@
 //! Faults of declarations.
-ghost use Rattle.std.specs.Prelude.{◌≡◌, ◌∷◌, [], ℕ, OnOk};
+ghost use Rattle.std.specs.Prelude.{◌≡◌, ◌∷◌, [], OnOk};
 ghost use Rattle.std.specs.List.{flat_map};
 ghost use Rattle.script_names.specs.Scope.{field_rows, types_bound};
 ghost use Rattle.script_faults.specs.Again.{again_faults, field_variable};

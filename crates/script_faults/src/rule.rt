@@ -1,8 +1,8 @@
 //! Faults of definitions and of actors.
-ghost use Rattle.std.specs.Prelude.{◌≡◌, ◌<◌, ◌≤◌, length, IfOk};
+ghost use Rattle.std.specs.Prelude.{◌≡◌, ◌<◌, length, IfOk};
 ghost use Rattle.script_tokens.specs.Marks.{kind_is};
 ghost use Rattle.script_tokens.specs.declared.token.Mark.TheVariants as m;
-ghost use Rattle.script_grammar.specs.ScriptReading.{actor_read, definition_read, window_read};
+ghost use Rattle.script_grammar.specs.ScriptReading.{actor_read, definition_read};
 ghost use Rattle.script_grammar.specs.declared.tree.RuleDecl.{RuleDecl};
 ghost use Rattle.script_faults.specs.declared.rule.Rules.{Rules};
 ghost use Rattle.script_faults.specs.First.{first_of};

@@ -1,5 +1,5 @@
 //! The fault of a whole script.
-ghost use Rattle.std.specs.Prelude.{◌≡◌, ◌<◌, None, length, IfOk};
+ghost use Rattle.std.specs.Prelude.{◌≡◌, ◌<◌, None, IfOk};
 ghost use Rattle.script_grammar.specs.Grammar.{Declaration};
 ghost use Rattle.script_grammar.specs.Outlines.{Outlines};
 ghost use Rattle.script_grammar.specs.ScriptReading.{begins_declaration, declaration_read, script_read};
@@ -7,7 +7,6 @@ ghost use Rattle.script_faults.specs.declared.script.Declarations.{Declarations}
 ghost use Rattle.script_faults.specs.Finding.{Finds, declaration_after, outline_faults};
 ghost use Rattle.script_names.specs.Scope.{spelt_rows};
 ghost use Rattle.script_faults.specs.First.{first_of};
-ghost use Rattle.script_faults.specs.Faults.{first_fault};
 
 use crate::declared::{note_messages, note_twice};
 use crate::first::{Fault, note_too_many};

@@ -1,14 +1,16 @@
--- What is noted of a list while a loop reads it, turn by turn, whatever its phrases.
-use Rattle.std.proofs.Common.{◌≡◌, ◌∙◌, ◌<◌, ◌++◌, ℕ, Bool, true, false, List, [], ◌∷◌, length, Result, Ok, Err, refl, sym, ap, subst}
+-- What is noted of a list while a loop reads it, turn by turn, whatever its phrases; and how one declaration is read.
+use Rattle.std.proofs.Common.{inl, ◌≡◌, ◌∙◌, ◌<◌, ◌++◌, ℕ, Bool, true, false, List, [], ◌∷◌, length, Result, Ok, Err, refl, sym, ap, subst}
 use Rattle.std.specs.Prelude.{fold}
 use Rattle.script_tokens.specs.declared.token.Token.{Token}
 use Rattle.script_tokens.specs.declared.token.Kind.{Kind}
 use Rattle.script_tokens.specs.declared.token.Mark.{Mark}
 use Rattle.script_tokens.specs.declared.token.Mark.TheVariants as m
-use Rattle.script_grammar.specs.Reading.{Outcome, head, and_then, pure, repeated}
+use Rattle.script_grammar.specs.Reading.{Outcome, head, and_then, passed, pure, repeated}
 use Rattle.script_grammar.specs.Gives.{Fails, Noted}
 use Rattle.script_grammar.specs.declared.stop.Stop.{Stop}
-use Rattle.script_grammar.specs.ScriptReading.{Reads, after_mark, further, is_mark, listed_read, mark_read, next_is, separated_read, with_front}
+use Rattle.script_grammar.specs.declared.stop.Stop.TheVariants as stop
+use Rattle.script_grammar.specs.declared.tree.MessageDecl.{MessageDecl}
+use Rattle.script_grammar.specs.ScriptReading.{Reads, actor_read, after_mark, declaration_read, further, is_mark, listed_read, mark_read, message_read, next_is, separated_read, with_front}
 use Rattle.script_grammar.proofs.LoopLemmas.{IsLeft, begun, goes_on, stops, ends, with_front_nil}
 
 pub one_ok : {A E : Type 0} (x y : A) → Path (Result A E) (Ok x) (Ok y) → x ≡ y
@@ -70,3 +72,30 @@ module _ {X S : Type 0} (after : S → X → S) (reader : Reads X) where
   pub noted_some : {first now : S} (mark : Mark) (tokens rest : List Token) → is_mark m.Close (head tokens) ≡ false → Noted (λ xs. now ≡ fold after first xs) rest (separated_read mark reader tokens)
       → Noted (λ xs. now ≡ fold after first xs) rest (listed_read mark reader tokens)
   noted_some mark tokens rest is noted = record { phrase = noted.phrase; reads = rw is noted.reads; holds = noted.holds }
+
+-- ---- one declaration
+
+-- what was passed over was read
+pub passed_read : {X : Type 0} (read : Outcome Token X) (u : Unit {0}) (rest : List Token) → passed read ≡ Ok (u, rest) → (x : X) × (read ≡ Ok (x, rest))
+passed_read (Ok p) u rest is = let same = ap (λ (q : Unit {0} × List Token). q.1) (one_ok (tt, p.1) (u, rest) is) in (p.0, ap (λ (ts : List Token). Ok (p.0, ts)) same)
+passed_read (Err e) u rest is = absurd cc
+
+passed_fails : {X : Type 0} (read : Outcome Token X) (e : Stop) (rest : List Token) → Fails e rest (passed read) → Fails e rest read
+passed_fails read stop.NoMemory rest is = tt
+passed_fails (Ok p) stop.Refused rest is = absurd cc
+passed_fails (Err e) stop.Refused rest is = let same : e ≡ rest = cc in ap (λ (ts : List Token). Err ts) same
+
+pub message_declared : (message : MessageDecl) (tokens rest : List Token) → is_mark m.Message (head tokens) ≡ true → message_read tokens ≡ Ok (message, rest)
+    → declaration_read tokens ≡ Ok (inl message, rest)
+unfolding declaration_read
+message_declared message tokens rest is read = rw (is, read) refl
+
+pub message_stops : (e : Stop) (tokens rest : List Token) → is_mark m.Message (head tokens) ≡ true → Fails e rest (passed (message_read tokens)) → Fails e rest (declaration_read tokens)
+unfolding declaration_read
+message_stops stop.NoMemory tokens rest is fails = tt
+message_stops stop.Refused tokens rest is fails = let read = passed_fails (message_read tokens) stop.Refused rest fails in rw (is, read) refl
+
+pub actor_stops : (e : Stop) (tokens rest : List Token) → is_mark m.Message (head tokens) ≡ false → Fails e rest (actor_read tokens) → Fails e rest (declaration_read tokens)
+unfolding declaration_read
+actor_stops stop.NoMemory tokens rest is fails = tt
+actor_stops stop.Refused tokens rest is fails = rw (is, fails) refl

@@ -1,7 +1,7 @@
 //! What the names of a script mean: its messages, its actors, and the variables of a definition.
-ghost use Rattle.std.specs.Prelude.{◌≡◌, ◌++◌, IfOk, OnOk, map};
+ghost use Rattle.std.specs.Prelude.{◌≡◌, ◌++◌, IfOk, OnOk};
 ghost use Rattle.std.specs.Option.{option_map};
-ghost use Rattle.script_names.specs.Scope.{message_of, message_rows, sort_at, sorts_among, sorts_of, spelt_rows, variable_at, variables_from, variables_in, variables_of};
+ghost use Rattle.script_names.specs.Scope.{message_of, message_rows, sort_at, sorts_among, sorts_of, spelt_rows, variable_at, variables_in, variables_of};
 
 use crate::table::NameTable;
 use join_base::{NoMemory, Sort};

@@ -17,7 +17,7 @@ use Rattle.script_grammar.specs.declared.tree.RuleDecl.{RuleDecl}
 use Rattle.script_grammar.specs.declared.tree.ActorDecl.{ActorDecl}
 use Rattle.script_grammar.specs.declared.tree.Spelt.{Spelt}
 use Rattle.script_grammar.specs.declared.tree.Tree.{Tree}
-use Rattle.script_grammar.proofs.WalkLemmas.{one_ok}
+use Rattle.script_grammar.proofs.WalkLemmas.{message_declared, passed_read}
 use Rattle.script_types.specs.declared.plan.ActorPlan.{ActorPlan}
 use Rattle.script_types.specs.declared.plan.Plan.{Plan}
 use Rattle.script_types.specs.declared.plan.Rule.{Rule}
@@ -40,31 +40,6 @@ heads_are outline tree is =
     ap heads_of is ∙ ap with_actors (actors_headed tree tree.actors)
 
 -- ---- one declaration
-
--- what was passed over was read
-passed_read : {X : Type 0} (read : Outcome Token X) (u : Unit {0}) (rest : List Token) → passed read ≡ Ok (u, rest) → (x : X) × (read ≡ Ok (x, rest))
-passed_read (Ok p) u rest is = let same = ap (λ (q : Unit {0} × List Token). q.1) (one_ok (tt, p.1) (u, rest) is) in (p.0, ap (λ (ts : List Token). Ok (p.0, ts)) same)
-passed_read (Err e) u rest is = absurd cc
-
-passed_fails : {X : Type 0} (read : Outcome Token X) (e : Stop) (rest : List Token) → Fails e rest (passed read) → Fails e rest read
-passed_fails read stop.NoMemory rest is = tt
-passed_fails (Ok p) stop.Refused rest is = absurd cc
-passed_fails (Err e) stop.Refused rest is = let same : e ≡ rest = cc in ap (λ (ts : List Token). Err ts) same
-
-message_declared : (message : MessageDecl) (tokens rest : List Token) → is_mark m.Message (head tokens) ≡ true → message_read tokens ≡ Ok (message, rest)
-    → declaration_read tokens ≡ Ok (inl message, rest)
-unfolding declaration_read
-message_declared message tokens rest is read = rw (is, read) refl
-
-pub message_stops : (e : Stop) (tokens rest : List Token) → is_mark m.Message (head tokens) ≡ true → Fails e rest (passed (message_read tokens)) → Fails e rest (declaration_read tokens)
-unfolding declaration_read
-message_stops stop.NoMemory tokens rest is fails = tt
-message_stops stop.Refused tokens rest is fails = let read = passed_fails (message_read tokens) stop.Refused rest fails in rw (is, read) refl
-
-pub actor_stops : (e : Stop) (tokens rest : List Token) → is_mark m.Message (head tokens) ≡ false → Fails e rest (actor_read tokens) → Fails e rest (declaration_read tokens)
-unfolding declaration_read
-actor_stops stop.NoMemory tokens rest is fails = tt
-actor_stops stop.Refused tokens rest is fails = rw (is, fails) refl
 
 fold_mapped : {K : Type 0} (with_rule : K → Rule → K) (tree : Tree) (taken : K) (rules : List RuleDecl) → fold (rule_taken with_rule tree) taken rules ≡ fold with_rule taken (map (rule_of tree) rules)
 fold_mapped with_rule tree taken [] = refl

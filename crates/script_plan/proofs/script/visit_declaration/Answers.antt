@@ -2,7 +2,8 @@ use Rattle.std.proofs.Common.{sym, ◌∙◌}
 use Rattle.std.proofs.lemmas.Result.{err_from_is_err_and}
 use Rattle.script_plan.specs.Planned.{outline_tree}
 use Rattle.script_plan.proofs.HeldLemmas.{small_actor}
-use Rattle.script_plan.proofs.VisitedLemmas.{actor_stops, message_stops, visited_declared, visited_message}
+use Rattle.script_grammar.proofs.WalkLemmas.{actor_stops, message_stops}
+use Rattle.script_plan.proofs.VisitedLemmas.{visited_declared, visited_message}
 use Rattle.script_plan.proofs.script.visit_declaration.Goals as goal
 
 pub returns-in_err-skip_message : goal.returns-in_err-skip_message
