@@ -1,5 +1,5 @@
 -- A cell for each post, and which asks there are then.
-use Rattle.std.proofs.Common.{◌≡◌, ◌∙◌, ◌+◌, ◌-◌, ◌≤◌, ◌<◌, ◌⊎◌, inl, inr, ℕ, zero, suc, List, [], ◌∷◌, ◌++◌, true, false, Option, Some, None, IsSome, length, take, get_or, replicate, slice_get, slice_set, refl, sym, ap, add-zero, arith}
+use Rattle.std.proofs.Common.{◌≡◌, ◌∙◌, ◌+◌, ◌≤◌, ◌<◌, ◌⊎◌, inl, inr, ℕ, zero, suc, List, [], ◌∷◌, ◌++◌, true, false, Option, Some, None, IsSome, length, take, get_or, replicate, slice_get, slice_set, refl, sym, ap, add-zero, arith}
 use Rattle.std.specs.Prelude.{◌==◌, ◌↔◌, cond}
 use Rattle.std.proofs.lemmas.List.{length-replicate, length-set, append-nil, append_assoc, length_push, take_all, take_more}
 use Rattle.std.proofs.lemmas.List.Sums.{sum_by-append}
@@ -161,20 +161,19 @@ cells_none n posts left rows same none = ([], sym same, rw none (no_posts n))
 one_done : (posts left rest done : List (ℕ × Message)) (post : ℕ × Message) → posts ≡ done ++ left → left ≡ post ∷ rest → posts ≡ (done ++ post ∷ []) ++ rest
 one_done posts left rest done post is first = is ∙ ap (λ (ps : List (ℕ × Message)). done ++ ps) first ∙ sym (append_assoc done (post ∷ []) rest)
 
-pub cell_step : {C : Type 0} (n : ℕ) (posts left rest : List (ℕ × Message)) (rows : List (List C)) (target : ℕ) (row new : List C) (x : C) (after : List (List C)) → HasCells n posts left rows → IsFirst target left rest
-    → slice_get rows target ≡ Some row → new ≡ row ++ x ∷ [] → after ≡ slice_set rows target new → HasCells n posts rest after
-cell_step n posts left rest rows target row new x after h first at more is =
+pub cell_step : {C : Type 0} (n : ℕ) (posts left rest : List (ℕ × Message)) (rows : List (List C)) (target : ℕ) (row new : List C) (x : C) → HasCells n posts left rows → IsFirst target left rest
+    → slice_get rows target ≡ Some row → new ≡ row ++ x ∷ [] → HasCells n posts rest (slice_set rows target new)
+cell_step n posts left rest rows target row new x h first at more =
     let post : ℕ × Message = (target, first.0) in (
       h.0 ++ post ∷ [],
       one_done posts left rest (h.0) post (h.1) (first.1),
-      rw is (cell_more n (h.0) rows post row new (h.2) at (ap length more ∙ length_push row x)),
+      cell_more n (h.0) rows post row new (h.2) at (ap length more ∙ length_push row x),
     )
 
-pub pass_step : {C : Type 0} (n : ℕ) (posts left rest : List (ℕ × Message)) (rows : List (List C)) (target : ℕ) (after : List (List C)) → HasCells n posts left rows → IsFirst target left rest → n ≤ target → after ≡ rows
-    → HasCells n posts rest after
-pass_step n posts left rest rows target after h first past is =
+pub pass_step : {C : Type 0} (n : ℕ) (posts left rest : List (ℕ × Message)) (rows : List (List C)) (target : ℕ) → HasCells n posts left rows → IsFirst target left rest → n ≤ target → HasCells n posts rest rows
+pass_step n posts left rest rows target h first past =
     let post : ℕ × Message = (target, first.0) in
-    (h.0 ++ post ∷ [], one_done posts left rest (h.0) post (h.1) (first.1), rw is (post_passed n (h.0) rows post (h.2) past))
+    (h.0 ++ post ∷ [], one_done posts left rest (h.0) post (h.1) (first.1), post_passed n (h.0) rows post (h.2) past)
 
 pub cells_whole : {C : Type 0} (n : ℕ) (posts left : List (ℕ × Message)) (rows : List (List C)) → HasCells n posts left rows → left ≡ [] → AreCellsOf n posts rows
 cells_whole n posts left rows h none =
