@@ -1,6 +1,6 @@
 -- Facts on what posters sent, over plain lists.
 use Rattle.std.proofs.Common.{◌≡◌, ℕ, zero, suc, ◌+◌, ◌<◌, ◌≤◌, ◌-◌, List, [], ◌∷◌, ◌++◌, Bool, true, false, All, length, map, reverse, get_or, refl, sym, ap, ◌∙◌, subst, arith, append_assoc}
-use Rattle.std.specs.Prelude.{◌==◌, if◌then◌else◌, Some, None}
+use Rattle.std.specs.Prelude.{◌==◌, if◌then◌else◌, Option, Some, None, MatchOption}
 use Rattle.std.specs.List.{filter_map}
 use Rattle.std.proofs.lemmas.List.{append-nil, length-map, get_or-map, reverse-append}
 use Rattle.std.proofs.lemmas.List.Elements.{All-nil, All-cons, All-head, All-tail, filter_map-append}
@@ -44,8 +44,15 @@ All-begin P (y ∷ l) x h = All-cons P y l (All-head P y (l ++ x ∷ []) h) (All
 pub All-front : {X : Type 0} (P : X → Type 0) (xs ys : List X) (x : X) → xs ≡ ys ++ x ∷ [] → All P xs → All P ys
 All-front P xs ys x is all = All-begin P ys x (subst (All P) is all)
 
+pub All-first : {X : Type 0} (P : X → Type 0) (xs ys : List X) (x : X) → xs ≡ x ∷ ys → All P xs → P x
+All-first P xs ys x is all = All-head P x ys (subst (All P) is all)
+
 pub All-rest : {X : Type 0} (P : X → Type 0) (xs ys : List X) (x : X) → xs ≡ x ∷ ys → All P xs → All P ys
 All-rest P xs ys x is all = All-tail P x ys (subst (All P) is all)
+
+-- what a reader gave was first
+pub first-read : {X : Type 0} (old new : List X) (next : Option X) (x : X) → next ≡ Some x → MatchOption next ((old ≡ []) × (new ≡ [])) (λ post. old ≡ post ∷ new) → old ≡ x ∷ new
+first-read old new next x is read = subst (λ n. MatchOption n ((old ≡ []) × (new ≡ [])) (λ post. old ≡ post ∷ new)) is read
 
 -- the first of what is left is done
 pub first-done : {X : Type 0} (all left rest done : List X) (x : X) → all ≡ done ++ left → left ≡ x ∷ rest → all ≡ (done ++ x ∷ []) ++ rest

@@ -24,8 +24,8 @@ use std::sync::atomic::Ordering;
 use std::sync::ledger::{Blank, Ledger};
 use std::thread;
 
-// Takes a turn at an actor whose link was full, or yields where another seat is at it. `NoMemory` too where a turn of
-// another thread found none, since the link may stay full then.
+// Takes a turn at an actor whose link was full, or yields where another seat is at it. `NoMemory` too where another
+// thread found none, since the link may stay full then.
 fn help<R: Wait, B: Beside<R>, L: Ledger>(
     rt: &R,
     alloc: Global,
@@ -162,6 +162,9 @@ pub fn feed_beside<R: Wait, B: Beside<R>>(
 {
     let blank = Blank::new(1);
     let fed = post_all::<R, B, Brand>(rt, alloc, pool, poster, helper, beside, &posts, blank);
+    if fed.is_err() {
+        tell_failure(pool);
+    }
     pool.ended.fetch_add(1, Ordering::SeqCst);
     fed
 }
@@ -171,7 +174,7 @@ pub fn feed_beside<R: Wait, B: Beside<R>>(
 /// ended, whatever the answer.
 ///
 /// At `NoMemory` the posts of a beginning of the list were sent. It comes where there was none for the next post, or
-/// where a turn found none, of this call or of another thread of the pool, while a link was full. It may wait.
+/// where a turn of this call or another thread of the pool found none while a link was full. It may wait.
 pub fn feed<R: Wait>(
     rt: &R,
     alloc: Global,

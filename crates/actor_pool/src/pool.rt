@@ -15,7 +15,7 @@ pub struct Pool {
     pub(crate) tickets: Tickets,
     // How many feeds have ended. No clause rests on it.
     pub(crate) ended: AtomicU64,
-    // 1 from the first turn on that found no memory. No clause rests on it.
+    // 1 once a thread found no memory. No clause rests on it.
     pub(crate) failed: AtomicU64,
     // The actors that wait for room on a link, as the bits of an `ActorSet`. No clause rests on it.
     pub(crate) waiting: AtomicU64,

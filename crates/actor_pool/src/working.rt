@@ -75,8 +75,8 @@ fn work_at<R: Wait, G: Gate, S: TicketSource, B: Beside<R>, L: Ledger>(
     }
 }
 
-// Takes a ticket and works at its actor. False where there was no ticket. `NoMemory` too where a turn of another thread
-// found none.
+// Takes a ticket and works at its actor. False where there was no ticket. `NoMemory` too where another thread found
+// none.
 fn work_once<R: Wait, G: Gate, S: TicketSource, B: Beside<R>, L: Ledger>(
     rt: &R,
     alloc: Global,
@@ -164,8 +164,8 @@ fn work_on<R: Wait, G: Gate, S: TicketSource, B: Beside<R>, L: Ledger>(
 /// it may have more to do. The worker's number is counted from 1.
 ///
 /// What is kept of each actor fits what the helper has seen of it, before and after, whatever the answer. `NoMemory`
-/// comes where a turn found no memory, of this worker or of another thread of the pool; each turn was given back then.
-/// It may wait.
+/// comes where a turn of this worker or another thread of the pool found no memory; each turn was given back then. It
+/// may wait.
 pub fn work_from_beside<R: Wait, G: Gate, S: TicketSource, B: Beside<R>>(
     rt: &R,
     alloc: Global,
@@ -248,8 +248,8 @@ pub fn work_beside<R: Wait, G: Gate, B: Beside<R>>(
 /// that. It calls `enter` of the gate before each turn. After a turn it announces the actors that the turn sent to, and
 /// the same actor where it may have more to do. The worker's number is counted from 1.
 ///
-/// `NoMemory` comes where a turn found no memory, of this worker or of another thread of the pool; each turn was given
-/// back then. It may wait.
+/// `NoMemory` comes where a turn of this worker or another thread of the pool found no memory; each turn was given back
+/// then. It may wait.
 pub fn work<R: Wait, G: Gate>(
     rt: &R,
     alloc: Global,

@@ -66,8 +66,8 @@ impl TicketSource for StealPass {
 /// marked, and its ticket is put into the own deque. Where there is no memory for that, the mark is taken back.
 ///
 /// At `Ok` it has found each deque and the pool's queue empty. It made at least as many claims as it took tickets of
-/// actors. `NoMemory` comes where a turn found no memory, of this worker or of another thread of the pool; each turn
-/// was given back then. It may wait.
+/// actors. `NoMemory` comes where a turn of this worker or another thread of the pool found no memory; each turn was
+/// given back then. It may wait.
 pub fn work_stealing<R: Wait, G: Gate>(
     rt: &R,
     alloc: Global,

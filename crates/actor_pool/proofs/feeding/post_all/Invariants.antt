@@ -5,8 +5,8 @@ use Rattle.actor_pool.specs.Helpers.{HelperGoesOn, seat_of, actor_count}
 use Rattle.actor_pool.specs.Posters.{IsPosterOf, SendsAll, feed_tag, feed_links}
 use Rattle.actor_pool.proofs.feeding.post_all.Given as goal
 
-abbrev pub invariant-loop-posts : goal.invariant-loop-posts
-invariant-loop-posts g l = record {
+abbrev pub invariant-posts : goal.invariant-posts
+invariant-posts g l = record {
   poster : IsPosterOf l.pool l.poster;
   tag : feed_tag l.poster ≡ feed_tag l.initial.poster;
   goes_on : HelperGoesOn l.pool l.initial.helper l.helper;
@@ -16,5 +16,5 @@ invariant-loop-posts g l = record {
       × SendsAll (feed_links l.initial.poster) done (feed_links l.poster) × ((seat_of l.initial.helper).tries + length done ≤ (seat_of l.helper).tries);
 }
 
-abbrev pub decreases-loop-posts : goal.decreases-loop-posts
-decreases-loop-posts g l = length l.rest
+abbrev pub decreases-posts : goal.decreases-posts
+decreases-posts g l = length l.rest
