@@ -19,6 +19,7 @@ use join_base::{Message, NoMemory};
 use script_types::Plan;
 use std::alloc::Global;
 
+// Appends a post.
 fn push_post(posts: &mut Feed, post: &(u32, Message)) -> Result<(), NoMemory>
     ensures { OnOk result (posts.new ≡ posts.old ++ post.now ∷ []) }
 {
