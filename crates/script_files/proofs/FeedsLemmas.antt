@@ -3,7 +3,7 @@ use Rattle.std.proofs.Common.{◌≡◌, ◌⊎◌, inl, inr, ℕ, ◌+◌, ◌<
 use Rattle.std.specs.Prelude.{Result, Ok, Err}
 use Rattle.std.proofs.lemmas.List.{append-nil, drop_more}
 use Rattle.join_base.specs.declared.message.Message.{Message}
-use Rattle.join_base.specs.Outside.{Files, Told, with_asked}
+use Rattle.join_base.specs.Outside.{Told, with_asked}
 use Rattle.script_types.specs.declared.plan.Plan.{Plan}
 use Rattle.sensor_feed.specs.Feed.{feed_of}
 use Rattle.sensor_feed.specs.declared.fault.FeedFault.{FeedFault}

@@ -12,7 +12,7 @@ use Rattle.script_files.specs.declared.stop.Stop.{Stop}
 use Rattle.script_files.specs.declared.stop.Stop.TheVariants as stop
 use Rattle.script_files.specs.declared.stop.Refusal.TheVariants as refusal
 use Rattle.script_files.specs.Files.{File, Long, Holds, file_within, file_of, max_file}
-use Rattle.script_files.specs.Verdict.{Refused, TooLong, ScriptStops, feed_answer, posts_or}
+use Rattle.script_files.specs.Verdict.{TooLong, ScriptStops, feed_answer, posts_or}
 use Rattle.script_files.specs.Loading.{Asks, LoadCause, LoadsFeed, LoadsScript, LoadsText, ReadsFeed, ReadsPlan, ReadsPlanText, ReadsScript, ReadsText, StopsFeeds, StopsScript, Tells, fetch_stop, stopped_by}
 
 -- ---- a file by the bytes of its name
