@@ -10,10 +10,9 @@ use Rattle.script_types.specs.declared.plan.Plan.{Plan}
 use Rattle.sensor_feed.specs.Feed.{feed_of}
 use Rattle.script_files.specs.declared.stop.Stop.{Stop}
 use Rattle.script_files.specs.declared.stop.Stop.TheVariants as stop
-use Rattle.script_files.specs.declared.stop.Refusal.TheVariants as refusal
 use Rattle.script_files.specs.Files.{File, Long, Holds, file_within, file_of, max_file}
 use Rattle.script_files.specs.Verdict.{TooLong, ScriptStops, feed_answer, posts_or}
-use Rattle.script_files.specs.Loading.{Asks, LoadCause, LoadsFeed, LoadsScript, LoadsText, ReadsFeed, ReadsPlan, ReadsPlanText, ReadsScript, ReadsText, StopsFeeds, StopsScript, Tells, fetch_stop, stopped_by}
+use Rattle.script_files.specs.Loading.{Asks, LoadCause, LoadsFeed, LoadsOf, ReadsFeed, ReadsScript, StopsFeeds, StopsScript, Tells, fetch_stop, stopped_by}
 
 -- ---- a file by the bytes of its name
 
@@ -47,25 +46,7 @@ quiet_cause before now (Err (stop.Refused why)) same read = same
 quiet_cause before now (Err stop.ReadFault) same read = absurd (read refl)
 quiet_cause before now (Err stop.NoMemory) same read = same
 
--- ---- a script
-
-script_read : (bytes : List ℕ) (result : Result Plan Stop) → ReadsPlan bytes result → ReadsScript (Holds bytes) result
-script_read bytes (Ok plan) reads = reads
-script_read bytes (Err (stop.Refused (refusal.TooLong file))) reads = absurd reads
-script_read bytes (Err (stop.Refused (refusal.Script place cause))) reads = (place, cause, reads, refl)
-script_read bytes (Err (stop.Refused (refusal.Feed feed row cause))) reads = absurd reads
-script_read bytes (Err (stop.Refused (refusal.Log line cause))) reads = absurd reads
-script_read bytes (Err stop.ReadFault) reads = absurd reads
-script_read bytes (Err stop.NoMemory) reads = tt
-
-pub script_loaded : (before now : Option Told) (name bytes : List ℕ) (result : Result Plan Stop)
-    → FetchTells before now name max_file (Ok bytes) → length bytes ≤ max_file → ReadsPlan bytes result
-    → Tells before now (λ b n. LoadsScript b n name result)
-script_loaded None now name bytes result told short reads = tt
-script_loaded (Some before) None name bytes result told short reads = absurd told
-script_loaded (Some before) (Some now) name bytes result told short reads =
-    let P : File → Type 0 = λ file. ReadsScript file result in
-    record { asks = asks before now name result told.asked; answer = subst P (sym (file_short max_file (content_of before.files name) bytes told.fetched short)) (script_read bytes result reads) }
+-- ---- a script, whatever it is to give
 
 -- a script that was not fetched
 unfetched : (files : Files) (name : List ℕ) (f : FetchFault) → IsFetched files name max_file (Err f) → StopsScript (file_of files name) (stopped_by (fetch_stop 1 f))
@@ -73,38 +54,21 @@ unfetched files name fetch.Failed long = tt
 unfetched files name fetch.TooLong long = let P : File → Type 0 = λ file. ScriptStops file (TooLong 1) in subst P (sym (file_long max_file (content_of files name) long)) refl
 unfetched files name fetch.NoMemory long = tt
 
-pub script_unfetched : (before now : Option Told) (name : List ℕ) (fault : FetchFault) → FetchTells before now name max_file (Err fault)
-    → Tells before now (λ b n. LoadsScript b n name (Err (fetch_stop 1 fault)))
-script_unfetched None now name fault told = tt
-script_unfetched (Some before) None name fault told = absurd told
-script_unfetched (Some before) (Some now) name fault told = record { asks = asks_unfetched Plan before now name fault (fetch_stop 1 fault) told.asked; answer = unfetched before.files name fault told.fetched }
+module _ (X : Type 0) (Gives : File → X → Type 0) where
+  pub script_loaded : (before now : Option Told) (name bytes : List ℕ) (result : Result X Stop)
+      → FetchTells before now name max_file (Ok bytes) → length bytes ≤ max_file → ReadsScript Gives (Holds bytes) result
+      → Tells before now (λ b n. LoadsOf Gives b n name result)
+  script_loaded None now name bytes result told short reads = tt
+  script_loaded (Some before) None name bytes result told short reads = absurd told
+  script_loaded (Some before) (Some now) name bytes result told short reads =
+      let P : File → Type 0 = λ file. ReadsScript Gives file result in
+      record { asks = asks before now name result told.asked; answer = subst P (sym (file_short max_file (content_of before.files name) bytes told.fetched short)) reads }
 
--- ---- a text of a script's plan
-
-module _ (view : Plan → List ℕ) where
-  text_read : (bytes : List ℕ) (result : Result (List ℕ) Stop) → ReadsPlanText view bytes result → ReadsText view (Holds bytes) result
-  text_read bytes (Ok text) reads = reads
-  text_read bytes (Err (stop.Refused (refusal.TooLong file))) reads = absurd reads
-  text_read bytes (Err (stop.Refused (refusal.Script place cause))) reads = (place, cause, reads, refl)
-  text_read bytes (Err (stop.Refused (refusal.Feed feed row cause))) reads = absurd reads
-  text_read bytes (Err (stop.Refused (refusal.Log line cause))) reads = absurd reads
-  text_read bytes (Err stop.ReadFault) reads = absurd reads
-  text_read bytes (Err stop.NoMemory) reads = tt
-
-  pub text_loaded : (before now : Option Told) (name bytes : List ℕ) (result : Result (List ℕ) Stop)
-      → FetchTells before now name max_file (Ok bytes) → length bytes ≤ max_file → ReadsPlanText view bytes result
-      → Tells before now (λ b n. LoadsText view b n name result)
-  text_loaded None now name bytes result told short reads = tt
-  text_loaded (Some before) None name bytes result told short reads = absurd told
-  text_loaded (Some before) (Some now) name bytes result told short reads =
-      let P : File → Type 0 = λ file. ReadsText view file result in
-      record { asks = asks before now name result told.asked; answer = subst P (sym (file_short max_file (content_of before.files name) bytes told.fetched short)) (text_read bytes result reads) }
-
-  pub text_unfetched : (before now : Option Told) (name : List ℕ) (fault : FetchFault) → FetchTells before now name max_file (Err fault)
-      → Tells before now (λ b n. LoadsText view b n name (Err (fetch_stop 1 fault)))
-  text_unfetched None now name fault told = tt
-  text_unfetched (Some before) None name fault told = absurd told
-  text_unfetched (Some before) (Some now) name fault told = record { asks = asks_unfetched (List ℕ) before now name fault (fetch_stop 1 fault) told.asked; answer = unfetched before.files name fault told.fetched }
+  pub script_unfetched : (before now : Option Told) (name : List ℕ) (fault : FetchFault) → FetchTells before now name max_file (Err fault)
+      → Tells before now (λ b n. LoadsOf Gives b n name (Err (fetch_stop 1 fault)))
+  script_unfetched None now name fault told = tt
+  script_unfetched (Some before) None name fault told = absurd told
+  script_unfetched (Some before) (Some now) name fault told = record { asks = asks_unfetched X before now name fault (fetch_stop 1 fault) told.asked; answer = unfetched before.files name fault told.fetched }
 
 -- ---- a feed
 

@@ -9,13 +9,12 @@ use Rattle.script_grammar.specs.declared.fault.ScriptFault.TheVariants as script
 use Rattle.script_types.specs.declared.plan.Plan.{Plan}
 use Rattle.sensor_feed.specs.declared.fault.FeedFault.{FeedFault}
 use Rattle.sensor_feed.specs.declared.fault.FeedFault.TheVariants as feed
-use Rattle.script_check.specs.Script.{GivesPlan, IsScriptFault}
 use Rattle.script_files.specs.declared.stop.Refusal.{Refusal}
 use Rattle.script_files.specs.declared.stop.Refusal.TheVariants as refusal
 use Rattle.script_files.specs.declared.stop.Stop.{Stop}
 use Rattle.script_files.specs.declared.stop.Stop.TheVariants as stop
 use Rattle.script_files.specs.Files.{File, file_of}
-use Rattle.script_files.specs.Verdict.{Verdict, LogRefused, TooLong, ScriptRefused, FeedRefused, Feeds, FeedsAnswer, Given, Refused, IsBeginning, ScriptGives, ScriptStops, feed_answer, feeds_answer, fetched}
+use Rattle.script_files.specs.Verdict.{Verdict, LogRefused, TooLong, ScriptRefused, FeedRefused, Feeds, FeedsAnswer, Given, Refused, IsBeginning, ScriptGives, ScriptStops, TextGives, feed_answer, feeds_answer, fetched}
 
 -- inputs that tell go on to tell
 abbrev pub Tells : Option Told → Option Told → (Told → Told → Type 0) → Type 0
@@ -59,26 +58,6 @@ feed_stop number feed.NoMemory = stop.NoMemory
 
 -- ---- one file
 
--- what reading the bytes of a script answers
-abbrev pub ReadsPlan : List ℕ → Result Plan Stop → Type 0
-ReadsPlan bytes (Ok plan) = GivesPlan bytes plan
-ReadsPlan bytes (Err (stop.Refused (refusal.TooLong file))) = ⊥
-ReadsPlan bytes (Err (stop.Refused (refusal.Script place cause))) = IsScriptFault bytes place cause
-ReadsPlan bytes (Err (stop.Refused (refusal.Feed number row cause))) = ⊥
-ReadsPlan bytes (Err (stop.Refused (refusal.Log line cause))) = ⊥
-ReadsPlan bytes (Err stop.ReadFault) = ⊥
-ReadsPlan bytes (Err stop.NoMemory) = Unit {0}
-
--- what reading a text of the plan of these bytes answers
-abbrev pub ReadsPlanText : (Plan → List ℕ) → List ℕ → Result (List ℕ) Stop → Type 0
-ReadsPlanText view bytes (Ok text) = (plan : Plan) × GivesPlan bytes plan × (text ≡ view plan)
-ReadsPlanText view bytes (Err (stop.Refused (refusal.TooLong file))) = ⊥
-ReadsPlanText view bytes (Err (stop.Refused (refusal.Script place cause))) = IsScriptFault bytes place cause
-ReadsPlanText view bytes (Err (stop.Refused (refusal.Feed number row cause))) = ⊥
-ReadsPlanText view bytes (Err (stop.Refused (refusal.Log line cause))) = ⊥
-ReadsPlanText view bytes (Err stop.ReadFault) = ⊥
-ReadsPlanText view bytes (Err stop.NoMemory) = Unit {0}
-
 -- the name was asked, but perhaps not where something stops
 abbrev pub Asks : {X E : Type 0} → Told → Told → List ℕ → Result X E → Type 0
 Asks {X} {E} before now name (Ok x) = now ≡ with_asked before name
@@ -88,22 +67,21 @@ abbrev pub StopsScript : File → Option Verdict → Type 0
 StopsScript file None = Unit {0}
 StopsScript file (Some verdict) = ScriptStops file verdict
 
-abbrev pub ReadsScript : File → Result Plan Stop → Type 0
-ReadsScript file (Ok plan) = ScriptGives file plan
-ReadsScript file (Err why) = StopsScript file (stopped_by why)
+-- what the script gives, as its plan or a text of it, or why it gives nothing
+abbrev pub ReadsScript : {X : Type 0} → (File → X → Type 0) → File → Result X Stop → Type 0
+ReadsScript Gives file (Ok x) = Gives file x
+ReadsScript Gives file (Err why) = StopsScript file (stopped_by why)
 
-pub record LoadsScript (before now : Told) (name : List ℕ) (result : Result Plan Stop) : Type 0 where
+pub record LoadsOf {X : Type 0} (Gives : File → X → Type 0) (before now : Told) (name : List ℕ) (result : Result X Stop) : Type 0 where
   pub asks : Asks before now name result
-  pub answer : ReadsScript (file_of before.files name) result
+  pub answer : ReadsScript Gives (file_of before.files name) result
+
+abbrev pub LoadsScript : Told → Told → List ℕ → Result Plan Stop → Type 0
+LoadsScript before now name result = LoadsOf ScriptGives before now name result
 
 -- a text of the script's plan
-abbrev pub ReadsText : (Plan → List ℕ) → File → Result (List ℕ) Stop → Type 0
-ReadsText view file (Ok text) = (plan : Plan) × ScriptGives file plan × (text ≡ view plan)
-ReadsText view file (Err why) = StopsScript file (stopped_by why)
-
-pub record LoadsText (view : Plan → List ℕ) (before now : Told) (name : List ℕ) (result : Result (List ℕ) Stop) : Type 0 where
-  pub asks : Asks before now name result
-  pub answer : ReadsText view (file_of before.files name) result
+abbrev pub LoadsText : (Plan → List ℕ) → Told → Told → List ℕ → Result (List ℕ) Stop → Type 0
+LoadsText view before now name result = LoadsOf (TextGives view) before now name result
 
 abbrev pub StopsFeeds : FeedsAnswer → Option Verdict → Type 0
 StopsFeeds given None = Unit {0}

@@ -40,6 +40,10 @@ ScriptGives Absent plan = ⊥
 ScriptGives Long plan = ⊥
 ScriptGives (Holds bytes) plan = GivesPlan bytes plan
 
+-- a text of the script's plan
+abbrev pub TextGives : (Plan → List ℕ) → File → List ℕ → Type 0
+TextGives view file text = (plan : Plan) × ScriptGives file plan × (text ≡ view plan)
+
 -- it is too long, or has a fault
 abbrev pub ScriptStops : File → Verdict → Type 0
 ScriptStops Absent verdict = ⊥

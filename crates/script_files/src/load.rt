@@ -7,8 +7,9 @@ ghost use Rattle.script_types.specs.Typed.{IsTyped};
 ghost use Rattle.fair_semantics.specs.Fits.{PostFits};
 ghost use Rattle.sensor_feed.specs.Feed.{feed_of};
 ghost use Rattle.command_words.specs.Views.{words_in};
-ghost use Rattle.script_files.specs.Loading.{LoadCause, LoadsFeed, LoadsFeeds, LoadsScript, LoadsText, ReadsFeed, ReadsPlan, ReadsPlanText, Tells, fetch_stop};
-ghost use Rattle.script_files.specs.Verdict.{posts_or};
+ghost use Rattle.script_files.specs.Files.{Holds};
+ghost use Rattle.script_files.specs.Loading.{LoadCause, LoadsFeed, LoadsFeeds, LoadsScript, LoadsText, ReadsFeed, ReadsScript, Tells, fetch_stop};
+ghost use Rattle.script_files.specs.Verdict.{ScriptGives, TextGives, posts_or};
 
 use crate::stop::{Refusal, Stop};
 use feed_store::{Feed, Feeds};
@@ -33,7 +34,8 @@ pub fn fetch_stop(file: u32, fault: FetchFault) -> Stop
 
 // The plan of a script's bytes.
 fn read_plan(alloc: Global, bytes: &[u8]) -> Result<Plan, Stop>
-    ensures plan { ReadsPlan bytes.now result }
+    ensures plan { ReadsScript ScriptGives (Holds bytes.now) result }
+    ensures read { result ≢ Err Stop.ReadFault }
     ensures typed { IfOk result IsTyped }
 {
     Ok(script_check::read_plan(alloc, bytes)?)
@@ -54,7 +56,8 @@ pub fn load_script<I: Inputs>(alloc: Global, inputs: &mut I, name: &Word) -> Res
 
 // The text of the plan of a script's bytes.
 fn read_plan_text(alloc: Global, bytes: &[u8]) -> Result<Bytes, Stop>
-    ensures text { ReadsPlanText plan_text bytes.now result }
+    ensures text { ReadsScript (TextGives plan_text) (Holds bytes.now) result }
+    ensures read { result ≢ Err Stop.ReadFault }
 {
     Ok(script_check::read_plan_text(alloc, bytes)?)
 }
@@ -73,7 +76,8 @@ pub fn load_plan_text<I: Inputs>(alloc: Global, inputs: &mut I, name: &Word) -> 
 
 // The text of the findings of the plan of a script's bytes.
 fn read_lint_text(alloc: Global, bytes: &[u8]) -> Result<Bytes, Stop>
-    ensures text { ReadsPlanText lint_text bytes.now result }
+    ensures text { ReadsScript (TextGives lint_text) (Holds bytes.now) result }
+    ensures read { result ≢ Err Stop.ReadFault }
 {
     Ok(script_check::read_lint_text(alloc, bytes)?)
 }
