@@ -1,4 +1,5 @@
 use building_load::{load_feed, load_feeds, load_plan};
+use feed_store::{packed_all, unpacked_all};
 use join_base::{Message, NoMemory, Posts, ValueRef};
 use std::alloc::Global;
 use std::test::Fail;
@@ -52,9 +53,23 @@ fn has_four_feeds(alloc: Global) -> Result<bool, NoMemory> {
     Ok(feeds.len() == 4)
 }
 
+// Whether the lists of posts of four feeds are packed into four feeds again.
+fn are_packed_again(alloc: Global) -> Result<bool, NoMemory> {
+    let feeds = load_feeds(alloc, 252)?;
+    let lists = unpacked_all(alloc, &feeds)?;
+    let again = packed_all(alloc, &lists)?;
+    Ok(again.len() == 4)
+}
+
 #[test]
 fn a_feed_has_groups_of_three(rt: HostRuntime) -> Result<(), Fail> {
     assert!(rt; has_groups_of_three(rt.alloc())?);
     assert!(rt; has_five_actors(rt.alloc())? && has_four_feeds(rt.alloc())?);
+    Ok(())
+}
+
+#[test]
+fn feeds_are_unpacked_and_packed_where_memory_is_ample(rt: HostRuntime) -> Result<(), Fail> {
+    assert!(rt; are_packed_again(rt.alloc())?);
     Ok(())
 }
