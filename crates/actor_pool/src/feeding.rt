@@ -1,5 +1,5 @@
 //! A feed: its posts, one after the other.
-ghost use Rattle.std.specs.Prelude.{◌≡◌, ◌+◌, ◌<◌, ◌≤◌, OnOk, OnErr, All, length};
+ghost use Rattle.std.specs.Prelude.{◌≡◌, ◌+◌, ◌<◌, ◌≤◌, OnOk, OnErr, All, length, reverse};
 ghost use Rattle.post_ring.specs.Links.{stamped};
 ghost use Rattle.cell_links.specs.Ends.{SendsMore, SendsSame};
 ghost use Rattle.actor_pool.specs.Beside.{FitsSeen};
@@ -15,7 +15,7 @@ use crate::pool::Pool;
 use crate::poster::Poster;
 use crate::source::PoolQueue;
 use crate::turning::{TurnFault, turn_beside};
-use feed_store::Feed;
+use feed_store::{Feed, Packed};
 use join_base::{Message, NoMemory, Steps};
 use std::alloc::Global;
 use std::marker::Brand;
@@ -62,6 +62,7 @@ fn help<R: Wait, B: Beside<R>, L: Ledger>(
 }
 
 // Posts a message, however often its link is full, and announces the actor.
+#[inline(always)]
 fn post_one<R: Wait, B: Beside<R>, L: Ledger>(
     rt: &R,
     alloc: Global,
@@ -100,6 +101,69 @@ fn post_one<R: Wait, B: Beside<R>, L: Ledger>(
     unreachable!()
 }
 
+// Posts what waits, the last one first.
+fn post_waiting<R: Wait, B: Beside<R>, L: Ledger>(
+    rt: &R,
+    alloc: Global,
+    pool: &Pool,
+    poster: &mut Poster,
+    helper: &mut Helper,
+    beside: &mut B,
+    mut waiting: Vec<(u32, Message)>,
+    steps: &mut Steps<L>,
+) -> Result<(), NoMemory>
+    requires poster { IsPosterOf pool.now poster.old }
+    requires helper { IsHelperOf pool.now helper.old }
+    requires exist { All (λ post. post.0 < actor_count pool.now) waiting.items }
+    requires fits { FitsSeen B.fits (seat_of helper.old) beside.old }
+    ensures poster { IsPosterOf pool.now poster.new }
+    ensures tag { feed_tag poster.new ≡ feed_tag poster.old }
+    ensures goes_on { HelperGoesOn pool.now helper.old helper.new }
+    ensures sent { OnOk result (SendsAll (feed_links poster.old) (reverse waiting.items) (feed_links poster.new)) }
+    ensures some { OnErr result (SendsSome (feed_links poster.old) (reverse waiting.items) (feed_links poster.new)) }
+    ensures tries { OnOk result ((seat_of helper.old).tries + length waiting.items ≤ (seat_of helper.new).tries) }
+    ensures fits { FitsSeen B.fits (seat_of helper.new) beside.new }
+{
+    while let Some((actor, message)) = waiting.pop() {
+        post_one(
+            rt, alloc, pool, poster, helper, beside, actor, message, steps,
+        )?;
+    }
+    Ok(())
+}
+
+// Posts packed posts in order.
+fn post_packed<R: Wait, B: Beside<R>, L: Ledger>(
+    rt: &R,
+    alloc: Global,
+    pool: &Pool,
+    poster: &mut Poster,
+    helper: &mut Helper,
+    beside: &mut B,
+    packed: &Packed,
+    steps: &mut Steps<L>,
+) -> Result<(), NoMemory>
+    requires poster { IsPosterOf pool.now poster.old }
+    requires helper { IsHelperOf pool.now helper.old }
+    requires exist { All (λ post. post.0 < actor_count pool.now) packed.now }
+    requires fits { FitsSeen B.fits (seat_of helper.old) beside.old }
+    ensures poster { IsPosterOf pool.now poster.new }
+    ensures tag { feed_tag poster.new ≡ feed_tag poster.old }
+    ensures goes_on { HelperGoesOn pool.now helper.old helper.new }
+    ensures sent { OnOk result (SendsAll (feed_links poster.old) packed.now (feed_links poster.new)) }
+    ensures some { OnErr result (SendsSome (feed_links poster.old) packed.now (feed_links poster.new)) }
+    ensures tries { OnOk result ((seat_of helper.old).tries + length packed.now ≤ (seat_of helper.new).tries) }
+    ensures fits { FitsSeen B.fits (seat_of helper.new) beside.new }
+{
+    let mut rest = packed.reader();
+    'posts: while let Some((actor, message)) = rest.next(alloc)? {
+        post_one(
+            rt, alloc, pool, poster, helper, beside, actor, message, steps,
+        )?;
+    }
+    Ok(())
+}
+
 // Posts all posts of a feed in order.
 fn post_all<R: Wait, B: Beside<R>, L: Ledger>(
     rt: &R,
@@ -108,12 +172,12 @@ fn post_all<R: Wait, B: Beside<R>, L: Ledger>(
     poster: &mut Poster,
     helper: &mut Helper,
     beside: &mut B,
-    posts: &Feed,
+    posts: Feed,
     blank: Blank,
 ) -> Result<(), NoMemory>
     requires poster { IsPosterOf pool.now poster.old }
     requires helper { IsHelperOf pool.now helper.old }
-    requires exist { All (λ post. post.0 < actor_count pool.now) posts.now }
+    requires exist { All (λ post. post.0 < actor_count pool.now) posts }
     requires fits { FitsSeen B.fits (seat_of helper.old) beside.old }
     requires name { blank.name ≡ L.name }
     requires blank_parts { blank.parts ≡ L.parts }
@@ -121,19 +185,16 @@ fn post_all<R: Wait, B: Beside<R>, L: Ledger>(
     ensures poster { IsPosterOf pool.now poster.new }
     ensures tag { feed_tag poster.new ≡ feed_tag poster.old }
     ensures goes_on { HelperGoesOn pool.now helper.old helper.new }
-    ensures sent { OnOk result (SendsAll (feed_links poster.old) posts.now (feed_links poster.new)) }
-    ensures some { OnErr result (SendsSome (feed_links poster.old) posts.now (feed_links poster.new)) }
-    ensures tries { OnOk result ((seat_of helper.old).tries + length posts.now ≤ (seat_of helper.new).tries) }
+    ensures sent { OnOk result (SendsAll (feed_links poster.old) posts (feed_links poster.new)) }
+    ensures some { OnErr result (SendsSome (feed_links poster.old) posts (feed_links poster.new)) }
+    ensures tries { OnOk result ((seat_of helper.old).tries + length posts ≤ (seat_of helper.new).tries) }
     ensures fits { FitsSeen B.fits (seat_of helper.new) beside.new }
 {
     let mut steps = Steps::<L>::new(blank);
-    let mut rest = posts.reader();
-    'posts: while let Some((actor, message)) = rest.next(alloc)? {
-        post_one(
-            rt, alloc, pool, poster, helper, beside, actor, message, &mut steps,
-        )?;
-    }
-    Ok(())
+    let (mut whole, packed) = posts.into_parts();
+    whole.reverse();
+    post_waiting(rt, alloc, pool, poster, helper, beside, whole, &mut steps)?;
+    post_packed(rt, alloc, pool, poster, helper, beside, &packed, &mut steps)
 }
 
 /// Posts all posts of a feed, as `feed` does. Each actor that it takes a turn at is shown to what stands beside.
@@ -161,7 +222,7 @@ pub fn feed_beside<R: Wait, B: Beside<R>>(
     ensures fits { FitsSeen B.fits (seat_of helper.new) beside.new }
 {
     let blank = Blank::new(1);
-    let fed = post_all::<R, B, Brand>(rt, alloc, pool, poster, helper, beside, &posts, blank);
+    let fed = post_all::<R, B, Brand>(rt, alloc, pool, poster, helper, beside, posts, blank);
     if fed.is_err() {
         tell_failure(pool);
     }

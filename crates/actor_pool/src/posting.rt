@@ -15,6 +15,7 @@ impl Poster {
     /// no free slot on that link; then nothing was sent and no actor was flagged.
     ///
     /// It takes no memory and does not wait.
+    #[inline]
     pub fn post(&mut self, pool: &Pool, actor: u32, message: Message) -> Result<(), Full>
         requires own { IsPosterOf pool.now self.old }
         requires exists { actor < actor_count pool.now }

@@ -73,7 +73,8 @@ pub fn load_feed(alloc: Global, rows: u32, hall: u32) -> Result<Feed, NoMemory>
     let mut posts = Feed::new(alloc);
     for place in 0..rows {
         let row = row_at(alloc, hall - 1, place)?;
-        posts.push(row.0, &row.1)?;
+        let (target, message) = row;
+        posts.push(target, message)?;
     }
     Ok(posts)
 }

@@ -1,6 +1,6 @@
 -- The first post where it is kept.
 use Rattle.std.specs.Prelude.{◌≡◌, ◌≤◌, List, [], ◌∷◌, length, Option, Some, None}
-use Rattle.feed_store.specs.declared.feed_reader.First.{First}
+use Rattle.feed_store.specs.declared.packed_reader.First.{First}
 use Rattle.feed_store.specs.Kept.{CanReadAll, Post, post_at}
 
 -- it can be read, and is in front of the others

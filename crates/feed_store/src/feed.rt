@@ -1,79 +1,81 @@
 //! A feed.
-ghost use Rattle.std.specs.Prelude.{◌≡◌, ◌∷◌, [], ◌++◌, length, IfOk, OnOk, OnErr};
+ghost use Rattle.std.specs.Prelude.{◌≡◌, ◌∷◌, [], ◌++◌, IfOk, OnOk, OnErr};
 
 use crate::feed_reader::FeedReader;
-use crate::kept::{Head, Stock, count, push_values};
+use crate::packed::Packed;
 use join_base::{Items, Message, NoMemory, Posts};
 use std::alloc::Global;
 use std::marker::Model;
 
-/// The posts of a feed in their order, in little room: 12 bytes a post, 2 a value, 8 an integer, and the bytes of its
-/// texts.
+// How many bytes of posts stand whole, by their weight.
+const ROOM: usize = 3 << 20;
+
+/// The posts of a feed in their order. The first ones stand whole, some 3 MB of them, and cost nothing to pack. Those
+/// behind them are packed, and take little room.
 #[derive(Drop)]
 pub struct Feed {
-    heads: Vec<Head>,
-    stock: Stock,
+    whole: Vec<(u32, Message)>,
+    packed: Packed,
+    // How much more weight may stand whole.
+    room: usize,
 }
 
 impl Model for Feed {
-    ghost use Rattle.std.specs.Prelude.{List};
-    ghost use Rattle.feed_store.specs.Kept.{IsKept, Post, posts_of};
+    ghost use Rattle.std.specs.Prelude.{List, ◌++◌};
+    ghost use Rattle.feed_store.specs.Kept.{Post};
 
     ghost Value = { List Post };
 
-    ghost view = { λ a. posts_of a.heads.items a.stock.marks.items a.stock.integers.items a.stock.words.items };
+    ghost view = { λ a. a.whole.items ++ a.packed };
+}
 
-    ghost invariant = { λ a. IsKept (posts_of a.heads.items a.stock.marks.items a.stock.integers.items a.stock.words.items)
-        a.heads.items a.stock.marks.items a.stock.integers.items a.stock.words.items };
+// Some of the bytes that a post takes which stands whole. No clause rests on it.
+#[inline]
+fn weight(message: &Message) -> usize {
+    let values = message.fields.len();
+    if values <= 1 { 48 } else { 48 + 32 * values }
 }
 
 impl Feed {
     pub fn new(alloc: Global) -> Feed
         ensures empty { result ≡ [] }
     {
-        let heads = Vec::new(alloc);
-        let marks = Vec::new(alloc);
-        let integers = Vec::new(alloc);
-        let words = Vec::new(alloc);
-        let stock = Stock {
-            marks,
-            integers,
-            words,
-        };
-        Feed { heads, stock }
+        Feed {
+            whole: Vec::new(alloc),
+            packed: Packed::new(alloc),
+            room: ROOM,
+        }
     }
 
-    /// Appends a post of a copy of the message. Without memory nothing changes.
-    pub fn push(&mut self, target: u32, message: &Message) -> Result<(), NoMemory>
-        ensures ok { OnOk result (self.new ≡ self.old ++ (target, message.now) ∷ []) }
+    /// Appends a post. Without memory nothing changes.
+    #[inline]
+    pub fn push(&mut self, target: u32, message: Message) -> Result<(), NoMemory>
+        ensures ok { OnOk result (self.new ≡ self.old ++ (target, message) ∷ []) }
         ensures err { OnErr result (self.new ≡ self.old) }
     {
-        let values = message.fields.len() as u8;
-        self.heads.reserve(1)?;
-        push_values(&mut self.stock, &message.fields)?;
-        self.heads.push_reserved(Head {
-            target,
-            kind: message.kind,
-            count: values,
-        });
+        let weight = weight(&message);
+        let fits = weight <= self.room && self.packed.is_empty();
+        if !fits {
+            return self.packed.push(target, &message);
+        }
+        self.whole.push((target, message))?;
+        self.room -= weight;
         Ok(())
-    }
-
-    pub fn len(&self) -> usize
-        ensures count { result ≡ length self.now }
-    {
-        count(&self.heads)
     }
 
     /// All posts, to be read from the first on.
     pub fn reader(&self) -> FeedReader<'_>
         ensures same { result ≡ self.now }
     {
-        let heads = self.heads.as_slice();
-        let marks = self.stock.marks.as_slice();
-        let integers = self.stock.integers.as_slice();
-        let words = self.stock.words.as_slice();
-        FeedReader::new(heads, marks, integers, words)
+        FeedReader::new(self.whole.as_slice(), self.packed.reader())
+    }
+
+    /// The posts that stand whole, and those behind them.
+    pub fn into_parts(self) -> (Vec<(u32, Message)>, Packed)
+        ensures same { self ≡ result.0.items ++ result.1 }
+    {
+        let Feed { whole, packed, .. } = self;
+        (whole, packed)
     }
 
     /// The feed of these posts.
@@ -82,7 +84,7 @@ impl Feed {
     {
         let mut feed = Feed::new(alloc);
         for post in posts {
-            feed.push(post.0, &post.1)?;
+            feed.push(post.0, post.1.copy(alloc)?)?;
         }
         Ok(feed)
     }
@@ -91,7 +93,7 @@ impl Feed {
     pub fn unpacked(&self, alloc: Global) -> Result<Posts, NoMemory>
         ensures same { IfOk result (λ posts. posts ≡ self.now) }
     {
-        let mut posts = Vec::with_capacity(alloc, self.len())?;
+        let mut posts = Vec::new(alloc);
         let mut rest = self.reader();
         'posts: while let Some(post) = rest.next(alloc)? {
             posts.push(post)?;

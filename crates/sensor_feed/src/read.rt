@@ -20,10 +20,11 @@ use script_types::Plan;
 use std::alloc::Global;
 
 // Appends a post.
-fn push_post(posts: &mut Feed, post: &(u32, Message)) -> Result<(), NoMemory>
-    ensures { OnOk result (posts.new ≡ posts.old ++ post.now ∷ []) }
+fn push_post(posts: &mut Feed, post: (u32, Message)) -> Result<(), NoMemory>
+    ensures { OnOk result (posts.new ≡ posts.old ++ post ∷ []) }
 {
-    posts.push(post.0, &post.1)
+    let (target, message) = post;
+    posts.push(target, message)
 }
 
 // The fault of the record of this number.
@@ -51,7 +52,7 @@ fn posts_of_lines(alloc: Global, names: &Names<'_>, bytes: &[u8]) -> Result<Feed
             None => return Ok(posts),
         }
         match post_of(alloc, names, Row::Line(fields.as_slice())) {
-            Ok(post) => push_post(&mut posts, &post)?,
+            Ok(post) => push_post(&mut posts, post)?,
             Err(refusal) => return Err(fault_at(row, refusal)),
         }
     }
@@ -73,7 +74,7 @@ fn posts_of_records(alloc: Global, names: &Names<'_>, bytes: &[u8]) -> Result<Fe
             return Ok(posts);
         }
         match post_of(alloc, names, Row::Read(&record)) {
-            Ok(post) => push_post(&mut posts, &post)?,
+            Ok(post) => push_post(&mut posts, post)?,
             Err(refusal) => return Err(fault_at(row, refusal)),
         }
     }

@@ -24,8 +24,8 @@ pub fn board_of_two(alloc: Global) -> Result<AskBoard, NoMemory>
     let first = message(alloc);
     let second = message(alloc);
     let mut posts = Feed::new(alloc);
-    posts.push(0, &first)?;
-    posts.push(1, &second)?;
+    posts.push(0, first)?;
+    posts.push(1, second)?;
     let mut feeds = Feeds::new(alloc);
     feeds.push(posts)?;
     AskBoard::new(alloc, &feeds, 2)

@@ -3,7 +3,7 @@ use Rattle.join_base.specs.declared.message.Message.{Message}
 use Rattle.actor_pool.specs.Beside.{FitsSeen}
 use Rattle.actor_pool.specs.Helpers.{HelperGoesOn, seat_of, actor_count}
 use Rattle.actor_pool.specs.Posters.{IsPosterOf, SendsAll, feed_tag, feed_links}
-use Rattle.actor_pool.proofs.feeding.post_all.Given as goal
+use Rattle.actor_pool.proofs.feeding.post_packed.Given as goal
 
 abbrev pub invariant-posts : goal.invariant-posts
 invariant-posts g l = record {
@@ -12,7 +12,7 @@ invariant-posts g l = record {
   goes_on : HelperGoesOn l.pool l.initial.helper l.helper;
   fits : FitsSeen g.B.Beside.fits (seat_of l.helper) l.beside;
   exist : All (λ post. post.0 < actor_count l.pool) l.rest;
-  sent : (done : List (ℕ × Message)) × (l.posts ≡ done ++ l.rest)
+  sent : (done : List (ℕ × Message)) × (l.packed ≡ done ++ l.rest)
       × SendsAll (feed_links l.initial.poster) done (feed_links l.poster) × ((seat_of l.initial.helper).tries + length done ≤ (seat_of l.helper).tries);
 }
 

@@ -1,6 +1,6 @@
 use Rattle.std.proofs.Common.{◌∙◌}
 use Rattle.feed_store.proofs.KeptLemmas.{kept_same, same_posts}
-use Rattle.feed_store.proofs.feed.Feed.reader.Goals as goal
+use Rattle.feed_store.proofs.packed.Packed.reader.Goals as goal
 
 pub new-requires : goal.new-requires
 new-requires c =

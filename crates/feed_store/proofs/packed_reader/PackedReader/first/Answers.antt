@@ -2,7 +2,7 @@ use Rattle.std.proofs.Common.{◌∙◌, List, take, drop, ap, arith, refl, subs
 use Rattle.feed_store.specs.declared.kept.Mark.{Mark}
 use Rattle.feed_store.specs.Kept.{CanReadAll, all_integers_behind, all_words_behind}
 use Rattle.feed_store.proofs.KeptLemmas.{first_post, kept_same, next_of, posts_empty}
-use Rattle.feed_store.proofs.feed_reader.FeedReader.first.Goals as goal
+use Rattle.feed_store.proofs.packed_reader.PackedReader.first.Goals as goal
 
 pub split_at-requires : goal.split_at-requires
 split_at-requires c = (next_of c.self.inside.heads.now c.in-Some.head.now c.in-Some.heads.now c.self.inside.marks.now c.self.inside.integers.now c.self.inside.words.now c.self.invariant c.in-Some.ensures.cases.0).within

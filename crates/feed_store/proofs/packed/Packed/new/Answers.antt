@@ -1,5 +1,5 @@
 use Rattle.feed_store.proofs.KeptLemmas.{kept_none, posts_none}
-use Rattle.feed_store.proofs.feed.Feed.new.Goals as goal
+use Rattle.feed_store.proofs.packed.Packed.new.Goals as goal
 
 pub invariant_of-result : goal.invariant_of-result
 invariant_of-result c =

@@ -3,7 +3,7 @@ use Rattle.std.proofs.lemmas.Result.{err_from_is_err_and}
 use Rattle.feed_store.specs.declared.kept.Head.{Head}
 use Rattle.feed_store.specs.Kept.{Post, head_of}
 use Rattle.feed_store.proofs.KeptLemmas.{kept_same, pushed, same_posts}
-use Rattle.feed_store.proofs.feed.Feed.push.Goals as goal
+use Rattle.feed_store.proofs.packed.Packed.push.Goals as goal
 
 pub invariant_of-self : goal.invariant_of-self
 invariant_of-self c =
