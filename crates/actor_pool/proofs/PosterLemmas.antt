@@ -77,10 +77,6 @@ pub more-done : {X : Type 0} (all l ys done : List X) (x : X) → all ≡ done +
 more-done all l ys done x is last =
     is ∙ ap (λ m. done ++ reverse m) last ∙ ap (λ m. done ++ m) (reverse-append ys (x ∷ [])) ∙ sym (append_assoc done (x ∷ []) (reverse ys))
 
--- the first of what is left is done
-pub first-done : {X : Type 0} (all left rest done : List X) (x : X) → all ≡ done ++ left → left ≡ x ∷ rest → all ≡ (done ++ x ∷ []) ++ rest
-first-done all left rest done x is first = is ∙ ap (λ m. done ++ m) first ∙ sym (append_assoc done (x ∷ []) rest)
-
 -- ---- some posts, and then others
 
 pub sends-both : (old mid now : List Outward) (xs ys : List (ℕ × Message)) → SendsAll old xs mid → SendsAll mid ys now → SendsAll old (xs ++ ys) now

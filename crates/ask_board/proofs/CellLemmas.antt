@@ -8,6 +8,7 @@ use Rattle.std.proofs.lemmas.Bool.{cases_eq}
 use Rattle.std.proofs.lemmas.Bool.Decides.{nat_tests}
 use Rattle.std.proofs.lemmas.Option.{slice_get_within}
 use Rattle.join_base.specs.declared.message.Message.{Message}
+use Rattle.feed_store.proofs.LeftLemmas.{one_done}
 use Rattle.ask_board.specs.declared.view.Ask.{Ask}
 use Rattle.ask_board.specs.Rows.{Rows, from_one, item_of}
 use Rattle.ask_board.specs.Board.{AreCellsOf, IsPost, posts_to}
@@ -157,9 +158,6 @@ IsFirst target left rest = (message : Message) × (left ≡ (target, message) �
 
 pub cells_none : {C : Type 0} (n : ℕ) (posts left : List (ℕ × Message)) (rows : List (List C)) → left ≡ posts → rows ≡ replicate n [] → HasCells n posts left rows
 cells_none n posts left rows same none = ([], sym same, rw none (no_posts n))
-
-one_done : (posts left rest done : List (ℕ × Message)) (post : ℕ × Message) → posts ≡ done ++ left → left ≡ post ∷ rest → posts ≡ (done ++ post ∷ []) ++ rest
-one_done posts left rest done post is first = is ∙ ap (λ (ps : List (ℕ × Message)). done ++ ps) first ∙ sym (append_assoc done (post ∷ []) rest)
 
 pub cell_step : {C : Type 0} (n : ℕ) (posts left rest : List (ℕ × Message)) (rows : List (List C)) (target : ℕ) (row new : List C) (x : C) → HasCells n posts left rows → IsFirst target left rest
     → slice_get rows target ≡ Some row → new ≡ row ++ x ∷ [] → HasCells n posts rest (slice_set rows target new)

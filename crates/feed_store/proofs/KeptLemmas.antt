@@ -7,6 +7,7 @@ use Rattle.std.proofs.lemmas.Option.{slice_get_within, get_or_from_slice_get}
 use Rattle.join_base.specs.declared.message.Value.{Value}
 use Rattle.join_base.specs.declared.message.Value.TheVariants as value
 use Rattle.join_base.specs.Text.{IsText}
+use Rattle.join_base.proofs.EachLemmas.{each_last}
 use Rattle.feed_store.specs.declared.kept.Head.{Head}
 use Rattle.feed_store.specs.declared.kept.Mark.{Mark}
 use Rattle.feed_store.specs.Kept.{CanRead, CanReadAll, HasText, IsKept, IsPost, Post, all_integers_behind, all_words_behind, head_of, integers_behind, integers_of, marks_of, post_at, post_integers, post_marks, post_words, posts_of, value_at, values_of, words_behind, words_of}
@@ -204,10 +205,6 @@ posts_empty (head ∷ heads) marks integers words none = absurd (omega (arith, n
 
 -- ---- one post more
 
-all_more : {X : Type 0} (P : X → Type 0) (xs : List X) (x : X) → AllByRecursion P xs → P x → AllByRecursion P (xs ++ x ∷ [])
-all_more P [] x all last = (last, tt)
-all_more P (y ∷ xs) x all last = (all.0, all_more P xs x all.1 last)
-
 flat_more : {X A : Type 0} (f : A → List X) (xs : List A) (x : A) → flat_map f (xs ++ x ∷ []) ≡ flat_map f xs ++ f x
 flat_more f xs x = flat_map-append f xs (x ∷ []) ∙ ap (λ ys. flat_map f xs ++ ys) (append-nil (f x))
 
@@ -227,7 +224,7 @@ pushed heads marks integers words hs ms is ws post kept fits h m i w =
       own_marks = m ∙ ap (λ (x : List Mark). x ++ post_marks post) kept.own_marks ∙ sym (flat_more post_marks posts post);
       own_integers = i ∙ ap (λ (x : List ℤ). x ++ post_integers post) kept.own_integers ∙ sym (flat_more post_integers posts post);
       own_words = w ∙ ap (λ (x : List ℕ). x ++ post_words post) kept.own_words ∙ sym (flat_more post_words posts post);
-      own_posts = all_more IsPost posts post kept.own_posts fits;
+      own_posts = each_last IsPost posts post kept.own_posts fits;
     } in
     record {
       kept = settled (posts ++ post ∷ []) hs ms is ws more;
@@ -249,7 +246,7 @@ part_more f values place v old now new found before more =
     ∙ ap (λ xs. old ++ xs) (sym (flat_more f (take place values) v)) ∙ ap (λ (vs : List Value). old ++ flat_map f vs) (taken_more values place v found)
 
 pub texts_more : (values : List Value) (place : ℕ) (v : Value) → slice_get values place ≡ Some v → AllByRecursion HasText (take place values) → HasText v → AllByRecursion HasText (take (place + 1) values)
-texts_more values place v found texts text = subst (AllByRecursion HasText) (taken_more values place v found) (all_more HasText (take place values) v texts text)
+texts_more values place v found texts text = subst (AllByRecursion HasText) (taken_more values place v found) (each_last HasText (take place values) v texts text)
 
 -- what there was is in front of what there is
 pub front_kept : {X : Type 0} (old more new : List X) → new ≡ old ++ more → take (length old) new ≡ old

@@ -47,6 +47,18 @@ impl Feed {
         }
     }
 
+    /// A feed without a post, with room for so many whole ones.
+    pub fn with_room(alloc: Global, posts: usize) -> Result<Feed, NoMemory>
+        ensures empty { IfOk result (λ feed. feed ≡ []) }
+    {
+        let whole = Vec::with_capacity(alloc, posts)?;
+        Ok(Feed {
+            whole,
+            packed: Packed::new(alloc),
+            room: ROOM,
+        })
+    }
+
     /// Appends a post. Without memory nothing changes.
     #[inline]
     pub fn push(&mut self, target: u32, message: Message) -> Result<(), NoMemory>

@@ -12,10 +12,10 @@ use Rattle.script_files.specs.declared.stop.Stop.TheVariants as stop
 use Rattle.script_types.specs.Typed.{IsTyped}
 use Rattle.plan_text.specs.PlanText.{plan_text}
 use Rattle.script_lint.specs.LintText.{lint_text}
-use Rattle.script_files.specs.Files.{file_of, log_of}
-use Rattle.script_files.specs.Verdict.{Feeds, FeedsAnswer, Given, IsBeginning, Asks, Checks, Lints, OfScript, Runs, Watches, Refused, ScriptGives, Verdict, fetched, feeds_answer}
+use Rattle.script_files.specs.Files.{File, file_of, log_of}
+use Rattle.script_files.specs.Verdict.{Feeds, FeedsAnswer, Given, IsBeginning, Asks, Checks, Lints, OfScript, Runs, Watches, Refused, ScriptGives, TextGives, Verdict, fetched, feeds_answer}
 use Rattle.join_command.specs.Verdict.{MayAsk, MayAskRun, MayAskScript, OfCommand, OfRun, Outcome, asks_feeds, asks_nothing, asks_script, replay_asks_nothing, replay_asks_script, replay_asks_log, limits_of, run_of}
-use Rattle.script_files.specs.Loading.{LoadsFeeds, LoadsScript, LoadsText, ReadsFeeds, StopsFeeds, StopsScript, Tells, stopped_by}
+use Rattle.script_files.specs.Loading.{LoadsFeeds, LoadsOf, LoadsScript, LoadsText, ReadsFeeds, StopsFeeds, StopsScript, Tells, stopped_by}
 use Rattle.join_command.specs.Loading.{LoadsLog, ReadsLog}
 use Rattle.join_command.specs.Replying.{OfStop, Replies, replied_with, verdict_of}
 
@@ -32,17 +32,17 @@ load_replied rows (Some before) = record { asked = []; told_is = asked_none befo
 
 module _ (command : Command) (name : List ℕ) (none : (files : Files) → MayAsk files command []) (one : (files : Files) → MayAsk files command (name ∷ []))
     (refused : (files : Files) (o : Option Verdict) → StopsScript (file_of files name) o → OfStop files command o) where
-  stops : (before now : Told) (why : Stop) → LoadsScript before now name (Err why) → Replies command before now (Err why)
-  stops before now why loaded = by_asks loaded.asks
+  stops : {X : Type 0} (Gives : File → X → Type 0) (before now : Told) (why : Stop) → LoadsOf Gives before now name (Err why) → Replies command before now (Err why)
+  stops Gives before now why loaded = by_asks loaded.asks
     where
       by_asks : (now ≡ with_asked before name) ⊎ (now ≡ before) → Replies command before now (Err why)
       by_asks (inl is) = record { asked = name ∷ []; told_is = is; may_ask = one before.files; verdict = refused before.files (stopped_by why) loaded.answer }
       by_asks (inr is) = record { asked = []; told_is = is ∙ asked_none before; may_ask = none before.files; verdict = refused before.files (stopped_by why) loaded.answer }
 
-  stopped : (before now : Option Told) (why : Stop) → Tells before now (λ b n. LoadsScript b n name (Err why)) → Tells before now (λ b n. Replies command b n (Err why))
-  stopped None now why loaded = tt
-  stopped (Some before) None why loaded = absurd loaded
-  stopped (Some before) (Some now) why loaded = stops before now why loaded
+  stopped : {X : Type 0} (Gives : File → X → Type 0) (before now : Option Told) (why : Stop) → Tells before now (λ b n. LoadsOf Gives b n name (Err why)) → Tells before now (λ b n. Replies command b n (Err why))
+  stopped Gives None now why loaded = tt
+  stopped Gives (Some before) None why loaded = absurd loaded
+  stopped Gives (Some before) (Some now) why loaded = stops Gives before now why loaded
 
 -- ---- `run`, `ask` and `watch`
 
@@ -53,7 +53,7 @@ module _ (command : Command) (run : RunWords) (outcome : Outcome) (may : (files 
   loading_refused files (Some verdict) is = of files verdict (inl is)
 
   loading_script_stopped : (before now : Option Told) (why : Stop) → Tells before now (λ b n. LoadsScript b n run.script (Err why)) → Tells before now (λ b n. Replies command b n (Err why))
-  loading_script_stopped = stopped command run.script (λ files. may files [] asks_nothing) (λ files. may files (run.script ∷ []) asks_script) loading_refused
+  loading_script_stopped = stopped command run.script (λ files. may files [] asks_nothing) (λ files. may files (run.script ∷ []) asks_script) loading_refused ScriptGives
 
   module _ (plan : Plan) where
     -- what the feeds come to is what the run comes to
@@ -134,13 +134,8 @@ module _ (command : Command) (name : List ℕ) (view : Plan → List ℕ) (outco
   text_refused files None is = tt
   text_refused files (Some verdict) is = of files verdict (inl is)
 
-  as_script : (before now : Told) (why : Stop) → LoadsText view before now name (Err why) → LoadsScript before now name (Err why)
-  as_script before now why loaded = record { asks = loaded.asks; answer = loaded.answer }
-
   text_stopped : (before now : Option Told) (why : Stop) → Tells before now (λ b n. LoadsText view b n name (Err why)) → Tells before now (λ b n. Replies command b n (Err why))
-  text_stopped None now why loaded = tt
-  text_stopped (Some before) None why loaded = absurd loaded
-  text_stopped (Some before) (Some now) why loaded = stops command name (λ files. may files [] (inl refl)) (λ files. may files (name ∷ []) (inr refl)) text_refused before now why (as_script before now why loaded)
+  text_stopped = stopped command name (λ files. may files [] (inl refl)) (λ files. may files (name ∷ []) (inr refl)) text_refused (TextGives view)
 
   text_replied : (answer : Reply) (text : List ℕ) → verdict_of answer ≡ outcome text → (before now : Option Told) → Tells before now (λ b n. LoadsText view b n name (Ok text)) → Tells before now (λ b n. Replies command b n (Ok answer))
   text_replied answer text same None now loaded = tt
@@ -175,7 +170,7 @@ module _ (script log : List ℕ) where
   replay_refused files (Some verdict) is = inl is
 
   pub replay_script_stopped : (before now : Option Told) (why : Stop) → Tells before now (λ b n. LoadsScript b n script (Err why)) → Tells before now (λ b n. Replies (Replay script log) b n (Err why))
-  replay_script_stopped = stopped (Replay script log) script (λ files. replay_asks_nothing) (λ files. replay_asks_script) replay_refused
+  replay_script_stopped = stopped (Replay script log) script (λ files. replay_asks_nothing) (λ files. replay_asks_script) replay_refused ScriptGives
 
   asked_both : (before now : Told) → now ≡ with_asked (with_asked before script) log → now ≡ record { files = before.files; asked = before.asked ++ (script ∷ log ∷ []) }
   asked_both before now is = is ∙ (λ i. record { files = before.files; asked = append_assoc before.asked (script ∷ []) (log ∷ []) i })

@@ -19,6 +19,13 @@ use join_base::{Message, NoMemory};
 use script_types::Plan;
 use std::alloc::Global;
 
+// A feed without a post, with room for as many as there may be in a file of this size, up to a number.
+fn feed_with_room(alloc: Global, size: usize) -> Result<Feed, NoMemory>
+    ensures { IfOk result (λ posts. posts ≡ []) }
+{
+    Feed::with_room(alloc, (size / 4 + 1).min(4096))
+}
+
 // Appends a post.
 fn push_post(posts: &mut Feed, post: (u32, Message)) -> Result<(), NoMemory>
     ensures { OnOk result (posts.new ≡ posts.old ++ post ∷ []) }
@@ -43,7 +50,7 @@ fn posts_of_lines(alloc: Global, names: &Names<'_>, bytes: &[u8]) -> Result<Feed
     requires plain { IsPlain bytes.now }
     ensures { GivesPosts result (feed_of names.now.plan.now bytes.now) }
 {
-    let mut posts = Feed::new(alloc);
+    let mut posts = feed_with_room(alloc, bytes.len())?;
     let mut fields = Vec::new(alloc);
     let mut rest = bytes;
     for row in 1..u64::MAX {
@@ -67,7 +74,7 @@ fn posts_of_records(alloc: Global, names: &Names<'_>, bytes: &[u8]) -> Result<Fe
 {
     let mut reader = reader_of(alloc, bytes)?;
     let mut record = ByteRecord::new(alloc);
-    let mut posts = Feed::new(alloc);
+    let mut posts = feed_with_room(alloc, bytes.len())?;
     for row in 1..u64::MAX {
         let found = take_record(&mut reader, &mut record)?;
         if !found {

@@ -1,9 +1,10 @@
 use Rattle.std.proofs.Common.{arith, ℕ, ◌<◌, ◌∙◌, ◌∷◌, [], ◌++◌}
 use Rattle.std.proofs.lemmas.List.{length-append}
 use Rattle.join_base.specs.declared.message.Message.{Message}
+use Rattle.feed_store.proofs.LeftLemmas.{one_done}
 use Rattle.actor_pool.specs.Helpers.{actor_count}
 use Rattle.actor_pool.proofs.HelperLemmas.{goes-further}
-use Rattle.actor_pool.proofs.PosterLemmas.{All-first, All-rest, all-more, first-done, first-read}
+use Rattle.actor_pool.proofs.PosterLemmas.{All-first, All-rest, all-more, first-read}
 use Rattle.actor_pool.proofs.feeding.post_packed.Goals as goal
 
 pub post_one-requires-clause-exists : goal.post_one-requires-clause-exists
@@ -30,7 +31,7 @@ posts-preserved g c =
       exist = All-rest (λ (x : ℕ × Message). x.0 < actor_count c.args.pool.now) c.posts.rest c.next.new.self post first before.exist;
       sent = (
         done ++ post ∷ [],
-        first-done _ _ _ done post before.sent.1 first,
+        one_done _ _ _ done post before.sent.1 first,
         all-more _ _ _ done post before.sent.2 step.sent,
         omega (arith, before.sent.3, step.tries, length-append done (post ∷ [])),
       );
