@@ -1,7 +1,8 @@
 //! The posts of a feed: the first ones whole, and the others in little room.
 //!
-//! - `Feed` is seen as the list of its posts, each an actor's number and a message. `push` appends one, and without
-//!   memory nothing changes. `into_parts` gives those that stand whole, and those behind them.
+//! - `Feed` is seen as the list of its posts, each an actor's number and a message. `with_room` makes one that holds no
+//!   post yet. `push` appends one, and without memory nothing changes. `into_parts` gives those that stand whole, and
+//!   those behind them.
 //! - `Packed` is a list of posts in little room, and `PackedReader` what is left of one.
 //! - `FeedReader` is seen as the list of the posts that are left. `next` takes the first, and `next_target` passes over
 //!   it.
