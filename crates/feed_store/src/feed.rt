@@ -60,7 +60,7 @@ impl Feed {
     }
 
     /// Appends a post. Without memory nothing changes.
-    #[inline]
+    #[inline(always)]
     pub fn push(&mut self, target: u32, message: Message) -> Result<(), NoMemory>
         ensures ok { OnOk result (self.new ≡ self.old ++ (target, message) ∷ []) }
         ensures err { OnErr result (self.new ≡ self.old) }

@@ -27,6 +27,7 @@ fn feed_with_room(alloc: Global, size: usize) -> Result<Feed, NoMemory>
 }
 
 // Appends a post.
+#[inline(always)]
 fn push_post(posts: &mut Feed, post: (u32, Message)) -> Result<(), NoMemory>
     ensures { OnOk result (posts.new ≡ posts.old ++ post ∷ []) }
 {
