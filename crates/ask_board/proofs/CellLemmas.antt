@@ -1,7 +1,7 @@
 -- A cell for each post, and which asks there are then.
 use Rattle.std.proofs.Common.{◌≡◌, ◌∙◌, ◌+◌, ◌≤◌, ◌<◌, ◌⊎◌, inl, inr, ℕ, zero, suc, List, [], ◌∷◌, ◌++◌, true, false, Option, Some, None, IsSome, length, take, get_or, replicate, slice_get, slice_set, refl, sym, ap, add-zero, arith}
 use Rattle.std.specs.Prelude.{◌==◌, ◌↔◌, cond}
-use Rattle.std.proofs.lemmas.List.{length-replicate, length-set, append-nil, append_assoc, length_push, take_all, take_more}
+use Rattle.std.proofs.lemmas.List.{length-replicate, length-set, append-nil, length_push, take_all, take_more}
 use Rattle.std.proofs.lemmas.List.Sums.{sum_by-append}
 use Rattle.std.specs.Option.{IsSomeAnd, option_and_then, option_map}
 use Rattle.std.proofs.lemmas.Bool.{cases_eq}
