@@ -1,7 +1,7 @@
 -- The lines that the queues make are those of the rows' answers.
-use Rattle.std.proofs.Common.{◌≡◌, ◌∙◌, ◌+◌, ◌≤◌, ◌<◌, ◌⊎◌, inl, inr, ℕ, zero, suc, List, [], ◌∷◌, ◌++◌, append_assoc, Bool, true, false, Option, Some, None, length, length-append, map, take, drop, get_or, Result, Ok, Err, slice_get, slice_set, refl, sym, ap, subst, add-zero, add-one, arith}
+use Rattle.std.proofs.Common.{◌≡◌, ◌∙◌, ◌+◌, ◌<◌, ◌⊎◌, inl, inr, ℕ, suc, List, [], ◌∷◌, ◌++◌, append_assoc, true, false, Option, Some, None, length, map, take, drop, get_or, Result, Ok, Err, slice_get, refl, sym, ap, subst, add-zero, add-one, arith}
 use Rattle.std.specs.Prelude.{◌==◌, cond}
-use Rattle.std.specs.List.{count_by, flat_map}
+use Rattle.std.specs.List.{flat_map}
 use Rattle.std.specs.Option.{option_and_then, option_map}
 use Rattle.std.proofs.lemmas.Bool.{cases_eq}
 use Rattle.std.proofs.lemmas.Bool.Decides.{nat_tests}

@@ -1,10 +1,9 @@
 -- In a right run the arrivals of each actor have the numbers from 1 on.
-use Rattle.std.proofs.Common.{◌≡◌, ◌∙◌, ◌+◌, ℕ, List, [], ◌∷◌, ◌++◌, Bool, true, false, Option, Some, length, map, slice_get, refl, sym, ap, subst, arith}
+use Rattle.std.proofs.Common.{◌≡◌, ◌∙◌, ◌+◌, ℕ, List, [], ◌∷◌, ◌++◌, Bool, true, false, length, map, refl, sym, ap, arith}
 use Rattle.std.specs.Prelude.{◌==◌, if◌then◌else◌}
 use Rattle.std.specs.List.{AllByRecursion}
 use Rattle.std.proofs.lemmas.List.{length-map, length_push, map-append}
 use Rattle.join_base.specs.declared.message.Message.{Message}
-use Rattle.join_base.specs.declared.message.Source.{Source}
 use Rattle.join_base.proofs.EachLemmas.{each_from_get}
 use Rattle.script_types.specs.declared.plan.Plan.{Plan}
 use Rattle.fair_semantics.specs.declared.run.Limits.{Limits}

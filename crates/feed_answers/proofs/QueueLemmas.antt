@@ -1,5 +1,5 @@
 -- The answers of a feed that are left for each actor.
-use Rattle.std.proofs.Common.{◌≡◌, ◌∙◌, ◌+◌, ◌<◌, ◌≤◌, ℕ, zero, suc, List, [], ◌∷◌, ◌++◌, append_assoc, Bool, true, false, Option, Some, None, length, map, drop, get_or, slice_get, slice_set, refl, sym, ap, add-zero, arith}
+use Rattle.std.proofs.Common.{◌≡◌, ◌∙◌, ◌+◌, ◌<◌, ◌≤◌, ℕ, zero, suc, List, [], ◌∷◌, ◌++◌, append_assoc, true, false, Option, Some, None, length, map, drop, get_or, slice_get, slice_set, refl, sym, ap, add-zero, arith}
 use Rattle.std.specs.Borrow.{Bor}
 use Rattle.std.specs.Option.{option_and_then, option_copied, option_map}
 use Rattle.join_base.specs.declared.message.Value.{Value}

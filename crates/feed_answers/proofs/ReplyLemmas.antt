@@ -1,18 +1,18 @@
 -- The reply to each arrival, effect by effect.
-use Rattle.std.proofs.Common.{◌≡◌, ◌∙◌, ◌+◌, ◌-◌, ◌<◌, ◌≤◌, ℕ, zero, suc, List, [], ◌∷◌, ◌++◌, append_assoc, append-nil, Bool, true, false, Option, Some, None, length, map, drop, get_or, replicate, slice_get, slice_set, refl, sym, ap, arith}
+use Rattle.std.proofs.Common.{◌≡◌, ◌∙◌, ◌+◌, ◌<◌, ◌≤◌, ℕ, zero, suc, List, [], ◌∷◌, ◌++◌, append_assoc, append-nil, Bool, true, false, Option, Some, None, length, map, drop, get_or, replicate, slice_get, slice_set, refl, sym, ap, arith}
 use Rattle.std.specs.Borrow.{Bor}
 use Rattle.std.specs.Option.{is_some, option_copied, option_map}
 use Rattle.std.proofs.lemmas.List.{drop_more}
 use Rattle.std.proofs.lemmas.Option.{slice_get-map, slice_get_read, slice_get_within}
-use Rattle.std.specs.Prelude.{◌==◌, not, if◌then◌else◌}
-use Rattle.std.specs.List.{cons_option, filter_map, flat_map}
+use Rattle.std.specs.Prelude.{◌==◌, not}
+use Rattle.std.specs.List.{cons_option, filter_map}
 use Rattle.std.proofs.lemmas.Bool.Decides.{nat_tests}
 use Rattle.join_base.specs.declared.message.Value.{Value}
 use Rattle.fair_semantics.specs.declared.run.Effect.{Effect}
-use Rattle.fair_semantics.specs.declared.run.Effect.TheVariants.{Print, Post, Reply}
+use Rattle.fair_semantics.specs.declared.run.Effect.TheVariants.{Reply}
 use Rattle.fair_semantics.specs.declared.run.Entry.{Entry}
 use Rattle.fair_semantics.specs.Linked.{firing_effects, numbers_from}
-use Rattle.feed_answers.specs.Answers.{effects_in, reply_in, reply_to}
+use Rattle.feed_answers.specs.Answers.{effects_in, reply_to}
 use Rattle.feed_answers.specs.Queues.{or_else, replies_of, seen, with_effect, with_effects}
 
 pub or_none : (value : Option Value) → or_else value None ≡ value

@@ -1,5 +1,5 @@
 -- The answer of a row of a feed: what was replied to the arrival that it became.
-use Rattle.std.specs.Prelude.{◌≡◌, ℕ, zero, suc, ◌+◌, List, [], ◌∷◌, Option, None, Some, ◌==◌, map, length, take, slice_get, if◌then◌else◌}
+use Rattle.std.specs.Prelude.{ℕ, zero, suc, List, Option, None, Some, ◌==◌, map, take, slice_get, if◌then◌else◌}
 use Rattle.std.specs.List.{count_by, filter_map, flat_map}
 use Rattle.std.specs.Option.{option_and_then}
 use Rattle.join_base.specs.declared.message.Value.{Value}
@@ -10,7 +10,7 @@ use Rattle.fair_semantics.specs.declared.run.Effect.{Effect}
 use Rattle.fair_semantics.specs.declared.run.Effect.TheVariants.{Print, Post, Reply}
 use Rattle.fair_semantics.specs.declared.run.Entry.{Entry}
 use Rattle.fair_semantics.specs.declared.run.ActorRun.{ActorRun}
-use Rattle.fair_semantics.specs.Linked.{firing_effects, numbers_from, same_source}
+use Rattle.fair_semantics.specs.Linked.{firing_effects, same_source}
 
 -- the item at a place that is counted from 1
 abbrev pub from_one : {A : Type 0} → List A → ℕ → Option A

@@ -1,6 +1,5 @@
 -- What private functions make: the reply to each arrival, and for each actor the answers of a feed that come next.
 use Rattle.std.specs.Prelude.{◌≡◌, ℕ, ◌+◌, List, [], ◌∷◌, ◌++◌, Option, None, Some, drop, length, map, slice_get, slice_set}
-use Rattle.std.specs.List.{filter_map}
 use Rattle.std.specs.Option.{option_copied, option_and_then}
 use Rattle.std.specs.Borrow.{Bor}
 use Rattle.join_base.specs.declared.message.Value.{Value}

@@ -1,4 +1,4 @@
-use Rattle.std.proofs.Common.{◌≡◌, ◌∙◌, ◌<◌, ◌++◌, ◌∷◌, [], length, get_or, sym, ap}
+use Rattle.std.proofs.Common.{◌≡◌, ◌∙◌, ◌<◌, length, get_or, sym, ap}
 use Rattle.feed_answers.specs.Queues.{seen}
 use Rattle.feed_answers.proofs.QueueLemmas.{answer_more, answer_passed, as_many, seen_more}
 use Rattle.feed_answers.proofs.queues.answers_in.Goals as goal

@@ -1,4 +1,4 @@
-use Rattle.std.proofs.Common.{◌≡◌, ◌∙◌, drop, slice_set, sym, ap}
+use Rattle.std.proofs.Common.{◌∙◌, drop, slice_set, sym, ap}
 use Rattle.feed_answers.specs.Queues.{front}
 use Rattle.feed_answers.proofs.QueueLemmas.{front_there, taken_there, front_past, taken_past}
 use Rattle.feed_answers.proofs.queues.next_answer.Goals as goal

@@ -1,4 +1,4 @@
-use Rattle.std.proofs.Common.{◌≡◌, ◌∙◌, ap}
+use Rattle.std.proofs.Common.{◌∙◌, ap}
 use Rattle.feed_answers.specs.Queues.{replies_of, seen}
 use Rattle.feed_answers.proofs.QueueLemmas.{twins_at}
 use Rattle.feed_answers.proofs.queues.queues_of.Goals as goal

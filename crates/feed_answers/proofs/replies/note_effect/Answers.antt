@@ -1,4 +1,4 @@
-use Rattle.std.proofs.Common.{◌≡◌, refl, sym}
+use Rattle.std.proofs.Common.{refl, sym}
 use Rattle.feed_answers.specs.Queues.{seen}
 use Rattle.feed_answers.proofs.ReplyLemmas.{replies_nothing}
 use Rattle.feed_answers.proofs.replies.note_effect.Goals as goal

@@ -1,8 +1,8 @@
-use Rattle.std.proofs.Common.{◌≡◌, ◌∙◌, ◌-◌, ◌+◌, Some, None, slice_get, sym, ap, arith}
+use Rattle.std.proofs.Common.{◌≡◌, ◌∙◌, ◌-◌, Some, None, sym, arith}
 use Rattle.std.proofs.lemmas.List.{length-map, map-set}
 use Rattle.std.specs.Option.{option_copied}
 use Rattle.feed_answers.specs.Queues.{seen}
-use Rattle.feed_answers.proofs.ReplyLemmas.{seen_at, none_missing, past_end, missing_by, there_by, replied_now}
+use Rattle.feed_answers.proofs.ReplyLemmas.{none_missing, past_end, missing_by, there_by, replied_now}
 use Rattle.feed_answers.proofs.replies.note_reply.Goals as goal
 use Rattle.feed_answers.proofs.replies.note_reply.Goals.{else-place-replies-via-then-place-replies+else-is_none, else-place-replies-via-else-place-replies}
 

@@ -1,4 +1,4 @@
-use Rattle.std.proofs.Common.{◌≡◌, ◌∙◌, [], drop, length, replicate, None, refl, sym, ap}
+use Rattle.std.proofs.Common.{◌≡◌, ◌∙◌, [], drop, length, replicate, None, refl, ap}
 use Rattle.std.proofs.lemmas.List.{drop_all, with_items_is}
 use Rattle.fair_semantics.specs.Linked.{firing_effects}
 use Rattle.feed_answers.specs.Answers.{effects_in}

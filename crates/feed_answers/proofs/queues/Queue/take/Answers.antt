@@ -1,4 +1,3 @@
-use Rattle.std.proofs.Common.{◌≡◌}
 use Rattle.feed_answers.proofs.QueueLemmas.{taken_first, taken_rest}
 use Rattle.feed_answers.proofs.queues.Queue.take.Goals as goal
 
