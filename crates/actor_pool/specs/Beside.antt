@@ -41,7 +41,7 @@ module _ {B : Type 0} (fits : Fitting B) where
   abbrev pub KeepsOthers : B → B → ℕ → Type 0
   KeepsOthers old now actor = (other : ℕ) → other ≢ actor → (setting : Setting) (history : History) → fits old other setting history ↔ fits now other setting history
 
--- what a turn did to the number of tells: the actor was shown once, but for Busy
+-- what a turn did to the number of tells: the actor was shown at least once, but for Busy
 abbrev pub Shows : Result Turned TurnFault → ℕ → ℕ → Type 0
 Shows (Ok turned) before now = Rose before now
 Shows (Err (Busy word)) before now = now ≡ before

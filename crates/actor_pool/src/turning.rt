@@ -91,9 +91,9 @@ fn serve_and_show<R, B: Beside<R>, L: Ledger>(
 /// and gives the turn back.
 ///
 /// What is kept of each actor fits what the helper has seen of it, before and after. At `Ok` and at `NoMemory` the
-/// actor was shown once, and at `Busy` nothing was shown. At `NoMemory` a message was refused, as at that of `turn`, or
-/// what stands beside found no memory: then all messages that the turn took have arrived. It waits only where `seen`
-/// does.
+/// actor was shown at least once, and at `Busy` nothing was shown. At `NoMemory` a message was refused, as at that of
+/// `turn`, or what stands beside found no memory: then all messages that the turn took have arrived. It waits only
+/// where `seen` does.
 pub fn turn_beside<R, B: Beside<R>, L: Ledger>(
     rt: &R,
     alloc: Global,

@@ -4,9 +4,9 @@
 //! number of threads may ask the board meanwhile. The answerers are joined when all threads have ended. The joined one
 //! reads the run then, for what was replied when no thread was left.
 //!
-//! What it knows of an ask on its list is the answer of that ask in the run (`KnowsAnswers`). So whoever read that ask
-//! on the board read that answer. Each ask of the board that has an answer in the run is on the list, or somebody gave
-//! it another value (`AnswersAll`).
+//! What it knows of an ask on its list, of an actor of the run, is the answer of that ask in the run (`KnowsAnswers`).
+//! So whoever read that ask on the board read that answer. Each ask of the board that has an answer in the run is on
+//! the list, or somebody gave it another value (`AnswersAll`).
 //!
 //! `print_told` appends the answers of the rows, and reads them on the board.
 //!

@@ -80,8 +80,9 @@ fn queues(alloc: Global, count: u32) -> Result<Vec<PoolQueue>, NoMemory>
 /// answered: in each turn of an actor its replies to arrivals from feeds are put there. What is replied after the last
 /// turn is put there at the end.
 ///
-/// The answerer knows the answers in the run of all asks on its list. Each ask of the board that has an answer in the
-/// run is on the list, or somebody gave it another value. `NoMemory` comes too where an answerer wanted memory.
+/// The answerer knows the answers in the run of all asks on its list that are of actors of the run. Each ask of the
+/// board that has an answer in the run is on the list, or somebody gave it another value. `NoMemory` comes too where an
+/// answerer wanted memory.
 pub fn run_asking<'a, R: Threads + Wait + Sync, G: Gate>(
     rt: &R,
     alloc: Global,

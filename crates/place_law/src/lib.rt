@@ -1,6 +1,7 @@
 //! The places of a script's tokens do not matter to its plan.
 //!
-//! - `places_law` is a law on a function without a body: a script whose tokens stand at other places has the same plan.
+//! - `places_law` is a law on a function without a body: where a script has a plan, one whose tokens stand at other
+//!   places has the same plan.
 //!
 //! There is no code here, and no test.
 #![tactic(auto)]

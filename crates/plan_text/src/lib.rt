@@ -7,7 +7,7 @@
 //!   variables of a pattern. Without memory some of the text may stay appended.
 //!
 //! A contract sees the text as a function of the plan (`plan_text`, specs/PlanText), with an empty name where a number
-//! names nothing. Its parts are `condition_text` (specs/GuardText), `pattern_text` and `variable_name`
+//! names nothing. Its parts are `pattern_text`, `condition_text` (specs/GuardText) and `variable_name`
 //! (specs/PlanNames). Of the plan a definition's text takes the names alone (proofs/HeadLemmas).
 //! That the text reads back as the plan is a law of `plan_law`.
 #![tactic(auto)]

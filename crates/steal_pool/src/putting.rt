@@ -11,7 +11,7 @@ use crossbeam_deque::protocol::Protocol;
 use join_base::NoMemory;
 
 impl<P: Protocol<u32, DequeView>> StealPass<P> {
-    /// Puts a ticket at the back of the own deque. At `NoMemory` the deque is as it was. It does not wait.
+    /// Puts a ticket at the back of the own deque. At `NoMemory` nothing was put. It does not wait.
     ///
     /// The caller shows that the rule is kept (`MayPut`). Of `InOrder`, `may_put_own` of `proofs/RuleLemmas` shows it.
     pub fn put(&mut self, actor: u32) -> Result<(), NoMemory>

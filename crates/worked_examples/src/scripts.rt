@@ -268,7 +268,7 @@ fn tell_scripts<R: Print + Threads + Wait + Sync>(
     counted(rt, heading, scripts.len(), all)
 }
 
-// All commands that have a script.
+// Commands that read a script. `ask` and `watch` read it as `run` does.
 const COMMANDS: &[&[&str]] = &[CHECK, LINT, REPLAY, RUN];
 
 fn tell_refused<R: Print + Threads + Wait + Sync>(
