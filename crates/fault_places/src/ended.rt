@@ -89,13 +89,13 @@ fn push_limit<'a>(
     )
 }
 
-// What is told behind the number of later messages.
+// What is told behind a number, of one and of many.
+fn behind_number(number: u64, one: &'static [u8], many: &'static [u8]) -> &'static [u8] {
+    if number == 1 { one } else { many }
+}
+
 fn later_messages(count: u64) -> &'static [u8] {
-    if count == 1 {
-        b" later message\n"
-    } else {
-        b" later messages\n"
-    }
+    behind_number(count, b" later message\n", b" later messages\n")
 }
 
 // Appends how many messages it did not look at.
@@ -232,21 +232,19 @@ impl EndWatch {
 
     fn push_jammed(&mut self, section: &[u8]) -> Result<(), NoMemory> {
         self.has_jammed = true;
-        self.push_told(
-            section,
-            b": it would keep more than ",
-            self.partials,
+        let most = self.partials;
+        let back = behind_number(
+            most,
+            b" partial match (--partials)",
             b" partial matches (--partials)",
-        )
+        );
+        self.push_told(section, b": it would keep more than ", most, back)
     }
 
     fn push_spent(&mut self, section: &[u8]) -> Result<(), NoMemory> {
-        self.push_told(
-            section,
-            b": it records at most ",
-            self.arrivals,
-            b" messages (--arrivals)",
-        )
+        let most = self.arrivals;
+        let back = behind_number(most, b" message (--arrivals)", b" messages (--arrivals)");
+        self.push_told(section, b": it records at most ", most, back)
     }
 
     // The first section has the head of the log in front, with the limits.

@@ -48,13 +48,12 @@ pub fn push_tie(
     tie: Tie<'_>,
 ) -> Result<(), NoMemory> {
     let told = [
-        Part::Text(b"while no "),
-        Part::Shown(tie.link_kind),
-        Part::Text(b" waits, every "),
         Part::Shown(tie.left_kind),
-        Part::Text(b" is kept with every "),
+        Part::Text(b" and "),
         Part::Shown(tie.right_kind),
-        Part::Text(b": add "),
+        Part::Text(b" are tied only through "),
+        Part::Shown(tie.link_kind),
+        Part::Text(b", so pairs of them are kept: add "),
         Part::Shown(tie.left),
         Part::Text(b" == "),
         Part::Shown(tie.right),

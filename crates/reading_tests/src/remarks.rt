@@ -36,6 +36,22 @@ const ENDED: &[u8] =
 joinactors: actor o ended behind arrival 3: it records at most 3 messages (--arrivals), and did not look at 1 later message
 ";
 
+// A log with limits of one.
+const ENDED_AT_ONE_LOG: &[u8] = b"joinlog 2 arrivals 1 partials 1 feeds 1
+actor m
+1 at 1 from feed 1 a(1)
+end jammed left - partials 1
+actor n
+1 at 2 from feed 1 a(1)
+late feed 1 1
+end spent left - partials 1
+";
+
+const ENDED_AT_ONE: &[u8] =
+    b"joinactors: actor m ended behind arrival 1: it would keep more than 1 partial match (--partials), and did not look at 0 later messages
+joinactors: actor n ended behind arrival 1: it records at most 1 message (--arrivals), and did not look at 1 later message
+";
+
 // What is told of the summary of a load, which names no actor that ended.
 const SUMMARY: &[u8] = b"load 3 feeds 4
 actor m arrivals 3
@@ -62,13 +78,22 @@ fn is_run_told(alloc: Global) -> bool {
     is_told_in_pieces(alloc, ENDED_LOG, ENDED)
 }
 
+fn is_end_at_one_told(alloc: Global) -> bool {
+    is_note(
+        ended_note(alloc, ENDED_AT_ONE_LOG, ENDED_AT_ONE_LOG.len()),
+        ENDED_AT_ONE,
+    )
+}
+
 fn is_summary_told(alloc: Global) -> bool {
     is_told_in_pieces(alloc, SUMMARY, LIMITS)
 }
 
 #[test]
 fn actors_that_ended_are_told(rt: HostRuntime) {
-    assert!(rt; is_run_told(rt.alloc()) && is_summary_told(rt.alloc()));
+    assert!(rt;
+        is_run_told(rt.alloc()) && is_end_at_one_told(rt.alloc()) && is_summary_told(rt.alloc())
+    );
 }
 
 // Feeds, and what is remarked of each.
@@ -142,7 +167,7 @@ fn tie_remark(alloc: Global) -> Result<Bytes, NoMemory> {
 fn is_tie_remarked(alloc: Global) -> bool {
     is_note(
         tie_remark(alloc),
-        b"hall.join:7:3: note: while no order waits, every paid is kept with every confirm: add p == x\n",
+        b"hall.join:7:3: note: paid and confirm are tied only through order, so pairs of them are kept: add p == x\n",
     )
 }
 

@@ -385,7 +385,7 @@ const SIGNS_AND_TEXTS: &[Mistake] = &[
     (
         b"message a(x: int)\nactor m {\n  when a(x) { print \"C:\\data\"; }\n}\n",
         b"refused script 48 BadToken\n",
-        b"home:3:21: BadToken: behind \\ this text has none of \" \\ n r t, and no x with two digits\n",
+        b"home:3:21: BadToken: behind \\ this text has none of \" \\ n r t, and no x with two digits of 0-9 a-f\n",
     ),
     (
         b"message a(x: int)\nactor m {\n  when a(x) { print \"a\tb\"; }\n}\n",
@@ -395,7 +395,7 @@ const SIGNS_AND_TEXTS: &[Mistake] = &[
     (
         b"message a(x: int)\nactor m {\n  when a(x) { print \"\\x41\"; }\n}\n",
         b"refused script 48 BadToken\n",
-        b"home:3:21: BadToken: this text has an escape where the byte itself is to stand\n",
+        b"home:3:21: BadToken: this text has \\x for a byte that is written as itself or as one of \\t \\n \\r \\\" \\\\\n",
     ),
     (
         b"message a(x: int)\nactor m {\n  when a(x) { print \"ttttttttttttttttttttttttttttttttttttttttttttttttttttttttttttttttttttttttttttttttttttttttttttttttttttttttttttttttttttttttt\"; }\n}\n",

@@ -39,7 +39,7 @@ fn byte_sentence(state: State, b: u8) -> &'static [u8] {
         (State::Plain, _) => {
             b"this text has a byte that is written \\t (a tab) or \\x and two digits"
         }
-        _ => b"behind \\ this text has none of \" \\ n r t, and no x with two digits",
+        _ => b"behind \\ this text has none of \" \\ n r t, and no x with two digits of 0-9 a-f",
     }
 }
 
@@ -48,7 +48,7 @@ fn whole_sentence(count: usize) -> &'static [u8] {
     if count > MAX_TEXT {
         b"a text has at most 120 bytes"
     } else {
-        b"this text has an escape where the byte itself is to stand"
+        b"this text has \\x for a byte that is written as itself or as one of \\t \\n \\r \\\" \\\\"
     }
 }
 
