@@ -55,13 +55,25 @@ fn are_refused(alloc: Global, plan: &Plan, rows: &[(&[u8], u64, FeedCause)]) -> 
     true
 }
 
+// Whether a feed is read, and has so many posts.
+fn is_accepted(alloc: Global, plan: &Plan, feed: &[u8], count: usize) -> bool
+    requires { IsTyped plan.now }
+{
+    let Ok(feed) = read_feed(alloc, plan, feed) else {
+        return false;
+    };
+    match feed.unpacked(alloc) {
+        Ok(posts) => posts.as_slice().len() == count,
+        Err(_) => false,
+    }
+}
+
 fn are_accepted(alloc: Global, plan: &Plan, rows: &[(&[u8], usize)]) -> bool
     requires { IsTyped plan.now }
 {
     for (feed, count) in rows {
-        match read_feed(alloc, plan, feed) {
-            Ok(posts) if posts.len() == *count => {}
-            _ => return false,
+        if !is_accepted(alloc, plan, feed, *count) {
+            return false;
         }
     }
     true
