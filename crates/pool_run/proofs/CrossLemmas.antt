@@ -49,6 +49,7 @@ use Rattle.row_screens.specs.contracts.ties.Ties as Ties
 use Rattle.match_tree.specs.contracts.tree.MatchTree as MatchTree
 use Rattle.mailbox_core.specs.contracts.mailbox.Mailbox as Mailbox
 use Rattle.feed_store.specs.contracts.feed.Feed as Feed
+use Rattle.feed_store.specs.contracts.packed.Packed as Packed
 use Rattle.value_index.specs.contracts.valued.Valued as Valued
 use Rattle.value_index.specs.contracts.column.Column as Column
 use Rattle.value_index.specs.contracts.index.ValueIndex as ValueIndex
@@ -267,7 +268,7 @@ value-send : IsSend Value.the_row
 value-send = search (sendable, crosses) depth 40 fits 100000
 
 effect-send : IsSend Effect.the_row
-effect-send = search (sendable, crosses, message-send, value-send) depth 40 fits 100000
+effect-send = search (sendable, crosses, value-send) depth 40 fits 100000
 
 firing-send : IsSend Firing.the_row
 firing-send = search (sendable, crosses, effect-send) depth 40 fits 100000
@@ -317,8 +318,11 @@ pool-sync = declared_sync Pool.the_type (search (sendable, crosses, shared-sync,
 
 -- ---- what threads are given and give back, where what stands beside and the sources may be sent
 
+packed-send : IsSend Packed.the_row
+packed-send = search (sendable, crosses) depth 40 fits 100000
+
 feed-send : IsSend Feed.the_row
-feed-send = search (sendable, crosses) depth 40 fits 100000
+feed-send = search (sendable, crosses, message-send, packed-send) depth 40 fits 100000
 
 part-send : (B : RattleType) → IsSend B → IsSend (FeedPart.the_row B)
 part-send B s = declared_send (FeedPart.the_type B) (search (sendable, crosses, poster-send) depth 40, (search (sendable, crosses, helper-send) depth 40, (search (sendable, crosses, feed-send) depth 40, (search (sendable, crosses) depth 40, tt))))
